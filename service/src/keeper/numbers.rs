@@ -54,16 +54,15 @@ impl Numbers {
     }
 
     /// A post that has them, to be read for the book.
-    pub fn unread(&self, post: Post) -> Result<Read, Refused> {
-        let Post { sender, foreign, body } = post;
-        match body {
-            Body::Text(body) => Ok(self.core.unread(sender, body)),
-            Body::Points(points) => {
-                // It has no points but those that the book took.
-                let names = self.own.names()?.clone();
-                Ok(self.core.unread_points(sender, points, names, foreign))
+    pub fn unread(&self, mut post: Post) -> Result<Read, Refused> {
+        let names = match &post.body {
+            Body::Text(_) => {
+                post.foreign = 0; // it has them
+                None
             }
-        }
+            Body::Points(_) => Some(self.own.names()?.clone()), // it has none but those that the book took
+        };
+        Ok(self.core.unread(post, names))
     }
 
     fn own_of(&mut self, number: u64) -> Result<u64, Refused> {
