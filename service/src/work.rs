@@ -51,8 +51,13 @@ impl Readers {
     }
 
     pub async fn read_long<T: Send + 'static>(&self, read: impl FnOnce() -> T + Send + 'static) -> T {
-        let _turn = self.0.acquire().await; // it is never closed
+        let _turn = self.turn().await;
         blocking(read).await
+    }
+
+    /// For who reads by himself.
+    pub async fn turn(&self) -> impl Sized + '_ {
+        self.0.acquire().await // it is never closed
     }
 }
 
