@@ -5,7 +5,7 @@
 
 mod in_order;
 
-pub use in_order::{in_order, WorkQueue};
+pub use in_order::{in_order, made_in_order, WorkQueue};
 
 use std::future::{poll_fn, Future};
 use std::pin::pin;
