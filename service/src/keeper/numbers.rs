@@ -30,8 +30,8 @@ pub(super) enum Number {
 }
 
 impl Numbers {
-    pub fn new(core: Arc<Core>) -> Numbers {
-        Numbers { core, own: Arc::default(), of_file: ByNumber::default() }
+    pub fn new(core: Arc<Core>, own: Arc<Own>) -> Numbers {
+        Numbers { core, own, of_file: ByNumber::default() }
     }
 
     pub fn own(&self) -> Arc<Own> {

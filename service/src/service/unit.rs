@@ -4,7 +4,7 @@
 use super::{Ended, Settings};
 use crate::core::Core;
 use crate::files::{Dead, Fault, Journal, Outbox};
-use crate::keeper::{Keeper, Orders, Trouble};
+use crate::keeper::{Keeper, Orders, Priming, Trouble};
 use crate::operate::{self, Undelivered};
 use crate::sinks::{self, Delivery, Sink};
 use crate::slot::{Shared, Slot};
@@ -76,7 +76,6 @@ impl Opened {
             Some(_) => settings.reading.of_slot(),
             None => settings.reading.clone(),
         });
-        reading.finer_units.know(&files.outbox, &files.journal)?;
         let room = room(settings.most_series, slots, files.outbox.series_count());
         let core = Core::apart(room, settings.across).with_context(|| {
             format!(
@@ -85,10 +84,13 @@ impl Opened {
             )
         })?;
         let Files { number, journal, outbox, dead, former } = files;
+        // Beside what comes next.
+        let priming = Priming::begin(&core, &outbox, journal.size().1.is_some());
+        reading.finer_units.know(&outbox, &journal)?;
         let slot = Slot::reading_by(Some(reading), number, journal, outbox, core, shared);
         slot.runs.set(settings.runs);
         let (keeper, orders) = Keeper::new(slot.clone(), settings.keeping());
-        Ok(Opened { slot, keeper, orders, dead, former })
+        Ok(Opened { slot, keeper: keeper.behind(priming), orders, dead, former })
     }
 
     pub fn start(self, sink: &Arc<dyn Sink>) -> Unit {

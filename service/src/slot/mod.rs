@@ -243,6 +243,11 @@ impl Slot {
         self.landed.notify_waiters();
     }
 
+    /// Whether the journal has any.
+    pub(crate) fn has_posts(&self) -> bool {
+        self.journal.size().1.is_some()
+    }
+
     fn count_post(&self) {
         self.ungrouped.fetch_add(1, Ordering::Relaxed);
     }
