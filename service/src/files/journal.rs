@@ -38,7 +38,7 @@ pub use by_number::ByNumber;
 pub use held::Held;
 pub use name_records::shared_ends;
 use named_numbers::NamedNumbers;
-pub(super) use open::Left;
+pub use open::Left;
 pub use post::{Body, Names, NoNames, OfRun, Points, Post, Replayed};
 use std::collections::{BTreeMap, BTreeSet};
 use std::path::{Path, PathBuf};

@@ -23,7 +23,7 @@ pub use drive::{Drive, Lost};
 pub use folder::{Folder, FolderFault, KnownSink, Mark, Way, MOST_SLOTS};
 pub(crate) use free_space::FreeSpace;
 pub use journal::{
-    shared_ends, Body, ByNumber, Held, Journal, Names, NoNames, OfRun, Points, Post, Replayed, Ticket,
+    shared_ends, Body, ByNumber, Held, Journal, Left, Names, NoNames, OfRun, Points, Post, Replayed, Ticket,
 };
 pub use outbox::{Beginning, Outbox, Owned, Runs, Series, UnitOfMetric, Waits};
 pub use segment::Dropped;

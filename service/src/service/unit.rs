@@ -69,23 +69,40 @@ fn room(most_series: usize, slots: u16, known: usize) -> usize {
     share.max(2 * known).min(most_series)
 }
 
-impl Opened {
-    /// One of so many slots.
-    pub fn new(files: Files, slots: u16, settings: &Settings, shared: &Shared) -> Result<Opened, Ended> {
-        let reading = Arc::new(match settings.store {
-            Some(_) => settings.reading.of_slot(),
-            None => settings.reading.clone(),
-        });
-        let room = room(settings.most_series, slots, files.outbox.series_count());
+/// A slot's book, which is being primed beside all else that opens the slot.
+pub(super) struct Begun {
+    core: Arc<Core>,
+    priming: Option<Priming>,
+}
+
+impl Begun {
+    /// Of one of so many slots.
+    pub fn of(
+        outbox: &Arc<Outbox>,
+        has_posts: bool,
+        slots: u16,
+        settings: &Settings,
+    ) -> Result<Begun, Ended> {
+        let room = room(settings.most_series, slots, outbox.series_count());
         let core = Core::apart(room, settings.across).with_context(|| {
             format!(
                 "a book for --most-series {} can't be made: give a greater --book-memory, or a smaller --most-series",
                 settings.most_series
             )
         })?;
+        let priming = Priming::begin(&core, outbox, has_posts);
+        Ok(Begun { core, priming })
+    }
+}
+
+impl Opened {
+    pub fn new(files: Files, book: Begun, settings: &Settings, shared: &Shared) -> Result<Opened, Ended> {
         let Files { number, journal, outbox, dead, former } = files;
-        // Beside what comes next.
-        let priming = Priming::begin(&core, &outbox, journal.size().1.is_some());
+        let Begun { core, priming } = book;
+        let reading = Arc::new(match settings.store {
+            Some(_) => settings.reading.of_slot(),
+            None => settings.reading.clone(),
+        });
         reading.finer_units.know(&outbox, &journal)?;
         let slot = Slot::reading_by(Some(reading), number, journal, outbox, core, shared);
         slot.runs.set(settings.runs);
