@@ -5,7 +5,7 @@
 
 mod in_order;
 
-pub use in_order::{in_order, WorkQueue};
+pub use in_order::{in_order, made_in_order, WorkQueue};
 
 use std::future::{poll_fn, Future};
 use std::pin::pin;
@@ -63,8 +63,13 @@ impl Readers {
     }
 
     pub async fn read_long<T: Send + 'static>(&self, read: impl FnOnce() -> T + Send + 'static) -> T {
-        let _turn = self.0.acquire().await; // it is never closed
+        let _turn = self.turn().await;
         blocking(read).await
+    }
+
+    /// For who reads by himself.
+    pub async fn turn(&self) -> impl Sized + '_ {
+        self.0.acquire().await // it is never closed
     }
 }
 

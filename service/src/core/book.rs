@@ -22,23 +22,34 @@ pub(super) const MOST_TAKEN: usize = 1000;
 type ReadCall =
     unsafe extern "C" fn(*mut Handle, *const u8, usize, *const u8, usize, usize, u64, u64, *mut Answer);
 
-/// Reads posts: it has the one that was read last, split into a part for each book.
-pub(super) struct Reader(Handle);
-/// Series that have numbers, from 0 on.
-pub(super) struct Names(Handle);
-/// Books, each with the series that belong to it.
-pub(super) struct Desk(Handle);
-/// What was taken of all books, and the text that was written last.
-pub(super) struct Flushes(Handle);
+/// Handles that are live as long as they are here, each with the call that frees it.
+macro_rules! handles {
+    ($($(#[doc = $about:literal])* $name:ident: $free:ident;)*) => {$(
+        $(#[doc = $about])*
+        pub(super) struct $name(Handle);
 
-// SAFETY: the library was proved to be usable from any thread (`may_cross`), by one call at a time: each takes `&mut self`.
-unsafe impl Send for Reader {}
-// SAFETY: as above.
-unsafe impl Send for Names {}
-// SAFETY: as above.
-unsafe impl Send for Desk {}
-// SAFETY: as above.
-unsafe impl Send for Flushes {}
+        // SAFETY: the library was proved to be usable from any thread (`may_cross`), by one call at a time: each takes `&mut self`.
+        unsafe impl Send for $name {}
+
+        impl Drop for $name {
+            fn drop(&mut self) {
+                // SAFETY: the handle is live, and nobody has it after this.
+                unsafe { $free(&mut self.0) };
+            }
+        }
+    )*};
+}
+
+handles! {
+    /// Reads posts: it has the one that was read last, split into a part for each book.
+    Reader: reader_free;
+    /// Series that have numbers, from 0 on.
+    Names: names_free;
+    /// Books, each with the series that belong to it.
+    Desk: desk_free;
+    /// What was taken of all books, and the text that was written last.
+    Flushes: flushes_free;
+}
 
 /// The handle that a call has made, or none where there is no memory.
 fn made(call: impl FnOnce(&mut Handle) -> bool) -> Option<Handle> {
@@ -98,13 +109,6 @@ impl Reader {
     }
 }
 
-impl Drop for Reader {
-    fn drop(&mut self) {
-        // SAFETY: the handle is live, and nobody has it after this.
-        unsafe { reader_free(&mut self.0) };
-    }
-}
-
 impl Names {
     /// None where there is no memory.
     pub fn new() -> Option<Names> {
@@ -119,13 +123,6 @@ impl Names {
             unsafe { names_text(&mut self.0, number, text.as_mut_ptr(), text.len(), answer) }
         };
         written(text, call)
-    }
-}
-
-impl Drop for Names {
-    fn drop(&mut self) {
-        // SAFETY: the handle is live, and nobody has it after this.
-        unsafe { names_free(&mut self.0) };
     }
 }
 
@@ -215,13 +212,6 @@ impl Desk {
     }
 }
 
-impl Drop for Desk {
-    fn drop(&mut self) {
-        // SAFETY: the handle is live, and nobody has it after this.
-        unsafe { desk_free(&mut self.0) };
-    }
-}
-
 impl Flushes {
     /// None where there is no memory.
     pub fn new() -> Option<Flushes> {
@@ -241,13 +231,6 @@ impl Flushes {
     pub fn copy(&mut self, out: &mut [u8]) -> bool {
         // SAFETY: the handle is live and lent for this call alone, and so is all that is written to.
         unsafe { flushes_copy(&mut self.0, out.as_mut_ptr(), out.len()) }
-    }
-}
-
-impl Drop for Flushes {
-    fn drop(&mut self) {
-        // SAFETY: the handle is live, and nobody has it after this.
-        unsafe { flushes_free(&mut self.0) };
     }
 }
 

@@ -32,7 +32,7 @@ pub use readers::{free_idle_readers, free_spare_readers};
 pub use refusal::Refused;
 pub use stretch::Across;
 
-use crate::files::{Body, Points};
+use crate::files::{Body, Points, Post};
 use book::{Answer, Desk, Flushes, MOST_TAKEN};
 use bytes::Bytes;
 use earlier::Earlier;
@@ -111,9 +111,7 @@ impl Core {
 
     /// Reads a post. JSON may nest to 127: the thread has 2 MiB of stack, as those of the runtimes have.
     pub fn read(&self, sender: String, body: Bytes) -> Result<Read, Refused> {
-        let mut read = self.unread(sender, body);
-        read.be_read()?;
-        Ok(read)
+        self.unread(Post { sender, foreign: 0, body: Body::Text(body) }, None).read()
     }
 
     /// The same of points that have numbers by these names. So many others are outside the profile.
@@ -124,19 +122,12 @@ impl Core {
         names: Arc<Names>,
         left_out: u64,
     ) -> Result<Read, Refused> {
-        let mut read = self.unread_points(sender, points, names, left_out);
-        read.be_read()?;
-        Ok(read)
+        self.unread(Post { sender, foreign: left_out, body: Body::Points(points) }, Some(names)).read()
     }
 
-    /// A post that is to be read, by whatever thread.
-    pub fn unread(&self, sender: String, body: Bytes) -> Read {
-        Read::unread(self, sender, Body::Text(body), None, 0)
-    }
-
-    /// The same of points.
-    pub fn unread_points(&self, sender: String, points: Points, names: Arc<Names>, left_out: u64) -> Read {
-        Read::unread(self, sender, Body::Points(points), Some(names), left_out)
+    /// A post that is to be read, by whatever thread. What it says of foreign points is of those that it does not have.
+    pub fn unread(&self, post: Post, names: Option<Arc<Names>>) -> Read {
+        Read::unread(self.books, self.across, post, names)
     }
 
     /// The stretch of time in which all of these points count; none where they are of several.

@@ -35,38 +35,21 @@ pub struct Read {
 }
 
 impl Read {
-    pub(super) fn unread(
-        core: &Core,
-        sender: String,
-        body: Body,
-        names: Option<Arc<Names>>,
-        left_out: u64,
-    ) -> Read {
-        let source = match &body {
+    pub(super) fn unread(books: usize, across: Across, post: Post, names: Option<Arc<Names>>) -> Read {
+        let source = match &post.body {
             Body::Text(text) => Some(Source::Json(text.clone())),
             Body::Points(_) => None,
         };
-        let post = Post { sender, foreign: left_out, body };
-        Read {
-            reader: None,
-            source,
-            books: core.books,
-            across: core.across,
-            post,
-            names,
-            points: 0,
-            left_out,
-            ends: None,
-            stretches: Vec::new(),
-        }
+        let (left_out, ends, stretches) = (post.foreign, None, Vec::new());
+        Read { reader: None, source, books, across, post, names, points: 0, left_out, ends, stretches }
     }
 
     /// A post in protobuf as it came. Its points have no numbers.
     pub fn of_body(core: &Core, sender: String, body: Bytes) -> Result<Read, Refused> {
-        let mut read = Read::unread(core, sender, Body::Points(Points::default()), None, 0);
+        let post = Post { sender, foreign: 0, body: Body::Points(Points::default()) };
+        let mut read = core.unread(post, None);
         read.source = Some(Source::Protobuf(body));
-        read.be_read()?;
-        Ok(read)
+        read.read()
     }
 
     /// The same where its points have numbers by these names; `has_room` as of `number`. None where one
@@ -88,9 +71,12 @@ impl Read {
 
     /// Another one by the same names, which is to be read.
     pub fn beside(&self, post: Post) -> Read {
-        let (books, across, names, left_out) = (self.books, self.across, self.names.clone(), post.foreign);
-        let (source, ends, stretches) = (None, None, Vec::new());
-        Read { reader: None, source, books, across, post, names, points: 0, left_out, ends, stretches }
+        Read::unread(self.books, self.across, post, self.names.clone())
+    }
+
+    pub fn read(mut self) -> Result<Read, Refused> {
+        self.be_read()?;
+        Ok(self)
     }
 
     /// Reads it, or reads it again behind a book that was asked to take it.

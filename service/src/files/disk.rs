@@ -12,12 +12,10 @@ mod under_way;
 use super::drive::{is_lost, Drive, Lost};
 use super::Fault;
 pub use file::{Cursor, File};
-use nix::errno::Errno;
 use nix::fcntl::{fallocate, FallocateFlags, OFlag};
-use nix::sys::uio::pwritev;
 use owned::{Aboard, Owned};
 use std::fs::{DirBuilder, OpenOptions};
-use std::io::{self, IoSlice};
+use std::io;
 use std::os::fd::AsRawFd;
 use std::os::unix::fs::{fchown, DirBuilderExt, FileExt, MetadataExt, OpenOptionsExt};
 use std::path::Path;
@@ -243,18 +241,11 @@ impl Disk {
         self.create(path)
     }
 
-    /// Writes parts one behind the other, as a rule by one call.
-    pub fn write_at<const N: usize>(
-        &self,
-        file: &File,
-        path: &Path,
-        parts: &[&[u8]; N],
-        at: u64,
-    ) -> Result<(), Fault> {
-        self.call(Call::Write, path, || match (file, &parts[..]) {
-            (File::OfFolder(file), [bytes]) => file.write_all_at(bytes, at),
-            (File::OfFolder(file), _) => write_parts_at(file, parts, at),
-            (File::OfDrive(owned, number), parts) => owned.change(|drive| drive.write_at(*number, parts, at)),
+    /// Writes bytes, as a rule by one call.
+    pub fn write_at(&self, file: &File, path: &Path, bytes: &[u8], at: u64) -> Result<(), Fault> {
+        self.call(Call::Write, path, || match file {
+            File::OfFolder(file) => file.write_all_at(bytes, at),
+            File::OfDrive(owned, number) => owned.change(|drive| drive.write_at(*number, bytes, at)),
         })
     }
 
@@ -329,7 +320,7 @@ impl Disk {
     pub fn put_file(&self, path: &Path, bytes: &[u8]) -> Result<(), Fault> {
         let draft = path.with_extension("draft");
         let file = self.create_anew(&draft)?;
-        self.write_at(&file, &draft, &[bytes], 0)?;
+        self.write_at(&file, &draft, bytes, 0)?;
         self.order(&file, &draft)?;
         self.rename(&draft, path)?;
         path.parent().map_or(Ok(()), |folder| self.sync_folder(folder))
@@ -343,17 +334,5 @@ pub(super) fn give_to_owner(file: &std::fs::File, path: &Path) {
     let is_other = |folder: &std::fs::Metadata| file.metadata().is_ok_and(|own| own.uid() != folder.uid());
     if let Some(folder) = folder.filter(is_other) {
         let _ = fchown(file, Some(folder.uid()), Some(folder.gid())); // where it may not, a start says who can't read it
-    }
-}
-
-fn write_parts_at<const N: usize>(file: &std::fs::File, parts: &[&[u8]; N], at: u64) -> io::Result<()> {
-    let slices = parts.map(IoSlice::new);
-    let written = match pwritev(file.as_raw_fd(), &slices, at as i64) {
-        Err(Errno::EINTR) => 0,
-        other => other?,
-    };
-    match parts.iter().map(|part| part.len()).sum::<usize>() == written {
-        true => Ok(()),
-        false => file.write_all_at(&parts.concat()[written..], at + written as u64),
     }
 }

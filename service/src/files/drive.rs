@@ -27,9 +27,8 @@ pub trait Drive: Send + Sync {
     fn length(&self, file: u64) -> io::Result<u64>;
     /// How many bytes were read, 0 at the file's end alone. It sees what was written, synced or not.
     fn read_at(&self, file: u64, bytes: &mut [u8], at: u64) -> io::Result<usize>;
-    /// Writes parts one behind the other, at the file's end or over what is there. In memory: it never waits, and fails
-    /// by `Lost` alone.
-    fn write_at(&self, file: u64, parts: &[&[u8]], at: u64) -> io::Result<()>;
+    /// Writes at the file's end or over what is there. In memory: it never waits, and fails by `Lost` alone.
+    fn write_at(&self, file: u64, bytes: &[u8], at: u64) -> io::Result<()>;
     /// Replaces what has the other name. Like `create` and `remove` it never waits.
     fn rename(&self, from: &Path, to: &Path) -> io::Result<()>;
     /// `NotFound` where there is none.

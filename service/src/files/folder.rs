@@ -185,6 +185,12 @@ impl Folder {
 
     /// The files of a slot. What an earlier run wrote is synced before it is believed.
     pub fn slot(&self, number: u16) -> Result<(Journal, Outbox), Fault> {
+        let (outbox, left) = self.begin_slot(number)?;
+        Ok((self.journal(number, &outbox, left)?, outbox))
+    }
+
+    /// The outbox, and what an earlier run left in the journal, which is as it was.
+    pub fn begin_slot(&self, number: u16) -> Result<(Outbox, Left), Fault> {
         let folder = self.of_slot(number).join("journal");
         // Side by side: what is only read waits for nothing.
         let (outbox, left) = std::thread::scope(|scope| {
@@ -195,11 +201,15 @@ impl Folder {
             (self.outbox(number), left.join())
         });
         let outbox = outbox?;
-        let left = left.unwrap_or_else(|panic| std::panic::resume_unwind(panic))?;
+        Ok((outbox, left.unwrap_or_else(|panic| std::panic::resume_unwind(panic))?))
+    }
+
+    /// The journal, which goes on behind what was left in it.
+    pub fn journal(&self, number: u16, outbox: &Outbox, left: Left) -> Result<Journal, Fault> {
         let begun = lock(&self.version).begun.get(&number).copied();
         let journal = Journal::go_on(
             &self.disk,
-            &folder,
+            &self.of_slot(number).join("journal"),
             self.durability,
             self.free_space.clone(),
             &Expected { reach: outbox.journal(), begun, by: outbox.ended() },
@@ -210,7 +220,7 @@ impl Folder {
                 version.begun.insert(number, journal.begun());
             })?;
         }
-        Ok((journal, outbox))
+        Ok(journal)
     }
 
     /// The outbox alone, of a slot whose journal has nothing more.

@@ -15,6 +15,7 @@
 //! until the next write, which is for all that were appended (`write`). One thread syncs, once for all that wait; nobody who
 //! must wait for the disk holds the lock of those who append.
 
+mod by_number;
 mod earlier_segment;
 mod held;
 mod name_records;
@@ -33,10 +34,11 @@ use super::free_space::FreeSpace;
 use super::records::{self, Which};
 use super::segment::{self, Ahead, Dropped, Segment};
 use super::{lock, seconds, Durability, Fault};
+pub use by_number::ByNumber;
 pub use held::Held;
 pub use name_records::shared_ends;
 use named_numbers::NamedNumbers;
-pub(super) use open::Left;
+pub use open::Left;
 pub use post::{Body, Names, NoNames, OfRun, Points, Post, Replayed};
 use std::collections::{BTreeMap, BTreeSet};
 use std::path::{Path, PathBuf};
@@ -270,14 +272,13 @@ impl Journal {
 }
 
 impl Shared {
-    fn put(&self, place: &mut Place, post: &Post, now: u64, parts: &[&[u8]; 2]) -> Ticket {
+    fn put(&self, place: &mut Place, post: &Post, now: u64, parts: &[&[u8]]) -> Ticket {
         let length = parts.iter().map(|part| part.len() as u64).sum();
         self.free_space.use_up(length);
-        // What a drive has is in memory until its sync anyway.
-        let put = match self.disk.keeps_order() {
-            true => place.segment.put(parts).map(drop),
-            false => place.segment.append(parts),
-        };
+        let put = place.segment.append(parts).and_then(|()| match self.disk.keeps_order() {
+            true => place.segment.write(), // what a drive has is in memory until its sync anyway
+            false => Ok(()),
+        });
         if let Err(fault) = put {
             let Lost = self.disk.fail(fault);
         }

@@ -22,7 +22,9 @@ pub(crate) use disk::{Call, Disk};
 pub use drive::{Drive, Lost};
 pub use folder::{Folder, FolderFault, KnownSink, Mark, Way, MOST_SLOTS};
 pub(crate) use free_space::FreeSpace;
-pub use journal::{shared_ends, Body, Held, Journal, Names, NoNames, OfRun, Points, Post, Replayed, Ticket};
+pub use journal::{
+    shared_ends, Body, ByNumber, Held, Journal, Left, Names, NoNames, OfRun, Points, Post, Replayed, Ticket,
+};
 pub use outbox::{Beginning, Outbox, Owned, Runs, Series, UnitOfMetric, Waits};
 pub use segment::Dropped;
 

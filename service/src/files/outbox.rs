@@ -113,7 +113,7 @@ impl Outbox {
 
     /// The journal's first segment whose posts are in no group.
     pub fn journal(&self) -> u64 {
-        lock(&self.state).journal
+        lock(&self.state).facts.journal
     }
 
     pub fn series(&self) -> HashMap<SeriesKey, Series> {
@@ -163,7 +163,7 @@ impl Outbox {
 
     /// When what is known here began.
     pub fn since(&self) -> Since {
-        lock(&self.state).since.unwrap_or_default()
+        lock(&self.state).facts.since.unwrap_or_default()
     }
 
     /// Where a series' last forwarded point ends; 0 of one that is not known.
@@ -182,7 +182,7 @@ impl Outbox {
     }
 
     pub fn quarantined(&self) -> BTreeSet<String> {
-        lock(&self.state).quarantined.clone()
+        lock(&self.state).facts.quarantined.clone()
     }
 
     /// Leaves out the series that no group had for so long, but those in `keep`. Which these were.
@@ -202,7 +202,11 @@ impl Outbox {
     /// How many requests wait, how many bytes they take on disk, and the first of them.
     pub fn waiting(&self) -> (u64, u64, Option<Waiting>) {
         let state = lock(&self.state);
-        (state.next - 1 - state.acknowledged, state.bytes, state.front().map(|front| front.waiting))
+        (
+            state.facts.next - 1 - state.facts.acknowledged,
+            state.bytes,
+            state.front().map(|front| front.waiting),
+        )
     }
 
     /// Which segment the last run wrote to, and up to where it counts.
@@ -244,7 +248,7 @@ impl Outbox {
     /// Makes durable all that was written. In a folder it is already.
     pub fn settle(&self) -> Result<(), Fault> {
         if self.disk.keeps_order() {
-            let next = lock(&self.state).next;
+            let next = lock(&self.state).facts.next;
             self.disk.sync_folder(&self.folder)?;
             self.settled.fetch_max(next, SeqCst);
         }
@@ -286,7 +290,7 @@ impl Outbox {
     pub fn acknowledge(&self, number: u64) -> Result<(), Fault> {
         let front = {
             let state = lock(&self.state);
-            if number <= state.acknowledged {
+            if number <= state.facts.acknowledged {
                 return Ok(());
             }
             state.front().filter(|front| front.waiting.number == number)
@@ -300,7 +304,7 @@ impl Outbox {
         };
         let length = rows::item_length(&self.disk, &segment::path(&self.folder, front.segment), &front)?;
         let taken = self.change(|state| {
-            (number > state.acknowledged).then_some(Change::Acknowledge { number, length })
+            (number > state.facts.acknowledged).then_some(Change::Acknowledge { number, length })
         })?;
         if taken && lock(&self.state).front().map(|now| now.segment) != Some(front.segment) {
             self.sweep()?;

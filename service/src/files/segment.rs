@@ -65,7 +65,7 @@ pub fn settle(disk: &Disk, folder: &Path, first: u64, durable: impl Fn(u64) -> u
         if is_doubtful {
             let from = durable(number) / PIECE as u64 * PIECE as u64;
             // The same bytes at the same places. Zeros are what was there before.
-            each_piece(&file, &path, from, |at, piece| disk.write_at(&file, &path, &[piece], at))?;
+            each_piece(&file, &path, from, |at, piece| disk.write_at(&file, &path, piece, at))?;
         }
         disk.sync(&file, &path)?;
     }
@@ -110,9 +110,9 @@ pub fn missing(folder: &Path, number: u64) -> Fault {
 /// one that is shorter than it was made is a fault.
 pub fn close_at(disk: &Disk, path: &Path, at: u64) -> Result<(), Fault> {
     let file = disk.open_to_write(path)?;
-    each_piece(&file, path, at, |at, piece| disk.write_at(&file, path, &[&ZEROS[..piece.len()]], at))?;
+    each_piece(&file, path, at, |at, piece| disk.write_at(&file, path, &ZEROS[..piece.len()], at))?;
     disk.order(&file, path)?;
-    disk.write_at(&file, path, &[&mark(END, &[at])], at)?;
+    disk.write_at(&file, path, &mark(END, &[at]), at)?;
     disk.order(&file, path)
 }
 
@@ -184,7 +184,7 @@ impl Segment {
         let length = made.length();
         let first = made.says.as_mut().map(|says| says.length = length);
         let first = first.map_or(Vec::new(), |()| made.mark(MARK));
-        made.put(&[&first, &header])?;
+        made.put(&[first, header].concat())?;
         Ok(made)
     }
 
@@ -212,46 +212,45 @@ impl Segment {
     }
 
     /// Writes records with one write: where it begins.
-    pub fn put<const N: usize>(&mut self, parts: &[&[u8]; N]) -> Result<u64, Fault> {
-        let (begin, end) = self.make_room(parts)?;
+    pub fn put(&mut self, bytes: &[u8]) -> Result<u64, Fault> {
+        self.make_room(bytes.len())?;
         self.write()?;
-        self.disk.write_at(&self.file, &self.path, parts, begin)?;
-        self.end_record(end);
+        let begin = self.at;
+        self.disk.write_at(&self.file, &self.path, bytes, begin)?;
+        self.end_record(bytes.len());
         Ok(begin)
     }
 
     /// Puts records behind the others, for the next write.
-    pub fn append<const N: usize>(&mut self, parts: &[&[u8]; N]) -> Result<(), Fault> {
-        let (_, end) = self.make_room(parts)?;
+    pub fn append(&mut self, parts: &[&[u8]]) -> Result<(), Fault> {
+        let length = parts.iter().map(|part| part.len()).sum();
+        self.make_room(length)?;
         parts.iter().for_each(|part| self.unwritten.extend_from_slice(part));
-        self.end_record(end);
+        self.end_record(length);
         Ok(())
     }
 
-    /// Where these records begin and end. A mark goes before what follows a sync.
-    fn make_room<const N: usize>(&mut self, parts: &[&[u8]; N]) -> Result<(u64, u64), Fault> {
-        let length = parts.iter().map(|part| part.len() as u64).sum::<u64>();
-        self.make_ahead(self.at + MARK_LENGTHS[1] as u64 + length)?;
-        if self.durable > self.marked {
-            self.append_mark()?;
+    /// A mark goes before what follows a sync.
+    fn make_room(&mut self, length: usize) -> Result<(), Fault> {
+        self.make_ahead(self.at + (MARK_LENGTHS[1] + length) as u64)?;
+        match self.durable > self.marked {
+            true => self.append_mark(),
+            false => Ok(()),
         }
-        Ok((self.at, self.at + length))
     }
 
-    fn end_record(&mut self, end: u64) {
-        self.at = end;
-        self.records = end;
+    fn end_record(&mut self, length: usize) {
+        self.at += length as u64;
+        self.records = self.at;
     }
 
     /// Writes all that was appended.
     pub fn write(&mut self) -> Result<(), Fault> {
-        let bytes = std::mem::take(&mut self.unwritten);
-        match bytes.len() {
-            0 => Ok(()),
-            length => {
-                let begin = self.at - length as u64;
-                self.disk.write_at(&self.file, &self.path, &[&bytes], begin)
-            }
+        let mut bytes = Vec::new();
+        let begin = self.give_unwritten(&mut bytes);
+        match bytes.is_empty() {
+            true => Ok(()),
+            false => self.disk.write_at(&self.file, &self.path, &bytes, begin),
         }
     }
 
@@ -315,7 +314,7 @@ impl Segment {
             Ahead::Zeros(filled) => {
                 let wanted = end + PIECE as u64 / 2;
                 while *filled < wanted || *filled % PIECE as u64 > 0 {
-                    self.disk.write_at(&self.file, &self.path, &[&ZEROS[..FILL]], *filled)?;
+                    self.disk.write_at(&self.file, &self.path, &ZEROS[..FILL], *filled)?;
                     *filled += FILL as u64;
                 }
             }
@@ -345,7 +344,7 @@ impl Segment {
 
     /// Ends the segment: no record follows.
     pub fn end(&mut self) -> Result<(), Fault> {
-        self.put(&[&self.mark(END)]).map(drop)
+        self.put(&self.mark(END)).map(drop)
     }
 }
 

@@ -11,24 +11,24 @@
 //! in their order all the same, and a call of the book costs as much as many points.
 
 mod again;
+mod prime;
 mod said;
 
 use super::numbers::{Numbers, Own};
 use super::Trouble;
-use crate::core::{free_spare_readers, Book, Core, Read, Refused};
-use crate::files::{Body, Owned, Post};
-use crate::otlp::series::{zeros, NotForwarded};
+use crate::core::{free_spare_readers, Book, Read, Refused};
+use crate::files::{Body, Outbox, Post};
 use crate::runs::State;
 use crate::slot::Slot;
 use crate::work::{in_order, WorkQueue};
 use again::{Again, Groups};
+use prime::prime;
+pub use prime::Priming;
 use said::{said, Said};
 use std::collections::BTreeSet;
 use std::sync::Arc;
 use std::time::{Duration, Instant};
 
-/// So that no post takes long. What its series share is in memory once.
-const SERIES_OF_A_POST: usize = 1000;
 /// How often it is said how far it is.
 const PROGRESS: Duration = Duration::from_secs(1);
 
@@ -43,15 +43,41 @@ pub(super) struct Filled {
     pub runs: State,
 }
 
+/// Of a slot whose book is being primed, where that was begun. None where it was told to stop.
+pub(super) fn fill_primed(
+    slot: &Arc<Slot>,
+    priming: Option<Priming>,
+    stops: impl Fn() -> bool,
+) -> Result<Option<Filled>, Trouble> {
+    match priming {
+        Some(priming) => {
+            let own = priming.ended(&stops)?;
+            replay(slot, &mut slot.core.lock(), own, stops)
+        }
+        None => fill(slot, &mut slot.core.lock(), stops),
+    }
+}
+
 /// None where it was told to stop.
 pub(super) fn fill(
     slot: &Arc<Slot>,
     book: &mut Book,
     stops: impl Fn() -> bool,
 ) -> Result<Option<Filled>, Trouble> {
+    let own = prime(&slot.core, &slot.outbox, book, slot.has_posts(), &stops)?;
+    replay(slot, book, own, stops)
+}
+
+/// Into a book that is primed, by these numbers.
+fn replay(
+    slot: &Arc<Slot>,
+    book: &mut Book,
+    own: Arc<Own>,
+    stops: impl Fn() -> bool,
+) -> Result<Option<Filled>, Trouble> {
     let mut filling = Filling {
         slot,
-        numbers: Numbers::new(slot.core.clone()),
+        numbers: Numbers::new(slot.core.clone(), own),
         fresh: Fresh {
             slot,
             book,
@@ -60,7 +86,6 @@ pub(super) fn fill(
         },
         stops,
     };
-    filling.prime()?;
     let held = slot.outbox.quarantined();
     filling.replay(|post| !held.contains(&post.sender), Book::admit_again)?;
     if !held.is_empty() {
@@ -96,55 +121,10 @@ struct Fresh<'a> {
     shown: Instant,
 }
 
-/// Series of one owner.
-struct Priming<'o> {
-    of: &'o Owned,
-    owner: &'o str,
-    series: &'o [(u32, u64)],
-    /// What primes them, once it is read.
-    posts: Result<Vec<Read>, Unprimed>,
-}
-
-/// Why series can't be primed.
-#[derive(Debug, thiserror::Error)]
-enum Unprimed {
-    #[error(transparent)]
-    Refused(#[from] Refused),
-    #[error(transparent)]
-    NotForwarded(#[from] NotForwarded),
-}
-
 /// What comes of the journal; none where room is to be made ahead of what is next.
 type Coming = Option<Again>;
 
 impl<S: Fn() -> bool> Filling<'_, S> {
-    fn prime(&mut self) -> Result<(), Trouble> {
-        let (slot, fresh, stops) = (self.slot, &mut self.fresh, &self.stops);
-        // Where there is no post to put in, no number is asked for.
-        let own = slot.journal.size().1.map(|_| self.numbers.own());
-        let own = own.as_deref();
-        // In the order of their keys: so neighbours share most, and each goes behind those that a book has, or near their end.
-        let of = &slot.outbox.owned();
-        in_order(
-            |priming: &mut Priming| priming.be_read(&slot.core, own),
-            |priming| fresh.prime(priming, own),
-            |queue| {
-                for (owner, series) in &of.all {
-                    let mut parts = series.chunks(SERIES_OF_A_POST);
-                    let unread = |series| Priming { of, owner, series, posts: Ok(Vec::new()) };
-                    if !parts.all(|part| !stops() && queue.push(unread(part))) {
-                        break;
-                    }
-                }
-                Ok(())
-            },
-        )?;
-        let taken = fresh.book.take_all().map_err(not_taken)?;
-        fresh.book.settle(taken).map_err(not_taken)?;
-        fresh.book.note_primed();
-        Ok(())
-    }
-
     /// Puts the posts of the journal that are wanted, in its order.
     fn replay(&mut self, is_wanted: impl Fn(&Post) -> bool + Sync, admit: Admit) -> Result<(), Trouble> {
         let (slot, fresh) = (self.slot, &mut self.fresh);
@@ -187,35 +167,7 @@ fn put(groups: Groups, numbers: &Numbers, queue: &WorkQueue<Coming>) -> bool {
     groups.into_again(numbers).all(|again| queue.push(Some(again)))
 }
 
-impl Priming<'_> {
-    fn be_read(&mut self, core: &Core, own: Option<&Own>) {
-        self.posts = self.read(core);
-        if let (Ok(posts), Some(own)) = (&mut self.posts, own) {
-            posts.iter_mut().for_each(|read| own.note(read));
-        }
-    }
-
-    fn read(&self, core: &Core) -> Result<Vec<Read>, Unprimed> {
-        let read = |body: Vec<u8>| Ok(Read::of_body(core, self.owner.into(), body.into())?);
-        zeros(self.of.with_keys(self.series))?.into_iter().map(read).collect()
-    }
-}
-
 impl Fresh<'_> {
-    fn prime(&mut self, mut priming: Priming, own: Option<&Own>) -> Result<(), Trouble> {
-        if matches!(priming.posts, Err(Unprimed::Refused(_))) {
-            free_spare_readers();
-            priming.be_read(&self.slot.core, own);
-        }
-        let posts = std::mem::replace(&mut priming.posts, Ok(Vec::new()));
-        let admit = |mut read: Read| Ok(self.book.admit(&mut read)?);
-        let put = posts.and_then(|posts| posts.into_iter().try_for_each(admit));
-        put.map_err(|why| match why {
-            Unprimed::Refused(refused) => self.not_filled(priming.owner, refused),
-            why => Trouble::NotFilled(format!("the outbox has a series that can't be primed: {why}")),
-        })
-    }
-
     /// Where several are refused as one, each goes in by itself.
     fn replay(&mut self, mut again: Again, admit: Admit) -> Result<(), Trouble> {
         self.say_progress();
@@ -250,7 +202,9 @@ impl Fresh<'_> {
         let (sender, foreign) = (&again.sender, again.foreign);
         match put {
             Ok(now) if now == foreign => {}
-            Err(refused) if refused.status() == 503 => return Err(self.not_filled(sender, refused)),
+            Err(refused) if refused.status() == 503 => {
+                return Err(not_filled(&self.slot.outbox, sender, refused))
+            }
             other => {
                 let (slot, reason) = (self.slot.number(), format!("{other:?}"));
                 tracing::error!(
@@ -291,19 +245,6 @@ impl Fresh<'_> {
         Ok(())
     }
 
-    fn not_filled(&self, sender: &str, refused: Refused) -> Trouble {
-        let series = self.slot.outbox.series_count();
-        let help = match refused {
-            Refused::TooManySeries => "give a greater --most-series",
-            Refused::NoMemory | Refused::HalfTaken => "give a greater --book-memory",
-            _ => "the log of the run before may say more",
-        };
-        Trouble::NotFilled(format!(
-            "the book does not take what the folder has, {series} series and the posts of its journal: {refused}, at a post of \
-             {sender}. Nothing is changed or lost: {help}"
-        ))
-    }
-
     fn say_progress(&mut self) {
         if self.shown.elapsed() >= PROGRESS {
             self.shown = Instant::now();
@@ -311,6 +252,19 @@ impl Fresh<'_> {
             tracing::info!(slot, posts, "slot {slot}: the book has {posts} posts of the journal so far");
         }
     }
+}
+
+fn not_filled(outbox: &Outbox, sender: &str, refused: Refused) -> Trouble {
+    let series = outbox.series_count();
+    let help = match refused {
+        Refused::TooManySeries => "give a greater --most-series",
+        Refused::NoMemory | Refused::HalfTaken => "give a greater --book-memory",
+        _ => "the log of the run before may say more",
+    };
+    Trouble::NotFilled(format!(
+        "the book does not take what the folder has, {series} series and the posts of its journal: {refused}, at a post of \
+         {sender}. Nothing is changed or lost: {help}"
+    ))
 }
 
 fn not_taken(refused: Refused) -> Trouble {

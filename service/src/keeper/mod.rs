@@ -16,6 +16,7 @@ mod rest;
 mod run;
 mod series;
 
+pub use fill::Priming;
 pub(crate) use run::settle;
 
 use crate::core::Refused;
@@ -114,6 +115,8 @@ pub struct Keeper {
     slot: Arc<Slot>,
     settings: Settings,
     orders: mpsc::Receiver<(Order, oneshot::Sender<Done>)>,
+    /// Of its book, where that was begun.
+    priming: Option<Priming>,
     /// What was taken while the book was filled. It belongs to the next group.
     carried: Vec<Vec<u8>>,
     /// A sender was released, so that there is something to flush.
@@ -131,6 +134,7 @@ impl Keeper {
         let keeper = Keeper {
             slot,
             orders,
+            priming: None,
             carried: Vec::new(),
             released: false,
             next_checkpoint: Instant::now() + settings.every,
@@ -140,6 +144,11 @@ impl Keeper {
             settings,
         };
         (keeper, Orders(to))
+    }
+
+    /// One whose book is being primed already.
+    pub fn behind(self, priming: Option<Priming>) -> Keeper {
+        Keeper { priming, ..self }
     }
 }
 

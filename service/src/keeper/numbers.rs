@@ -1,29 +1,17 @@
 //! Posts of the journal for the book: what has a number in a file has another one here.
 
 use crate::core::{Core, Names, Read, Refused};
-use crate::files::{Body, Post};
+use crate::files::{Body, ByNumber, Post};
 use crate::otlp::series::Around;
-use ahash::AHashMap;
 use bytes::Bytes;
 use std::sync::{Arc, OnceLock};
-
-/// A list of what numbers stand for has so many places at least.
-const LEAST_NEAR: usize = 1 << 10;
 
 /// Takes posts one after the other, each in its turn: a later one does not say again what a number stands for.
 pub(super) struct Numbers {
     core: Arc<Core>,
     own: Arc<Own>,
     /// By the number in the file that is read.
-    of_file: OfFile,
-}
-
-/// What numbers stand for. Those of a file are from 0 on, and a post's mostly follow each other: so they are in a list, but for
-/// what is far beyond all before.
-#[derive(Default)]
-struct OfFile {
-    near: Vec<Option<Number>>,
-    far: AHashMap<u64, Number>,
+    of_file: ByNumber<Option<Number>>,
 }
 
 /// The book's numbers, which series get side by side. Those that are primed have them before any file names one: so the
@@ -42,8 +30,8 @@ pub(super) enum Number {
 }
 
 impl Numbers {
-    pub fn new(core: Arc<Core>) -> Numbers {
-        Numbers { core, own: Arc::default(), of_file: OfFile::default() }
+    pub fn new(core: Arc<Core>, own: Arc<Own>) -> Numbers {
+        Numbers { core, own, of_file: ByNumber::default() }
     }
 
     pub fn own(&self) -> Arc<Own> {
@@ -52,7 +40,7 @@ impl Numbers {
 
     /// From now on these numbers stand for these series.
     pub fn note(&mut self, named: Vec<(u64, Number)>) {
-        named.into_iter().for_each(|(number, known)| self.of_file.note(number, known));
+        named.into_iter().for_each(|(number, known)| *self.of_file.of(number) = Some(known));
     }
 
     /// Has a post's points have the book's numbers. Where one can't, the post is as it was: `NoSuch` where nothing was said of its
@@ -66,40 +54,20 @@ impl Numbers {
     }
 
     /// A post that has them, to be read for the book.
-    pub fn unread(&self, post: Post) -> Result<Read, Refused> {
-        let Post { sender, foreign, body } = post;
-        match body {
-            Body::Text(body) => Ok(self.core.unread(sender, body)),
-            Body::Points(points) => {
-                // It has no points but those that the book took.
-                let names = self.own.names()?.clone();
-                Ok(self.core.unread_points(sender, points, names, foreign))
+    pub fn unread(&self, mut post: Post) -> Result<Read, Refused> {
+        let names = match &post.body {
+            Body::Text(_) => {
+                post.foreign = 0; // it has them
+                None
             }
-        }
+            Body::Points(_) => Some(self.own.names()?.clone()), // it has none but those that the book took
+        };
+        Ok(self.core.unread(post, names))
     }
 
     fn own_of(&mut self, number: u64) -> Result<u64, Refused> {
-        let known = self.of_file.get_mut(number).ok_or(Refused::NoSuch)?;
+        let known = self.of_file.of(number).as_mut().ok_or(Refused::NoSuch)?;
         known.be_own(&self.own)
-    }
-}
-
-impl OfFile {
-    fn note(&mut self, number: u64, known: Number) {
-        let place = usize::try_from(number).unwrap_or(usize::MAX);
-        if place > 2 * self.near.len() + LEAST_NEAR {
-            self.far.insert(number, known);
-            return;
-        }
-        if place >= self.near.len() {
-            self.near.resize_with(place + 1, || None);
-        }
-        self.near[place] = Some(known);
-    }
-
-    fn get_mut(&mut self, number: u64) -> Option<&mut Number> {
-        let near = usize::try_from(number).ok().and_then(|place| self.near.get_mut(place));
-        near.and_then(Option::as_mut).or_else(|| self.far.get_mut(&number))
     }
 }
 
@@ -186,23 +154,6 @@ mod tests {
             )
         };
         attributes.map(|attribute| text(attribute).into()).collect()
-    }
-
-    /// Also one that was far once, and is said again.
-    #[test]
-    fn a_number_stands_for_what_was_said_of_it_last() {
-        let mut all = OfFile::default();
-        let said = [5, 1 << 40, u64::MAX, 3_000, 0, 700, 1_500, 2_900, 3_000, 5, u64::MAX];
-        let mut last = AHashMap::new();
-        for (own, number) in (0..).zip(said) {
-            all.note(number, Number::Own(own));
-            last.insert(number, own);
-            for (number, own) in &last {
-                assert!(matches!(all.get_mut(*number), Some(Number::Own(found)) if found == own), "{number}");
-            }
-        }
-        assert!([1, 2_999, 1 << 30].iter().all(|number| all.get_mut(*number).is_none()));
-        assert_eq!((all.near.len(), all.far.len()), (3_001, 3), "3,000 was far at first");
     }
 
     #[test]

@@ -1,6 +1,6 @@
 //! Starts, waits for what is to be done, and does one thing after the other.
 
-use super::fill::{fill, Filled};
+use super::fill::{fill_primed, Filled};
 use super::{Done, Keeper, Order, Trouble};
 use crate::files::{Fault, Lost};
 use crate::latch::Latch;
@@ -92,8 +92,8 @@ impl Keeper {
         let began = Instant::now();
         // What is read of the journal has to be there.
         self.slot.journal.durable(self.slot.journal.now()).await?;
-        let (slot, stop) = (self.slot.clone(), stop.clone());
-        let filled = blocking(move || fill(&slot, &mut slot.core.lock(), || *stop.borrow())).await?;
+        let (slot, stop, priming) = (self.slot.clone(), stop.clone(), self.priming.take());
+        let filled = blocking(move || fill_primed(&slot, priming, || *stop.borrow())).await?;
         let Some(Filled { posts, carried, runs }) = filled else {
             return Ok(false);
         };

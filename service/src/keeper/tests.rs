@@ -4,6 +4,7 @@ mod amend;
 mod cumulative;
 mod forget;
 mod moved;
+mod primed;
 mod runs;
 mod shares;
 mod stall;
@@ -47,10 +48,12 @@ impl Run {
     fn over(journal: Journal, outbox: Outbox, settings: Settings) -> Run {
         let metrics = Arc::new(Metrics::new().unwrap());
         let core = Core::new(1).unwrap();
-        let slot = Slot::new(0, journal, Arc::new(outbox), metrics, core);
+        let outbox = Arc::new(outbox);
+        let priming = Priming::begin(&core, &outbox, journal.size().1.is_some());
+        let slot = Slot::new(0, journal, outbox, metrics, core);
         let (keeper, orders) = Keeper::new(slot.clone(), settings);
         let (stop, stopped) = watch::channel(false);
-        let running = tokio::spawn(keeper.run(stopped));
+        let running = tokio::spawn(keeper.behind(priming).run(stopped));
         Run { slot, orders, stop, running }
     }
 

@@ -6,7 +6,7 @@ use super::operators::Operators;
 use super::running::Running;
 use super::senders::Senders;
 use super::sink::{InFolder, InStore, Remembers, Told};
-use super::unit::{Files, Opened};
+use super::unit::{Begun, Files, Opened};
 use super::units::{taker, AtWork, Units};
 use super::{Ended, Settings};
 use crate::files::{Folder, Outbox};
@@ -50,15 +50,17 @@ enum Of {
 impl Parts {
     /// Opens the files in place: nothing else runs yet. The folder has one slot.
     pub fn open(folder: Arc<Folder>, settings: &Settings) -> Result<Parts, Ended> {
-        let (journal, outbox) = folder.slot(0)?;
+        let (outbox, left) = folder.begin_slot(0)?;
+        let outbox = Arc::new(outbox);
+        let book = Begun::of(&outbox, left.has_posts(), 1, settings)?;
+        let journal = folder.journal(0, &outbox, left)?;
         let former = former_slots(&folder)?;
         let dead = Arc::new(folder.dead()?);
-        let outbox = Arc::new(outbox);
         let mut outboxes = vec![outbox.clone()];
         outboxes.extend(former.iter().map(|(_, outbox)| outbox.clone()));
         Parts::of(Box::new(InFolder { folder, outboxes }), settings, |shared| {
             let files = Files { number: 0, journal, outbox, dead, former };
-            Ok(Of::Folder(Box::new(Opened::new(files, 1, settings, shared)?)))
+            Ok(Of::Folder(Box::new(Opened::new(files, book, settings, shared)?)))
         })
     }
 

@@ -4,7 +4,7 @@
 use super::{Ended, Settings};
 use crate::core::Core;
 use crate::files::{Dead, Fault, Journal, Outbox};
-use crate::keeper::{Keeper, Orders, Trouble};
+use crate::keeper::{Keeper, Orders, Priming, Trouble};
 use crate::operate::{self, Undelivered};
 use crate::sinks::{self, Delivery, Sink};
 use crate::slot::{Shared, Slot};
@@ -69,26 +69,45 @@ fn room(most_series: usize, slots: u16, known: usize) -> usize {
     share.max(2 * known).min(most_series)
 }
 
-impl Opened {
-    /// One of so many slots.
-    pub fn new(files: Files, slots: u16, settings: &Settings, shared: &Shared) -> Result<Opened, Ended> {
-        let reading = Arc::new(match settings.store {
-            Some(_) => settings.reading.of_slot(),
-            None => settings.reading.clone(),
-        });
-        reading.finer_units.know(&files.outbox, &files.journal)?;
-        let room = room(settings.most_series, slots, files.outbox.series_count());
+/// A slot's book, which is being primed beside all else that opens the slot.
+pub(super) struct Begun {
+    core: Arc<Core>,
+    priming: Option<Priming>,
+}
+
+impl Begun {
+    /// Of one of so many slots.
+    pub fn of(
+        outbox: &Arc<Outbox>,
+        has_posts: bool,
+        slots: u16,
+        settings: &Settings,
+    ) -> Result<Begun, Ended> {
+        let room = room(settings.most_series, slots, outbox.series_count());
         let core = Core::apart(room, settings.across).with_context(|| {
             format!(
                 "a book for --most-series {} can't be made: give a greater --book-memory, or a smaller --most-series",
                 settings.most_series
             )
         })?;
+        let priming = Priming::begin(&core, outbox, has_posts);
+        Ok(Begun { core, priming })
+    }
+}
+
+impl Opened {
+    pub fn new(files: Files, book: Begun, settings: &Settings, shared: &Shared) -> Result<Opened, Ended> {
         let Files { number, journal, outbox, dead, former } = files;
+        let Begun { core, priming } = book;
+        let reading = Arc::new(match settings.store {
+            Some(_) => settings.reading.of_slot(),
+            None => settings.reading.clone(),
+        });
+        reading.finer_units.know(&outbox, &journal)?;
         let slot = Slot::reading_by(Some(reading), number, journal, outbox, core, shared);
         slot.runs.set(settings.runs);
         let (keeper, orders) = Keeper::new(slot.clone(), settings.keeping());
-        Ok(Opened { slot, keeper, orders, dead, former })
+        Ok(Opened { slot, keeper: keeper.behind(priming), orders, dead, former })
     }
 
     pub fn start(self, sink: &Arc<dyn Sink>) -> Unit {

@@ -1,7 +1,7 @@
 //! A post with cumulative points: what they add is found under the lock of the runs, which is held until the journal has it.
 
 use super::posted::{fits, LeftOut, Posted};
-use super::request::{Put, SHORT};
+use super::request::Put;
 use super::verdict::Journalled;
 use super::{ByNumber, Slot};
 use crate::core::{Read, Refused};
@@ -12,7 +12,7 @@ use crate::otlp::{Outcome, Window};
 use crate::post_reports::SERIES_SHOWN;
 use crate::runs::{self, Draft, Noted};
 use crate::shares::Claim;
-use crate::work::blocking;
+use crate::work::{blocking, Readers};
 use std::collections::{HashMap, HashSet};
 use std::sync::Arc;
 
@@ -84,11 +84,11 @@ impl Slot {
         mut making: Making,
         claim: &mut Claim<'_>,
     ) -> (Making, Result<Option<Put>, &'static str>) {
-        if making.by.bytes() <= SHORT {
+        if making.by.bytes() <= Readers::SHORT {
             let put = self.put_made(&mut making);
             return (making, put);
         }
-        let _turn = self.readers.acquire().await; // it is never closed
+        let _turn = self.readers.turn().await;
         let slot = self.clone();
         let making = blocking(move || {
             let put = slot.put_made(&mut making);

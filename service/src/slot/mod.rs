@@ -24,11 +24,12 @@ use crate::metrics::Metrics;
 use crate::otlp::{Clock, Outcome, Reading};
 use crate::runs::Runs;
 use crate::shares::Shares;
+use crate::work::Readers;
 use bytes::Bytes;
 use phase::Phases;
 use std::sync::atomic::{AtomicU64, Ordering};
 use std::sync::Arc;
-use tokio::sync::{Notify, Semaphore};
+use tokio::sync::Notify;
 
 /// What is kept free of the disk is all that is left of it.
 pub const NO_ROOM: &str = "no room for the journal";
@@ -51,7 +52,7 @@ pub struct Slot {
     pub(crate) metrics: Arc<Metrics>,
     pub(crate) core: Arc<Core>,
     phases: Phases,
-    readers: Arc<Semaphore>,
+    readers: Arc<Readers>,
     numbers: Arc<numbers::Numbers>,
     clock: Clock,
     pub(crate) runs: Runs,
@@ -78,7 +79,7 @@ pub struct Shared {
     /// How far from it points may end.
     pub clock: Clock,
     pub shares: Arc<Shares>,
-    readers: Arc<Semaphore>,
+    readers: Arc<Readers>,
     numbers: Arc<numbers::Numbers>,
 }
 
@@ -88,7 +89,7 @@ impl Shared {
             metrics,
             clock,
             shares: Arc::default(),
-            readers: Arc::new(Semaphore::new(READERS)),
+            readers: Arc::new(Readers::new(READERS)),
             numbers: Arc::default(),
         }
     }
@@ -240,6 +241,11 @@ impl Slot {
     pub(crate) fn lose(&self) {
         self.phases.go_on(Phase::Lost);
         self.landed.notify_waiters();
+    }
+
+    /// Whether the journal has any.
+    pub(crate) fn has_posts(&self) -> bool {
+        self.journal.size().1.is_some()
     }
 
     fn count_post(&self) {

@@ -6,13 +6,13 @@
 //! other request, so that series which come and go cost no more than that. Posts that are under way keep the numbers
 //! that they have.
 
-use super::request::SHORT;
 use super::Slot;
 use crate::core::{memory_used, Core, Names, Read, Refused};
 use crate::files::Points;
 use crate::otlp::{
     is_plain, prepare, Encoding, Learnt, NotNamed, Numbered, Reading, Rounded, Series, Window,
 };
+use crate::work::Readers;
 use bytes::Bytes;
 use std::sync::{Arc, PoisonError, RwLock};
 use std::time::{Duration, Instant};
@@ -128,8 +128,8 @@ impl Request {
     /// Whether it takes so little to read that it is read in place.
     pub(super) fn is_short(&self) -> bool {
         match self {
-            Request::Plain(plain) => plain.body.len() <= SHORT,
-            other => other.bytes() <= SHORT,
+            Request::Plain(plain) => plain.body.len() <= Readers::SHORT,
+            other => other.bytes() <= Readers::SHORT,
         }
     }
 }

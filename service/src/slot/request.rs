@@ -14,8 +14,6 @@ use crate::work::blocking;
 use bytes::Bytes;
 use std::sync::Arc;
 
-/// What takes so much is read in place, what takes more on a thread beside the runtime's: no short post waits for it.
-pub(super) const SHORT: usize = 64 << 10;
 /// So many bytes of requests of earlier hours are flushed at once, and not with the next checkpoint.
 const MANY_BYTES: usize = 32 << 20;
 const NO_REST: &str = "there is no memory for the rest of a post of several hours";
@@ -92,9 +90,8 @@ impl Slot {
 
     /// Reads what is not read in place.
     async fn read_long(&self, window: Window, sender: String, request: Request) -> Result<Posted, Refused> {
-        let _turn = self.readers.acquire().await; // it is never closed
         let (core, numbers) = (self.core.clone(), self.numbers.clone());
-        blocking(move || read(&core, &numbers, &window, sender, request)).await
+        self.readers.read_long(move || read(&core, &numbers, &window, sender, request)).await
     }
 
     /// Asks for what the sender of a request that is so long may have of points and series.
@@ -109,16 +106,7 @@ impl Slot {
             let (shares, sender, series) = (self.shares.clone(), sender.to_string(), series());
             let in_book = self.core.lock().series();
             let unflushed = in_book.saturating_sub(self.outbox.series_count()) as u64;
-            let look = move || shares.look(&sender, points, series, unflushed);
-            async move {
-                match length {
-                    0..=SHORT => look(),
-                    _ => {
-                        let _turn = self.readers.acquire().await; // it is never closed
-                        blocking(look).await
-                    }
-                }
-            }
+            self.readers.read(length, move || shares.look(&sender, points, series, unflushed))
         };
         let claim = self.shares.claim(sender, points, look).await;
         claim.inspect_err(|over| {
@@ -241,6 +229,7 @@ mod tests {
     use crate::otlp::Profile;
     use crate::shares::{Owned, Rules, Share};
     use crate::slot::Shared;
+    use crate::work::Readers;
     use std::collections::HashMap;
     use std::sync::mpsc::Receiver;
     use std::sync::Mutex;
@@ -295,7 +284,7 @@ mod tests {
             owned: Box::new(Slow(Mutex::new(done))),
         });
         let slot = Slot::in_memory(&shared);
-        let long = point(10) + &" ".repeat(SHORT);
+        let long = point(10) + &" ".repeat(Readers::SHORT);
         let posting = tokio::spawn(async move { slot.post("A".into(), long.into()).await });
         tokio::time::sleep(Duration::from_millis(200)).await;
         other.send(()).unwrap();

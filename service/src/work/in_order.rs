@@ -5,6 +5,7 @@
 
 use super::{locked, threads};
 use std::collections::VecDeque;
+use std::convert::Infallible;
 use std::sync::{Condvar, Mutex, MutexGuard, PoisonError};
 use std::thread;
 
@@ -59,6 +60,26 @@ pub fn in_order<T: Send, E: Send>(
     });
     let (_, ended) = putting.into_inner().unwrap_or_else(PoisonError::into_inner);
     ended.and(given)
+}
+
+/// What is made of each, side by side, is put in their order.
+pub fn made_in_order<P: Send, M: Send>(
+    pieces: impl Iterator<Item = P>,
+    make: impl Fn(P) -> M + Sync,
+    mut put: impl FnMut(M) + Send,
+) {
+    let work = |(piece, made): &mut (Option<P>, Option<M>)| *made = piece.take().map(&make);
+    let put_made = |(_, made): (Option<P>, Option<M>)| {
+        made.into_iter().for_each(&mut put);
+        Ok::<(), Infallible>(())
+    };
+    let give = |queue: &WorkQueue<_>| {
+        for piece in pieces {
+            queue.push((Some(piece), None));
+        }
+        Ok(())
+    };
+    let Ok(()) = in_order(work, put_made, give);
 }
 
 impl<T> WorkQueue<T> {

@@ -11,7 +11,7 @@ use tokio::sync::watch;
 use tokio::task::JoinHandle;
 use totxegun::core::Core;
 use totxegun::files::{Durability, Folder, Outbox};
-use totxegun::keeper::{Done, Keeper, Order, Orders, Settings, Trouble};
+use totxegun::keeper::{Done, Keeper, Order, Orders, Priming, Settings, Trouble};
 use totxegun::metrics::Metrics;
 use totxegun::otlp::series::{forwarded, Value};
 use totxegun::otlp::{protobuf_of_forwarded, Clock, Outcome, Reading};
@@ -53,10 +53,11 @@ impl Place {
         let (outbox, metrics) = (Arc::new(outbox), Arc::new(Metrics::new().unwrap()));
         let core = Core::new(self.most_series).unwrap();
         let shared = Shared::new(metrics.clone(), self.clock);
+        let priming = Priming::begin(&core, &outbox, journal.size().1.is_some());
         let slot = Slot::of(0, journal, outbox.clone(), core, &shared);
         let (keeper, orders) = Keeper::new(slot.clone(), settings);
         let (stop, stopped) = watch::channel(false);
-        let task = tokio::spawn(keeper.run(stopped));
+        let task = tokio::spawn(keeper.behind(priming).run(stopped));
         let run = Run {
             slot,
             outbox,

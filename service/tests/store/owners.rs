@@ -130,7 +130,7 @@ fn a_long_sync_is_there_wholly_or_not_at_all() {
     let (drive, _) = take(&store, 0);
     let (name, mut chance) = (Path::new("journal/1"), Chance(1));
     let file = drive.create(name).unwrap();
-    drive.write_at(file, &[b"before"], 0).unwrap();
+    drive.write_at(file, b"before", 0).unwrap();
     drive.sync().unwrap();
     server.ask(
         "create function no_room() returns trigger language plpgsql as $$ begin
@@ -140,7 +140,7 @@ fn a_long_sync_is_there_wholly_or_not_at_all() {
         "create trigger no_room before insert on totxegun_store.piece for each row execute function no_room()",
     );
     let long: Vec<u8> = (0..20 << 20).map(|_| chance.below(256) as u8).collect();
-    drive.write_at(file, &[&long], 6).unwrap();
+    drive.write_at(file, &long, 6).unwrap();
     let syncing = thread::spawn(move || drive.sync());
     wait_until("it is tried again", || store.counts().doubts.load(SeqCst) > 0);
     let (_, found) = take(&store, 0);

@@ -79,7 +79,7 @@ fn syncs_a_second() {
         let journal = drive.create(Path::new("journal/1")).unwrap();
         let (before, commits) = (wal(), store.counts().commits.load(SeqCst));
         let in_store = run(64, size, |bytes, at| {
-            drive.write_at(journal, &[bytes], at).unwrap();
+            drive.write_at(journal, bytes, at).unwrap();
             drive.sync().unwrap();
         });
         let posts = in_store.0 * LONG.as_secs_f64();

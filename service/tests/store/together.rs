@@ -36,7 +36,7 @@ impl Owner {
 
     fn write(&self, text: &str) -> std::io::Result<()> {
         let end = self.drive.length(self.file)?;
-        self.drive.write_at(self.file, &[text.as_bytes()], end)?;
+        self.drive.write_at(self.file, text.as_bytes(), end)?;
         self.drive.sync()
     }
 
@@ -67,7 +67,7 @@ fn who_comes_aboard_and_who_syncs_meanwhile_both_go_on() {
         let owner = owner.clone();
         thread::spawn(move || {
             while Instant::now() < until {
-                owner.drive.write_at(owner.file, &[b"x"], 0).unwrap();
+                owner.drive.write_at(owner.file, b"x", 0).unwrap();
                 if boards {
                     owner.drive.board();
                 }
@@ -99,7 +99,7 @@ fn who_is_read_meanwhile_keeps_no_other_slot_waiting() {
     let store = open(&[&server.address()], Copies::One);
     let [read, other] = [SLOTS[0], SLOTS[1]].map(|slot| Owner::of(&store, slot));
     // The first piece is not in memory any more, nor there: the server that writes is asked for it.
-    read.drive.write_at(read.file, &[&vec![7; 6 << 20]], 1).unwrap();
+    read.drive.write_at(read.file, &vec![7; 6 << 20], 1).unwrap();
     read.drive.sync().unwrap();
     server.ask("delete from totxegun_store.piece where slot = 0 and place = 0");
     thread::scope(|scope| {

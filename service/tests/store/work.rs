@@ -81,9 +81,7 @@ impl Work {
             (0..length as u64).map(|place| ((place * step) >> 3) as u8 ^ first as u8).collect();
         there.resize(there.len().max(at + length), 0);
         there[at..at + length].copy_from_slice(&bytes);
-        let (one, other) = bytes.split_at(length / 3);
-        let written =
-            self.drive.open(name).and_then(|file| self.drive.write_at(file, &[one, other], at as u64));
+        let written = self.drive.open(name).and_then(|file| self.drive.write_at(file, &bytes, at as u64));
         assert!(written.is_ok() || was_lost(written.err()));
     }
 

@@ -164,13 +164,12 @@ impl Drive for Owner {
         Ok(length)
     }
 
-    fn write_at(&self, file: u64, parts: &[&[u8]], at: u64) -> io::Result<()> {
+    fn write_at(&self, file: u64, bytes: &[u8], at: u64) -> io::Result<()> {
         (self.hook)(Step::Write)?;
         let mut view = lock(&self.view);
         let there = view.files.get_mut(&file).ok_or(ErrorKind::NotFound)?;
         let (there, at) = (Arc::make_mut(there), at as usize);
         assert!(at <= there.len(), "a hole before {at}, behind {}", there.len());
-        let bytes = parts.concat();
         let over = bytes.len().min(there.len() - at);
         there[at..at + over].copy_from_slice(&bytes[..over]);
         there.extend_from_slice(&bytes[over..]);
@@ -252,9 +251,9 @@ mod tests {
         let (store, name) = (Arc::new(Store::default()), Path::new("journal/1"));
         let first = store.take();
         let file = first.create(name).unwrap();
-        first.write_at(file, &[b"ab", b"cd"], 0).unwrap();
+        first.write_at(file, b"abcd", 0).unwrap();
         first.sync().unwrap();
-        first.write_at(file, &[b"xyz"], 3).unwrap();
+        first.write_at(file, b"xyz", 3).unwrap();
         first.rename(name, Path::new("journal/2")).unwrap();
         let second = store.take();
         assert_eq!(second.list(Path::new("journal")).unwrap(), ["1"]);

@@ -123,7 +123,7 @@ impl Shared {
             let source = io::Error::other("the journal turned while posts of quarantined senders were moved");
             return Err(io_fault(&place.segment.path)(source));
         }
-        let put = place.segment.put(&[&record]);
+        let put = place.segment.put(&record);
         put.map_err(|fault| Fault::Lost(self.disk.fail(fault)))?; // while nobody else can write
         place.ticket += 1;
         place.kept = place.ticket;
@@ -299,7 +299,7 @@ impl Writer {
     }
 
     fn write(&mut self, shared: &Shared) -> Result<(), Fault> {
-        shared.disk.write_at(&self.file, &self.path, &[&self.waiting], self.at)?;
+        shared.disk.write_at(&self.file, &self.path, &self.waiting, self.at)?;
         self.at += self.waiting.len() as u64;
         self.waiting.clear();
         Ok(())

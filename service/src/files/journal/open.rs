@@ -14,13 +14,18 @@ use std::sync::{Arc, Condvar, Mutex};
 
 /// The segments that an earlier run left.
 #[derive(Default)]
-pub(in crate::files) struct Left(Vec<EarlierSegment>);
+pub struct Left(Vec<EarlierSegment>);
 
 impl Left {
     /// Changes nothing.
-    pub fn read(disk: &Disk, folder: &Path) -> Result<Left, Fault> {
+    pub(in crate::files) fn read(disk: &Disk, folder: &Path) -> Result<Left, Fault> {
         let numbers = segment::numbers(disk, folder)?.into_iter();
         numbers.map(|number| earlier_segment::read(disk, folder, number)).collect::<Result<_, _>>().map(Left)
+    }
+
+    /// Whether there is any post, whether it is in a group or not.
+    pub fn has_posts(&self) -> bool {
+        self.0.iter().any(|segment| segment.size.first.is_some())
     }
 }
 

@@ -1,10 +1,10 @@
 //! Posts as records, and records as posts.
 
+use super::by_number::NumberSet;
 use super::name_records::NameReader;
 use super::post::{Body, Points, Post, Replayed};
 use super::{packed, COPY, NAME, NAME_AFTER, POINTS, POST, RUNS};
 use crate::files::{records, torn_tail};
-use ahash::AHashSet;
 use bytes::Bytes;
 
 const NO_POST: &str = "is no post that was written here";
@@ -47,51 +47,19 @@ pub(super) enum Wanted {
     Requests,
 }
 
-/// The numbers that a file names. They are from 0 on: a bit each, but for what is far beyond all before.
-#[derive(Default)]
-struct NumbersOfFile {
-    near: Vec<u64>,
-    far: AHashSet<u64>,
-}
-
-/// The bits have so many places at least.
-const LEAST_NEAR: usize = 1 << 10;
-
-impl NumbersOfFile {
-    fn insert(&mut self, number: u64) {
-        let (place, bit) = NumbersOfFile::bit(number);
-        if place > 2 * self.near.len() + LEAST_NEAR {
-            self.far.insert(number);
-            return;
-        }
-        if place >= self.near.len() {
-            self.near.resize(place + 1, 0);
-        }
-        self.near[place] |= bit;
-    }
-
-    fn has(&self, number: u64) -> bool {
-        let (place, bit) = NumbersOfFile::bit(number);
-        self.near.get(place).is_some_and(|bits| bits & bit != 0) || self.far.contains(&number)
-    }
-
-    fn bit(number: u64) -> (usize, u64) {
-        ((number / 64) as usize, 1 << (number % 64))
-    }
-}
-
 /// Reads the records of one file, one after the other: points need the names before them.
 pub(super) struct Posts {
     wanted: Wanted,
     /// Said since the last post.
     named: Vec<(u64, Bytes)>,
-    known: NumbersOfFile,
+    /// The numbers that the file has named.
+    known: NumberSet,
     names: NameReader,
 }
 
 impl Posts {
     pub fn new(wanted: Wanted) -> Posts {
-        Posts { wanted, named: Vec::new(), known: NumbersOfFile::default(), names: NameReader::default() }
+        Posts { wanted, named: Vec::new(), known: NumberSet::default(), names: NameReader::default() }
     }
 
     /// The post of a record, and when it was appended; none where it says a name. The error is what is wrong with it.
@@ -146,22 +114,4 @@ fn head(bytes: &mut &[u8], take: fn(&mut &[u8]) -> Option<u64>) -> Option<(u64, 
     let (since, foreign, length) = (take(bytes)?, take(bytes)?, take(bytes)?);
     let sender = bytes.split_off(..usize::try_from(length).ok()?)?;
     Some((since, foreign, std::str::from_utf8(sender).ok()?.to_string()))
-}
-
-#[cfg(test)]
-mod tests {
-    use super::*;
-
-    /// Also one that was far once.
-    #[test]
-    fn a_file_knows_the_numbers_that_it_named() {
-        let mut known = NumbersOfFile::default();
-        let named = [5, 1 << 40, u64::MAX, 300_000, 0, 63, 64, 65_000, 150_000, 299_999, 400_000];
-        for (count, number) in named.into_iter().enumerate() {
-            known.insert(number);
-            named.into_iter().enumerate().for_each(|(place, one)| assert_eq!(known.has(one), place <= count));
-        }
-        assert!([1, 62, 65, 299_998, (1 << 40) + 1, u64::MAX - 1].iter().all(|number| !known.has(*number)));
-        assert!(known.near.len() < 10_000, "{} places", known.near.len());
-    }
 }

@@ -62,7 +62,7 @@ fn append_copy(journal: &Journal, text: &str) {
     let mut record = Vec::new();
     records::put(&mut record, COPY, &[numbers.as_flattened(), name, text.as_bytes()]);
     let mut place = lock(&journal.shared.place);
-    place.segment.put(&[&record]).unwrap();
+    place.segment.put(&record).unwrap();
     place.ticket += 1;
     if let Some(size) = lock(&journal.shared.sizes).last_mut() {
         size.bytes += record.len() as u64;

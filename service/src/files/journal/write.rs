@@ -42,6 +42,7 @@ impl Journal {
     /// The same once whoever is ready on this thread has appended too: so one write is for all of them.
     pub(super) async fn write_with_others(&self, ticket: Ticket) -> Result<(), Lost> {
         if !self.is_written(ticket) {
+            let _written = InAnyCase(self, ticket);
             others_first().await;
         }
         self.write(ticket)
@@ -49,6 +50,15 @@ impl Journal {
 
     fn is_written(&self, ticket: Ticket) -> bool {
         self.shared.written.load(SeqCst) >= ticket.0
+    }
+}
+
+/// Writes all before a ticket once this is dropped: where who waits goes away, nobody else may come to write it.
+struct InAnyCase<'j>(&'j Journal, Ticket);
+
+impl Drop for InAnyCase<'_> {
+    fn drop(&mut self) {
+        let _ = self.0.write(self.1); // whoever is still there asks again
     }
 }
 
@@ -76,7 +86,7 @@ impl Shared {
         let (file, path) = (place.segment.file.clone(), place.segment.path.clone());
         drop(place);
         if !bytes.is_empty() {
-            let written = self.disk.write_at(&file, &path, &[&bytes], at);
+            let written = self.disk.write_at(&file, &path, &bytes, at);
             written.map_err(|fault| self.disk.fail(fault))?;
             bytes.clear();
             bytes.shrink_to(KEPT);

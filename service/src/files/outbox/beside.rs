@@ -7,13 +7,13 @@ use std::collections::BTreeSet;
 
 impl Outbox {
     pub fn beside(&self) -> BTreeSet<UnitOfMetric> {
-        lock(&self.state).beside.clone()
+        lock(&self.state).facts.beside.clone()
     }
 
     /// Ordered before all that follows; in a folder it is durable when this returns.
     pub fn put_beside(&self, units: &[UnitOfMetric]) -> Result<(), Fault> {
         self.change(|state| {
-            let new = units.iter().filter(|unit| !state.beside.contains(*unit));
+            let new = units.iter().filter(|unit| !state.facts.beside.contains(*unit));
             let new: Vec<UnitOfMetric> = new.cloned().collect();
             (!new.is_empty()).then_some(Change::Beside(new))
         })
@@ -27,7 +27,7 @@ impl Outbox {
         }
         self.renew(|state| {
             for unit in units {
-                state.beside.remove(unit);
+                state.facts.beside.remove(unit);
             }
         })
     }

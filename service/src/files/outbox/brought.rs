@@ -40,7 +40,7 @@ impl Waits {
 impl Outbox {
     /// The number of the first request that waits; where none does, of the next one.
     pub fn first_number(&self) -> u64 {
-        lock(&self.state).acknowledged + 1
+        lock(&self.state).facts.acknowledged + 1
     }
 
     /// Gives what waits, group by group.
@@ -63,9 +63,9 @@ impl Outbox {
     /// Begins with this, in an outbox that has had nothing yet. Ordered before all that follows, and all or none of it.
     pub fn begin_with(&self, beginning: Beginning) -> Result<(), Fault> {
         self.renew(|state| {
-            (state.next, state.acknowledged) = (beginning.next, beginning.next - 1);
-            (state.quarantined, state.since) = (beginning.quarantined, Some(beginning.since));
-            state.beside = beginning.beside;
+            (state.facts.next, state.facts.acknowledged) = (beginning.next, beginning.next - 1);
+            (state.facts.quarantined, state.facts.since) = (beginning.quarantined, Some(beginning.since));
+            state.facts.beside = beginning.beside;
             state.adopt(beginning.series);
         })
     }
@@ -80,7 +80,7 @@ impl Outbox {
                 epoch: waits.epoch,
                 since: waits.since,
                 heard: None,
-                journal: state.journal,
+                journal: state.facts.journal,
                 ends: Vec::new(),
                 new: Keys::default(),
             }

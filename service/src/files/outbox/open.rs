@@ -38,9 +38,9 @@ impl Outbox {
         // Each is begun once the one before it is durable.
         segment::settle(disk, folder, numbers.last().copied().unwrap_or(0), |_| 0)?;
         let EarlierRun { mut state, has_requests, ended, dropped } = read_all(disk, folder, &numbers, epoch)?;
-        state.next_epoch = epoch.into();
+        state.facts.epoch = epoch.into();
         // 0.5.0 did not say when it was made (0 is not known), also where it says what it has forgotten, by whatever clock.
-        let since = state.since.get_or_insert_default();
+        let since = state.facts.since.get_or_insert_default();
         if since.made == 0 {
             since.made = nanoseconds();
             since.forgotten = since.forgotten.min(since.made);
@@ -49,7 +49,7 @@ impl Outbox {
         let number = numbers.last().map_or(1, |last| last + u64::from(has_requests));
         let segment = begin(disk, folder, number, &state.snapshot())?;
         // What was read is durable.
-        let settled = AtomicU64::new(state.next);
+        let settled = AtomicU64::new(state.facts.next);
         let outbox = Outbox {
             disk: disk.clone(),
             folder: folder.into(),
@@ -105,7 +105,7 @@ fn read_all(disk: &Disk, folder: &Path, numbers: &[u64], epoch: &str) -> Result<
     batches.extend(std::mem::take(&mut state.batches));
     state.bytes = 0;
     // The sink has all that was in a segment that was deleted, and a loss of power may bring any of them back.
-    let taken = state.acknowledged;
+    let taken = state.facts.acknowledged;
     let mut next = taken + 1;
     for batch in batches.into_iter().filter(|batch| batch.first + batch.count > taken + 1) {
         let batch = skip_taken(disk, folder, batch, taken)?;
@@ -115,7 +115,7 @@ fn read_all(disk: &Disk, folder: &Path, numbers: &[u64], epoch: &str) -> Result<
         next += batch.count;
         state.wait(batch);
     }
-    match next == state.next {
+    match next == state.facts.next {
         true => Ok(EarlierRun { state, has_requests, ended, dropped }),
         false => Err(lost(folder, numbers, &reading.reader)),
     }

@@ -180,7 +180,7 @@ impl Reading {
             HEADER => return Err(wrong()),
             // Which requests still wait is found once all segments are read.
             rows::ACK => {
-                state.acknowledged = bytes.try_into().map(u64::from_le_bytes).map_err(|_| wrong())?
+                state.facts.acknowledged = bytes.try_into().map(u64::from_le_bytes).map_err(|_| wrong())?
             }
             _ => state.apply(rows::change_of(kind, bytes, &state.series).ok_or_else(wrong)?),
         }

@@ -27,13 +27,12 @@ use crate::files::disk::{io_fault, Disk};
 use crate::files::records::{self, put, take_number, HEAD, OWN};
 use crate::files::Fault;
 use crate::otlp::series::SeriesKey;
-use crate::work::in_order;
+use crate::work::made_in_order;
 use flate2::{read::DeflateDecoder, write::DeflateEncoder};
 use flate2::{Compression, Decompress, FlushDecompress, Status};
 use serde::de::DeserializeOwned;
 use serde::{Deserialize, Deserializer, Serialize, Serializer};
 use std::collections::HashMap;
-use std::convert::Infallible;
 use std::io::{self, BufWriter, Read, Write};
 use std::ops::Range;
 use std::path::Path;
@@ -128,20 +127,7 @@ pub fn packed_pieces<P: Send>(
     write: impl Fn(P) -> Vec<u8> + Sync,
 ) -> Vec<u8> {
     let mut out = Vec::new();
-    let put = |(_, packed): (Option<P>, Vec<u8>)| {
-        out.extend_from_slice(&packed);
-        Ok::<(), Infallible>(())
-    };
-    let _ = in_order(
-        |(piece, packed)| *packed = piece.take().map_or_else(Vec::new, |piece| deflated_piece(&write(piece))),
-        put,
-        |queue| {
-            for piece in pieces {
-                queue.push((Some(piece), Vec::new()));
-            }
-            Ok(())
-        },
-    );
+    made_in_order(pieces, |piece| deflated_piece(&write(piece)), |packed| out.extend(packed));
     out.extend(deflated(&[]));
     out
 }

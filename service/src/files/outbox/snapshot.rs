@@ -4,7 +4,7 @@ use super::changes::UnitOfMetric;
 use super::keys::each_part;
 use super::parts::put_long;
 use super::rows::{packed_pieces, unpacked, PIECE, SNAPSHOT};
-use super::state::State;
+use super::state::{Facts, State};
 use super::table::{KnownSeries, Table};
 use super::texts::{Texts, PART};
 use super::Series;
@@ -17,19 +17,13 @@ use std::sync::Arc;
 
 /// To be written without the lock.
 pub struct Snapshot {
-    pub epoch: Arc<str>,
-    pub next: u64,
-    pub acknowledged: u64,
-    pub journal: u64,
-    pub quarantined: BTreeSet<String>,
-    pub beside: BTreeSet<UnitOfMetric>,
-    pub since: Option<Since>,
+    pub facts: Facts,
     /// By their ids, none is left out.
     pub series: Vec<Series>,
     pub texts: Texts,
 }
 
-/// As it is written.
+/// As it is written: `Facts`, series and runs.
 #[derive(Deserialize)]
 struct Content {
     epoch: String,
@@ -45,24 +39,6 @@ struct Content {
     runs: Vec<RunRow>,
     #[serde(default)]
     beside: BTreeSet<UnitOfMetric>,
-}
-
-/// What of it is ahead of the series.
-#[derive(Serialize)]
-struct Ahead<'s> {
-    epoch: &'s str,
-    next: u64,
-    acknowledged: u64,
-    journal: u64,
-    quarantined: &'s BTreeSet<String>,
-}
-
-/// What is behind them.
-#[derive(Serialize)]
-struct Behind<'s> {
-    since: Option<Since>,
-    runs: Vec<RunRow>,
-    beside: &'s BTreeSet<UnitOfMetric>,
 }
 
 /// A part of what is written.
@@ -101,17 +77,18 @@ impl Snapshot {
             let run = series.run.as_ref()?;
             Some(RunRow::of(id, series.frontier, run))
         };
-        let Snapshot { next, acknowledged, journal, since, .. } = *self;
-        let Snapshot { epoch, quarantined, beside, .. } = self;
-        let ahead = json(&Ahead { epoch, next, acknowledged, journal, quarantined });
-        let runs = (0..).zip(&self.series).filter_map(run).collect();
-        let behind = json(&Behind { since, runs, beside });
-        // Both are objects.
-        let ahead = [&ahead[..ahead.len() - 1], b",\"series\":["].concat();
-        let behind = [b"],", &behind[1..]].concat();
+        let runs: Vec<RunRow> = (0..).zip(&self.series).filter_map(run).collect();
+        let Facts { epoch, next, acknowledged, journal, quarantined, since, beside } = &self.facts;
+        let ahead = format!(
+            r#"{{"epoch":{},"next":{next},"acknowledged":{acknowledged},"journal":{journal},"quarantined":{},"series":["#,
+            json(&&**epoch),
+            json(quarantined)
+        );
+        let behind =
+            format!(r#"],"since":{},"runs":{},"beside":{}}}"#, json(since), json(&runs), json(beside));
         let text = |text: &[u8]| Piece::Text(text.into());
-        let pieces = std::iter::once(Piece::Text(ahead));
-        let pieces = pieces.chain(self.parts()).chain(behind.chunks(PIECE).map(text));
+        let pieces = std::iter::once(text(ahead.as_bytes()));
+        let pieces = pieces.chain(self.parts()).chain(behind.as_bytes().chunks(PIECE).map(text));
         let mut out = Vec::new();
         put_long(&mut out, SNAPSHOT, &packed_pieces(pieces, |piece| self.written(piece)));
         out
@@ -131,7 +108,7 @@ impl Snapshot {
                 let mut out = Vec::new();
                 for (key, series) in rows {
                     out.push(b',');
-                    out.append(&mut json(&row(key, series)));
+                    out.extend_from_slice(json(&row(key, series)).as_bytes());
                 }
                 out.split_off(usize::from(ids.start == 0)) // nothing is ahead of the first
             }
@@ -140,12 +117,10 @@ impl Snapshot {
 
     pub fn read(bytes: &[u8]) -> Option<State> {
         let content: Content = unpacked(bytes)?;
-        let mut state = State::new(&content.epoch);
-        (state.next, state.acknowledged, state.journal) =
-            (content.next, content.acknowledged, content.journal);
-        (state.quarantined, state.since) = (content.quarantined, content.since);
-        state.beside = content.beside;
-        state.series = content.series;
+        let Content { next, acknowledged, journal, quarantined, since, beside, .. } = content;
+        let facts =
+            Facts { epoch: content.epoch.into(), next, acknowledged, journal, quarantined, since, beside };
+        let mut state = State { facts, series: content.series, ..State::default() };
         for row in content.runs {
             let series = &mut state.series.at_mut(row.0)?.series;
             series.run = Some(row.run(series.frontier));
@@ -154,9 +129,9 @@ impl Snapshot {
     }
 }
 
-fn json(value: &impl Serialize) -> Vec<u8> {
+fn json(value: &impl Serialize) -> String {
     // These types have no key that is not a text, and so can be written.
-    serde_json::to_vec(value).unwrap_or_default()
+    serde_json::to_string(value).unwrap_or_default()
 }
 
 impl<'de> Deserialize<'de> for Table {

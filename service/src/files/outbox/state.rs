@@ -79,9 +79,11 @@ pub struct Front {
     pub at: u64,
 }
 
-pub struct State {
+/// What is known beside series and requests.
+#[derive(Clone, Default)]
+pub struct Facts {
     /// Of the groups to come.
-    pub next_epoch: Arc<str>,
+    pub epoch: Arc<str>,
     pub next: u64,
     /// The sink has all up to this number.
     pub acknowledged: u64,
@@ -90,6 +92,11 @@ pub struct State {
     pub beside: BTreeSet<UnitOfMetric>,
     /// None until the outbox is opened.
     pub since: Option<Since>,
+}
+
+#[derive(Default)]
+pub struct State {
+    pub facts: Facts,
     pub series: Table,
     pub batches: VecDeque<Batch>,
     /// Of the waiting requests, on disk.
@@ -98,22 +105,12 @@ pub struct State {
 
 impl State {
     pub fn new(epoch: &str) -> State {
-        State {
-            next_epoch: epoch.into(),
-            next: 1,
-            acknowledged: 0,
-            journal: 1,
-            quarantined: BTreeSet::new(),
-            beside: BTreeSet::new(),
-            since: None,
-            series: Table::default(),
-            batches: VecDeque::new(),
-            bytes: 0,
-        }
+        let facts = Facts { epoch: epoch.into(), next: 1, journal: 1, ..Facts::default() };
+        State { facts, ..State::default() }
     }
 
     pub fn epoch(&self) -> &str {
-        self.batches.front().map_or(&self.next_epoch, |batch| &batch.epoch)
+        self.batches.front().map_or(&self.facts.epoch, |batch| &batch.epoch)
     }
 
     pub fn front(&self) -> Option<Front> {
@@ -124,17 +121,7 @@ impl State {
     pub fn snapshot(&mut self) -> Snapshot {
         self.series.renumber();
         let known = self.series.iter().map(|(_, known)| known.series.clone());
-        Snapshot {
-            epoch: self.next_epoch.clone(),
-            next: self.next,
-            acknowledged: self.acknowledged,
-            journal: self.journal,
-            quarantined: self.quarantined.clone(),
-            beside: self.beside.clone(),
-            since: self.since,
-            series: known.collect(),
-            texts: self.series.texts(),
-        }
+        Snapshot { facts: self.facts.clone(), series: known.collect(), texts: self.series.texts() }
     }
 
     pub fn wait(&mut self, batch: Batch) {
@@ -145,8 +132,8 @@ impl State {
     pub fn apply(&mut self, change: Change) {
         match change {
             Change::Group { group, count, segment, items } => {
-                self.journal = group.journal;
-                self.next = group.first + count;
+                self.facts.journal = group.journal;
+                self.facts.next = group.first + count;
                 if count > 0 {
                     let (first, epoch, since) = (group.first, group.epoch.clone(), group.since);
                     self.wait(Batch { first, count, epoch, since, segment, at: items.start, end: items.end });
@@ -162,10 +149,10 @@ impl State {
                     }
                 }
             }
-            Change::Quarantine(sender) => drop(self.quarantined.insert(sender)),
-            Change::Lift(sender) => drop(self.quarantined.remove(&sender)),
+            Change::Quarantine(sender) => drop(self.facts.quarantined.insert(sender)),
+            Change::Lift(sender) => drop(self.facts.quarantined.remove(&sender)),
             Change::Forget(ids) => self.forget(&ids),
-            Change::Beside(units) => self.beside.extend(units),
+            Change::Beside(units) => self.facts.beside.extend(units),
         }
     }
 
@@ -173,7 +160,7 @@ impl State {
         let forgotten = ids.iter().filter_map(|id| self.series.at(*id));
         let last = forgotten.map(|known| known.series.frontier).max();
         self.series.forget(ids);
-        let since = self.since.get_or_insert_default();
+        let since = self.facts.since.get_or_insert_default();
         since.forgotten = since.forgotten.max(last.unwrap_or(0));
     }
 
@@ -221,7 +208,7 @@ impl State {
     }
 
     fn acknowledge(&mut self, number: u64, length: u64) {
-        self.acknowledged = number;
+        self.facts.acknowledged = number;
         let Some(batch) = self.batches.front_mut() else {
             return;
         };

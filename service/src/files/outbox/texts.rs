@@ -8,8 +8,7 @@ use super::rows::{deflated_fast, inflated, numbers};
 use crate::files::records::take_number;
 use crate::files::shared_ends;
 use crate::otlp::series::SeriesKey;
-use crate::work::in_order;
-use std::convert::Infallible;
+use crate::work::made_in_order;
 use std::sync::Arc;
 
 /// So many are packed together: for one all of them are read.
@@ -102,21 +101,9 @@ impl Texts {
             return made(those);
         }
         let mut all = Vec::with_capacity(those.len());
-        let put = |(_, made): (Vec<(u32, V)>, Vec<T>)| {
-            all.extend(made);
-            Ok::<(), Infallible>(())
-        };
-        let _ = in_order(
-            |(part, all)| *all = made(std::mem::take(part)),
-            put,
-            |queue| {
-                let mut left = those.into_iter();
-                while left.len() > 0 {
-                    queue.push((left.by_ref().take(PART).collect(), Vec::new()));
-                }
-                Ok(())
-            },
-        );
+        let mut left = those.into_iter();
+        let parts = std::iter::from_fn(|| (left.len() > 0).then(|| left.by_ref().take(PART).collect()));
+        made_in_order(parts, made, |made| all.extend(made));
         all
     }
 

@@ -46,8 +46,8 @@ impl Outbox {
             let by_id = ends.by_id(&runs, &state.series);
             let (ends, new) = by_id.ok_or_else(|| self.unreadable(NotForwarded(OTHER_SERIES.into())))?;
             Group {
-                first: state.next,
-                epoch: state.next_epoch.clone(),
+                first: state.facts.next,
+                epoch: state.facts.epoch.clone(),
                 since: seconds(),
                 heard: Some(Instant::now()),
                 journal,
@@ -91,12 +91,12 @@ impl Outbox {
 
     pub fn quarantine(&self, sender: &str) -> Result<(), Fault> {
         let change = || Change::Quarantine(sender.into());
-        self.change(|state| (!state.quarantined.contains(sender)).then(change)).map(drop)
+        self.change(|state| (!state.facts.quarantined.contains(sender)).then(change)).map(drop)
     }
 
     pub fn lift(&self, sender: &str) -> Result<(), Fault> {
         let change = || Change::Lift(sender.into());
-        self.change(|state| state.quarantined.contains(sender).then(change)).map(drop)
+        self.change(|state| state.facts.quarantined.contains(sender).then(change)).map(drop)
     }
 
     /// Writes what is to be changed, and then changes it; whether there was something.
@@ -124,7 +124,7 @@ impl Outbox {
     ) -> Result<(), Fault> {
         writer.begin(&self.disk)?;
         self.free_space.use_up(bytes.len() as u64);
-        let begin = writer.segment.put(&[bytes])?;
+        let begin = writer.segment.put(bytes)?;
         let change = change(begin, writer.segment.number);
         if !matches!(change, Change::Acknowledge { .. }) {
             writer.segment.order()?;
@@ -238,7 +238,7 @@ impl Ends {
 /// Makes a segment that begins with a snapshot. It has another name until it is whole.
 pub(super) fn begin(disk: &Disk, folder: &Path, number: u64, snapshot: &Snapshot) -> Result<Segment, Fault> {
     let mut segment = Segment::create(disk, folder, Which::Outbox, number, Ahead::Nothing, None)?;
-    segment.put(&[&snapshot.records()])?;
+    segment.put(&snapshot.records())?;
     segment.order()?;
     segment.name()?;
     disk.order_folder(folder)?;

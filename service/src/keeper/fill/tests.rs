@@ -1,8 +1,8 @@
 //! What primes.
 
 use super::*;
-use crate::core::Names;
-use crate::otlp::series::{request_of, SeriesKey};
+use crate::core::{Core, Names};
+use crate::otlp::series::{request_of, zeros, SeriesKey};
 
 /// Else a late repeat would be taken, and a posted point be of another series than the one that was primed.
 #[test]

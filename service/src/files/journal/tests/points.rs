@@ -121,7 +121,7 @@ fn points_without_a_name_are_refused_by_name() {
     journal.turn();
     let mut record = Vec::new();
     record::put(&mut record, 5, &of_letters(b"a"));
-    let at = lock(&journal.shared.place).segment.put(&[&record]).unwrap();
+    let at = lock(&journal.shared.place).segment.put(&record).unwrap();
     let fault = journal.posts(1, u64::MAX, |_| true).unwrap_err().to_string();
     let place = format!("000000000002.seg, byte {at}: has points of a series");
     assert!(fault.contains(&place), "{fault}");

@@ -1,6 +1,8 @@
 //! When what was appended gets into the file, and what happens where that fails.
 
 use super::*;
+use std::future::{poll_fn, Future};
+use std::task::Poll;
 
 /// Puts a post behind the others, and writes nothing.
 fn append_only(journal: &Journal, text: &str) -> Ticket {
@@ -59,6 +61,19 @@ async fn posts_that_are_ready_on_a_thread_are_written_together() {
         assert_eq!(there(folder.path()), ["a", "b", "c"]);
     }
     assert_eq!(writes.load(SeqCst), before + 1);
+}
+
+/// Else it would be in memory alone until somebody posts.
+#[tokio::test]
+async fn what_was_appended_is_written_also_where_its_sender_goes_away() {
+    let folder = tempfile::tempdir().unwrap();
+    let journal = open(folder.path());
+    let ticket = append_only(&journal, "a");
+    let mut waiting = Box::pin(journal.durable(ticket));
+    let waits = poll_fn(|context| Poll::Ready(waiting.as_mut().poll(context).is_pending())).await;
+    assert!(waits, "it lets others append first");
+    drop(waiting);
+    assert_eq!(there(folder.path()), ["a"]);
 }
 
 #[test]

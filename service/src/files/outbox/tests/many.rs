@@ -73,7 +73,7 @@ fn a_snapshot_has_one_form() {
     let b = &state.series.get(&key_of("[\"b\"]").digest()).unwrap().series;
     assert_eq!((b.frontier, b.seen, b.owner.as_deref()), (9, 8, Some("me")));
     assert_eq!(b.run, Some(run_of(3, 5, &[5, 6])));
-    assert_eq!(state.beside, [unit_of("m", "ms")].into());
+    assert_eq!(state.facts.beside, [unit_of("m", "ms")].into());
     let record = state.snapshot().records();
     let (mut packed, mut rest) = (Vec::new(), &record[..]);
     while let Some(head) = rest.first_chunk() {

@@ -227,15 +227,9 @@ impl Drive for PostgresDrive {
         }
     }
 
-    fn write_at(&self, file: u64, parts: &[&[u8]], at: u64) -> io::Result<()> {
+    fn write_at(&self, file: u64, bytes: &[u8], at: u64) -> io::Result<()> {
         self.check()?;
-        let mut files = lock(&self.files);
-        let mut next = at;
-        for part in parts {
-            files.write(file, part, next)?;
-            next += part.len() as u64;
-        }
-        drop(files);
+        lock(&self.files).write(file, bytes, at)?;
         self.together.come();
         Ok(())
     }

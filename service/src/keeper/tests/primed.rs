@@ -1,0 +1,54 @@
+//! What a book is primed by that begins with the outbox alone.
+
+use super::*;
+use crate::files::Runs;
+
+/// As a kill leaves it behind a commit: what says whose its series are has not come.
+fn committed_without_owners(folder: &Folder) {
+    let (journal, outbox) = folder.slot(0).unwrap();
+    let core = Core::new(1).unwrap();
+    let mut read = core.read("A".into(), point("a", 10).into()).unwrap();
+    core.lock().admit(&mut read).unwrap();
+    journal.append(&read.post, read.names());
+    let bodies = core.lock().take_all().unwrap().texts().unwrap();
+    let (next, turned) = journal.turn();
+    journal.settle(turned);
+    outbox.commit_with(&bodies, next, Runs::new()).unwrap();
+    assert_eq!(outbox.without_owner().len(), 1);
+}
+
+/// Else whoever posts first behind that start would have the series.
+#[tokio::test(flavor = "multi_thread")]
+async fn a_book_is_primed_once_all_owners_are_known() {
+    let place = tempfile::tempdir().unwrap();
+    let folder = Folder::open(&place.path().join("data"), Durability::Process).unwrap();
+    committed_without_owners(&folder);
+    let run = Run::begin_in(folder, settings()).await;
+    let other = run.slot.post("B".into(), point("a", 20).into()).await;
+    assert_eq!(other, Refused::OtherWriter { point: 0 }.into());
+    assert_eq!((run.post(10).await.status(), run.post(20).await), (400, Outcome::taken(0)));
+    run.end().await;
+}
+
+/// It takes as long as many series need, and nobody waits for it then.
+#[tokio::test(flavor = "multi_thread")]
+async fn who_is_told_to_stop_while_it_is_primed_ends_soon() {
+    let place = tempfile::tempdir().unwrap();
+    let folder = Folder::open(&place.path().join("data"), Durability::Process).unwrap();
+    let (journal, outbox) = folder.slot(0).unwrap();
+    let (core, outbox) = (Core::new(1).unwrap(), Arc::new(outbox));
+    let held = core.lock();
+    let priming = Priming::begin(&core, &outbox, false);
+    let metrics = Arc::new(Metrics::new().unwrap());
+    let slot = Slot::new(0, journal, outbox, metrics, core.clone());
+    let (keeper, _orders) = Keeper::new(slot.clone(), settings());
+    let (stop, stopped) = watch::channel(false);
+    let running = tokio::spawn(keeper.behind(priming).run(stopped));
+    tokio::time::sleep(Duration::from_millis(50)).await;
+    stop.send(true).unwrap();
+    tokio::time::sleep(Duration::from_millis(50)).await;
+    assert!(!running.is_finished(), "its thread has the book still");
+    drop(held);
+    running.await.unwrap().unwrap();
+    assert!(!slot.is_ready(), "it was told to stop before");
+}
