@@ -26,7 +26,6 @@ pub mod identity;
 pub mod intake;
 pub mod keeper;
 pub mod latch;
-mod lock;
 mod log;
 pub mod metrics;
 pub mod operate;

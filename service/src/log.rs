@@ -14,7 +14,7 @@ pub use rate_limit::RateLimit;
 pub use shown::{all_shown, cut, shown};
 pub use time::{date, now, of_nanoseconds, seconds, since_1970, utc};
 
-use crate::work::Sound;
+use crate::work::locked;
 use prometheus::IntCounter;
 use std::backtrace::{Backtrace, BacktraceStatus};
 use std::fmt::Arguments;
@@ -99,7 +99,7 @@ impl Log {
 
     /// Waits for nobody.
     fn put(&self, line: &[u8]) {
-        let mut state = self.state.sound();
+        let mut state = locked(&self.state);
         let waiting = &mut state.waiting;
         // Behind one that is missing all are, so that there is one place to say it.
         if waiting.missing > 0 || waiting.text.len() + line.len() > MOST_WAITING {
@@ -121,7 +121,7 @@ impl Log {
 
     /// Waits for lines. Those that it returned before are written.
     fn next(&self) -> Lines {
-        let mut state = self.state.sound();
+        let mut state = locked(&self.state);
         state.is_writing = false;
         self.changed.notify_all();
         let woken = self.changed.wait_while(state, |state| state.waiting.is_empty());
@@ -134,7 +134,7 @@ impl Log {
         let left = until.saturating_duration_since(Instant::now());
         let is_under_way = |state: &mut State| state.is_writing || !state.waiting.is_empty();
         // Where nobody reads in time the lines are lost.
-        drop(self.changed.wait_timeout_while(self.state.sound(), left, is_under_way));
+        drop(self.changed.wait_timeout_while(locked(&self.state), left, is_under_way));
     }
 }
 

@@ -27,17 +27,6 @@ pub async fn blocking<T: Send + 'static>(work: impl FnOnce() -> T + Send + 'stat
     }
 }
 
-/// A lock of what is sound at any time, each change of it being whole: also where who had it has panicked.
-pub trait Sound<T> {
-    fn sound(&self) -> MutexGuard<'_, T>;
-}
-
-impl<T> Sound<T> for Mutex<T> {
-    fn sound(&self) -> MutexGuard<'_, T> {
-        self.lock().unwrap_or_else(PoisonError::into_inner)
-    }
-}
-
 /// What reads bodies: a short one in place, a longer one on a thread beside the runtime's, so that no short post waits after it. Of
 /// these there are so many at a time, since one takes several times its length of memory while it is read.
 pub struct Readers(Semaphore);

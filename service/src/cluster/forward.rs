@@ -20,11 +20,11 @@ pub use peer::{Unanswering, CONNECTIONS};
 use super::local_view::{Cluster, Places, NO_STORE};
 use super::owners::Whose;
 use super::terms::Doing;
-use crate::lock::lock;
 use crate::log::RateLimit;
 use crate::otlp::{Original, Outcome};
 use crate::slot::Elsewhere;
 use crate::tls::Tls;
+use crate::work::locked;
 use head::Head;
 use hyper::{Body, Request};
 use peer::{Peer, Peers};
@@ -196,7 +196,7 @@ impl<H: Here> Forward<H> {
 
     /// What came of a post that came then; none of one whose slot the instance has not, as it says.
     fn heard(&self, peer: &Peer, came: Instant, said: Result<Option<Outcome>, Broken>) -> Option<Outcome> {
-        lock(&self.counts).note(&said);
+        locked(&self.counts).note(&said);
         let reason = match said {
             Ok(said) => {
                 peer.answers();

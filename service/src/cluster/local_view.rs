@@ -6,8 +6,8 @@
 use super::owners::{Owners, Whose};
 use super::status::{Counted, Status, Unserved};
 use super::terms::Silence;
-use crate::lock::lock;
 use crate::log::shown;
+use crate::work::locked;
 use std::collections::{BTreeMap, BTreeSet};
 use std::sync::{Arc, Mutex, MutexGuard};
 use std::time::Duration;
@@ -66,7 +66,7 @@ impl Cluster {
     }
 
     pub(super) fn counted(&self) -> MutexGuard<'_, Counted> {
-        lock(&self.counted)
+        locked(&self.counted)
     }
 
     /// Who has which slot, as far as is known; it tells when that changes.
@@ -189,12 +189,12 @@ impl Database {
 
     /// It is changed whole under the lock.
     pub fn owners(&self) -> MutexGuard<'_, Owners> {
-        lock(&self.owners)
+        locked(&self.owners)
     }
 
     /// An own beat that was sent then is committed.
     pub fn has_beaten(&self, sent: Instant) {
-        *lock(&self.own_beats) = OwnBeats { beaten: Some(sent), why: None };
+        *locked(&self.own_beats) = OwnBeats { beaten: Some(sent), why: None };
     }
 
     /// Its last beat that is committed was so long ago.
@@ -205,12 +205,12 @@ impl Database {
 
     /// An own beat got no answer.
     pub fn is_silent(&self, silence: &Silence) {
-        lock(&self.own_beats).why = Some(silence.0.clone());
+        locked(&self.own_beats).why = Some(silence.0.clone());
         self.owners().unanswered();
     }
 
     fn beat_age(&self) -> Option<Duration> {
-        lock(&self.own_beats).beaten.map(|beaten| beaten.elapsed())
+        locked(&self.own_beats).beaten.map(|beaten| beaten.elapsed())
     }
 
     fn is_stalled(&self) -> bool {
@@ -219,14 +219,14 @@ impl Database {
 
     /// Why it does not answer, where it does not.
     fn silence(&self) -> Option<String> {
-        let said = lock(&self.own_beats).why.clone();
+        let said = locked(&self.own_beats).why.clone();
         let why = said.unwrap_or_else(|| format!("no answer within {} s", STALL.as_secs()));
         self.is_stalled().then_some(why)
     }
 
     /// These take no posts yet, though they are open here.
     pub fn fill(&self, slots: BTreeSet<u16>) {
-        lock(&self.unserved).filling = slots;
+        locked(&self.unserved).filling = slots;
     }
 
     fn whose(&self) -> BTreeMap<u16, Whose> {
@@ -234,13 +234,13 @@ impl Database {
             let owners = self.owners();
             (owners.whose(), owners.slots())
         };
-        lock(&self.unserved).note(&slots, Instant::now());
+        locked(&self.unserved).note(&slots, Instant::now());
         places
     }
 
     fn add_to(&self, status: &mut Status) {
         let owners = self.owners();
-        let unserved = lock(&self.unserved);
+        let unserved = locked(&self.unserved);
         status.name = owners.name().into();
         status.slots.extend(owners.slots());
         status.has_namesake |= owners.has_namesake();

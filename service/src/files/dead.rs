@@ -7,7 +7,7 @@ mod gone;
 
 use super::disk::{io_fault, Cursor, Disk};
 use super::free_space::FreeSpace;
-use super::{lock, seconds, Fault};
+use super::{locked, seconds, Fault};
 pub use gone::Became;
 use std::io::{self, BufRead, BufReader, Read};
 use std::path::{Path, PathBuf};
@@ -85,7 +85,7 @@ impl Dead {
             let source = io::Error::new(io::ErrorKind::InvalidInput, what);
             return Err(io_fault(&self.folder)(source));
         }
-        let _one = lock(&self.changing);
+        let _one = locked(&self.changing);
         let names = self.names(key)?;
         if names.iter().any(|name| self.has(name, body)) {
             // An earlier run may have ended before its name was durable.
@@ -140,7 +140,7 @@ impl Dead {
         if self.count() == 0 {
             return Ok(());
         }
-        let _one = lock(&self.changing);
+        let _one = locked(&self.changing);
         for name in self.names(key)? {
             if self.has(&name, body) {
                 self.remove(&name, Became::Taken)?;
@@ -152,7 +152,7 @@ impl Dead {
     /// By age, the oldest first. The reason of one that can't be read says that.
     pub fn list(&self) -> Result<Vec<Letter>, Fault> {
         let keys = {
-            let _one = lock(&self.changing);
+            let _one = locked(&self.changing);
             self.keys()?
         };
         let mut letters = Vec::new();
@@ -218,7 +218,7 @@ impl Dead {
 
     /// Removes it, of which this has become. Whether there was one.
     pub fn end(&self, key: &str, became: Became) -> Result<bool, Fault> {
-        let _one = lock(&self.changing);
+        let _one = locked(&self.changing);
         if !is_key(key) || !self.disk.has(&self.path(key))? {
             return Ok(false);
         }
@@ -246,7 +246,7 @@ impl Dead {
 
     /// Puts a letter as another's file has it. Durable when this returns.
     pub fn put(&self, key: &str, bytes: &[u8]) -> Result<(), Fault> {
-        let _one = lock(&self.changing);
+        let _one = locked(&self.changing);
         self.disk.put_file(&self.path(key), bytes)?;
         self.keys().map(drop)
     }

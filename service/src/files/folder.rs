@@ -19,7 +19,7 @@ mod version;
 use super::disk::{io_fault, Disk};
 use super::free_space::FreeSpace;
 use super::journal::{Expected, Left};
-use super::{lock, segment, Dead, Durability, Fault, Journal, Outbox};
+use super::{locked, segment, Dead, Durability, Fault, Journal, Outbox};
 use nix::errno::Errno;
 use nix::fcntl::{flock, FlockArg};
 use std::fs::{File, OpenOptions};
@@ -84,7 +84,7 @@ impl Folder {
         if !path.join("version").exists() {
             disk.make_lasting_folder(path).map_err(|fault| usable::named(fault, path))?;
         }
-        let locks = Arc::new(locked(path)?);
+        let locks = Arc::new(locks_of(path)?);
         let free_space = Arc::new(FreeSpace::new(path)?);
         let known = Version::read(path)?;
         if known.is_none() {
@@ -103,7 +103,7 @@ impl Folder {
         match known {
             Some(known) if known.lock.may_be(found) => {
                 let is_older = known.lock.born.is_none() && found.born.is_some();
-                *super::lock(&folder.version) = known;
+                *locked(&folder.version) = known;
                 if is_older {
                     folder.change(|version| version.lock = found)?;
                 }
@@ -153,7 +153,7 @@ impl Folder {
 
     /// How many slots share the senders.
     pub fn slots(&self) -> u16 {
-        lock(&self.version).slots.unwrap_or(1)
+        locked(&self.version).slots.unwrap_or(1)
     }
 
     /// Durable, or not done, when this returns: a start finds the one number or the other.
@@ -162,7 +162,7 @@ impl Folder {
     }
 
     fn change(&self, make: impl FnOnce(&mut Version)) -> Result<(), Fault> {
-        let mut version = lock(&self.version);
+        let mut version = locked(&self.version);
         let mut changed = version.clone();
         make(&mut changed);
         let path = self.path.join("version");
@@ -206,7 +206,7 @@ impl Folder {
 
     /// The journal, which goes on behind what was left in it.
     pub fn journal(&self, number: u16, outbox: &Outbox, left: Left) -> Result<Journal, Fault> {
-        let begun = lock(&self.version).begun.get(&number).copied();
+        let begun = locked(&self.version).begun.get(&number).copied();
         let journal = Journal::go_on(
             &self.disk,
             &self.of_slot(number).join("journal"),
@@ -227,7 +227,7 @@ impl Folder {
     pub fn outbox(&self, number: u16) -> Result<Outbox, Fault> {
         let slot = self.of_slot(number);
         let (journal, outbox) = (slot.join("journal"), slot.join("outbox"));
-        if lock(&self.version).begun.contains_key(&number) && !self.has_segments(&outbox)? {
+        if locked(&self.version).begun.contains_key(&number) && !self.has_segments(&outbox)? {
             return Err(Fault::Damaged { path: outbox, at: 0, what: LOST_SLOT.into() });
         }
         for path in [&slot, &journal, &outbox] {
@@ -236,7 +236,7 @@ impl Folder {
         self.disk.sync_folder(&slot)?;
         self.disk.sync_folder(&self.path)?;
         let epoch = match self.is_new || !segment::numbers(&self.disk, &outbox)?.is_empty() {
-            true => lock(&self.version).epoch.clone(),
+            true => locked(&self.version).epoch.clone(),
             // It counts from 1 again, and an outbox that was there and is gone has used these keys.
             false => self.renew_epoch()?,
         };
@@ -259,7 +259,7 @@ impl Folder {
             let number = name.to_str().and_then(|name| name.strip_prefix("slot-")?.parse().ok());
             found.extend(number.filter(|number| self.of_slot(*number).ends_with(&name)));
         }
-        found.extend(lock(&self.version).begun.keys());
+        found.extend(locked(&self.version).begun.keys());
         found.sort_unstable();
         found.dedup();
         Ok(found)
@@ -274,7 +274,7 @@ impl Folder {
 
 /// The kernel gives the locks back when the process ends, in whatever way. A started gateway does not get them: files
 /// of the standard library are closed where another program is started.
-fn locked(folder: &Path) -> Result<Locks, FolderFault> {
+fn locks_of(folder: &Path) -> Result<Locks, FolderFault> {
     let path = folder.join("lock");
     let mut options = OpenOptions::new();
     options.read(true).write(true).mode(0o600);

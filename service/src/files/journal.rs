@@ -33,7 +33,7 @@ use super::drive::Lost;
 use super::free_space::FreeSpace;
 use super::records::{self, Which};
 use super::segment::{self, Ahead, Dropped, Segment};
-use super::{lock, seconds, Durability, Fault};
+use super::{locked, seconds, Durability, Fault};
 pub use by_number::ByNumber;
 pub use held::Held;
 pub use name_records::shared_ends;
@@ -141,7 +141,7 @@ impl Journal {
         let (shared, now) = (&*self.shared, seconds());
         let mut record = Vec::new();
         record::put(&mut record, now, post);
-        let mut place = lock(&shared.place);
+        let mut place = locked(&shared.place);
         let names = match &post.body {
             Body::Text(_) => Vec::new(),
             Body::Points(points) => place.said.say(points, names),
@@ -166,7 +166,7 @@ impl Journal {
     /// A ticket for all that was appended until now. Of a drive it is for a sync that begins later, also where nothing was
     /// appended: so it is known then that the slot was still this instance's.
     pub fn now(&self) -> Ticket {
-        let mut place = lock(&self.shared.place);
+        let mut place = locked(&self.shared.place);
         place.ticket += u64::from(self.shared.disk.keeps_order());
         Ticket(place.ticket)
     }
@@ -222,14 +222,14 @@ impl Journal {
 
     /// Makes the last turn and the last note of what is held durable before what comes next, whatever was asked for posts.
     fn settle_kept(&self) {
-        let kept = lock(&self.shared.place).kept;
+        let kept = locked(&self.shared.place).kept;
         self.settle(Ticket(kept));
     }
 
     /// Deletes the segments before this, once what is held of them is durable.
     pub fn forget(&self, before: u64) -> Result<(), Fault> {
         let shared = &*self.shared;
-        let last = lock(&shared.place).segment.number;
+        let last = locked(&shared.place).segment.number;
         self.settle_kept();
         let mut numbers = segment::numbers(&shared.disk, &shared.folder)?;
         numbers.retain(|number| *number < before && *number < last);
@@ -242,14 +242,14 @@ impl Journal {
         for number in numbers {
             shared.disk.remove(&segment::path(&shared.folder, number))?;
         }
-        lock(&shared.sizes).retain(|size| size.number >= before || size.number >= last);
+        locked(&shared.sizes).retain(|size| size.number >= before || size.number >= last);
         self.forget_held(before.min(last))
     }
 
     /// Bytes in the segments that are there, and when the first of their posts was appended (seconds since 1970).
     /// Never waits for the disk.
     pub fn size(&self) -> (u64, Option<u64>) {
-        let sizes = lock(&self.shared.sizes);
+        let sizes = locked(&self.shared.sizes);
         let bytes = sizes.iter().map(|size| size.bytes).sum();
         (bytes, sizes.iter().find_map(|size| size.first))
     }
@@ -284,7 +284,7 @@ impl Shared {
         }
         place.ticket += 1;
         place.moved.remove(&post.sender);
-        if let Some(size) = lock(&self.sizes).last_mut() {
+        if let Some(size) = locked(&self.sizes).last_mut() {
             size.bytes += length;
             size.first.get_or_insert(now);
         }
@@ -293,7 +293,7 @@ impl Shared {
 
     fn begin(&self, place: &mut Place, number: u64) -> Result<(), Fault> {
         place.segment.end()?;
-        let mut prepared = lock(&self.next);
+        let mut prepared = locked(&self.next);
         let mut next = match prepared.take() {
             Some(next) if next.number == number => next,
             other => {
@@ -311,7 +311,7 @@ impl Shared {
         place.said = NamedNumbers::default();
         place.ticket += 1;
         place.kept = place.ticket;
-        lock(&self.sizes).push(Size { number, bytes: 0, first: None });
+        locked(&self.sizes).push(Size { number, bytes: 0, first: None });
         Ok(())
     }
 }

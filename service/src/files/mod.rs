@@ -28,7 +28,7 @@ pub use journal::{
 pub use outbox::{Beginning, Outbox, Owned, Runs, Series, UnitOfMetric, Waits};
 pub use segment::Dropped;
 
-use std::sync::{Mutex, MutexGuard, PoisonError};
+use crate::work::locked;
 
 /// How durable a post is before its sender is answered.
 #[derive(Clone, Copy, Debug, PartialEq, Eq, clap::ValueEnum)]
@@ -50,11 +50,6 @@ pub enum Fault {
     /// The slot is another instance's: it ends here, and nothing else does.
     #[error(transparent)]
     Lost(#[from] Lost),
-}
-
-/// A lock whose holder panicked is taken as it is: what it guards is changed only once the files have it.
-fn lock<T>(mutex: &Mutex<T>) -> MutexGuard<'_, T> {
-    mutex.lock().unwrap_or_else(PoisonError::into_inner)
 }
 
 /// Nanoseconds since 1970.

@@ -25,7 +25,7 @@ use super::disk::Disk;
 use super::drive::Lost;
 use super::free_space::FreeSpace;
 use super::segment::{self, Dropped};
-use super::{lock, Fault};
+use super::{locked, Fault};
 use crate::otlp::series::{self, Digest, NotForwarded, SeriesKey};
 use crate::runs::{Run, Since};
 use crate::work::blocking;
@@ -108,12 +108,12 @@ impl Outbox {
     /// The epoch of the first waiting request; where none waits, of those to come. Drawn when the folder was made,
     /// and anew where it was put back.
     pub fn epoch(&self) -> String {
-        lock(&self.state).epoch().to_string()
+        locked(&self.state).epoch().to_string()
     }
 
     /// The journal's first segment whose posts are in no group.
     pub fn journal(&self) -> u64 {
-        lock(&self.state).facts.journal
+        locked(&self.state).facts.journal
     }
 
     pub fn series(&self) -> HashMap<SeriesKey, Series> {
@@ -138,7 +138,7 @@ impl Outbox {
 
     /// The key of a series that is known.
     pub fn key(&self, series: &Digest) -> Option<SeriesKey> {
-        let state = lock(&self.state);
+        let state = locked(&self.state);
         let key = state.series.keys(state.series.id_of(series).into_iter()).next();
         key
     }
@@ -155,7 +155,7 @@ impl Outbox {
 
     /// Those that are wanted, by their ids, and the texts that have their keys.
     fn those(&self, wanted: impl Fn(&Series) -> bool) -> (Vec<(u32, Series)>, Texts) {
-        let state = lock(&self.state);
+        let state = locked(&self.state);
         let all = state.series.iter().map(|(id, known)| (id, &known.series));
         let those = all.filter(|(_, series)| wanted(series));
         (those.map(|(id, series)| (id, series.clone())).collect(), state.series.texts())
@@ -163,26 +163,26 @@ impl Outbox {
 
     /// When what is known here began.
     pub fn since(&self) -> Since {
-        lock(&self.state).facts.since.unwrap_or_default()
+        locked(&self.state).facts.since.unwrap_or_default()
     }
 
     /// Where a series' last forwarded point ends; 0 of one that is not known.
     pub fn frontier(&self, series: &Digest) -> u64 {
-        let state = lock(&self.state);
+        let state = locked(&self.state);
         state.series.get(series).map_or(0, |known| known.series.frontier)
     }
 
     pub fn owner(&self, series: &Digest) -> Option<String> {
-        let state = lock(&self.state);
+        let state = locked(&self.state);
         Some(state.series.get(series)?.series.owner.as_ref()?.to_string())
     }
 
     pub fn series_count(&self) -> usize {
-        lock(&self.state).series.len()
+        locked(&self.state).series.len()
     }
 
     pub fn quarantined(&self) -> BTreeSet<String> {
-        lock(&self.state).facts.quarantined.clone()
+        locked(&self.state).facts.quarantined.clone()
     }
 
     /// Leaves out the series that no group had for so long, but those in `keep`. Which these were.
@@ -196,12 +196,12 @@ impl Outbox {
 
     /// Whether there is a series to forget, but those in `keep`.
     pub fn has_any_of(&self, age: Duration, keep: &HashSet<Digest>) -> bool {
-        lock(&self.state).series.old(Age::from_now(age), keep).next().is_some()
+        locked(&self.state).series.old(Age::from_now(age), keep).next().is_some()
     }
 
     /// How many requests wait, how many bytes they take on disk, and the first of them.
     pub fn waiting(&self) -> (u64, u64, Option<Waiting>) {
-        let state = lock(&self.state);
+        let state = locked(&self.state);
         (
             state.facts.next - 1 - state.facts.acknowledged,
             state.bytes,
@@ -227,7 +227,7 @@ impl Outbox {
     /// Returns the first waiting request with its body, as soon as there is one, and it is as it was committed.
     pub async fn first(&self) -> Result<(Waiting, Vec<u8>), Fault> {
         loop {
-            let front = lock(&self.state).front();
+            let front = locked(&self.state).front();
             let Some(front) = front else {
                 // A call that came between is kept for this one.
                 self.arrived.notified().await;
@@ -248,7 +248,7 @@ impl Outbox {
     /// Makes durable all that was written. In a folder it is already.
     pub fn settle(&self) -> Result<(), Fault> {
         if self.disk.keeps_order() {
-            let next = lock(&self.state).facts.next;
+            let next = locked(&self.state).facts.next;
             self.disk.sync_folder(&self.folder)?;
             self.settled.fetch_max(next, SeqCst);
         }
@@ -268,7 +268,7 @@ impl Outbox {
     /// The sink has all up to this request: what told so is not in the outbox.
     pub(super) fn is_delivered_to(&self, number: u64) -> Result<(), Fault> {
         loop {
-            let first = lock(&self.state).front().map(|front| front.waiting.number);
+            let first = locked(&self.state).front().map(|front| front.waiting.number);
             match first.filter(|first| *first <= number) {
                 Some(first) => self.acknowledge(first)?,
                 None => return Ok(()),
@@ -289,7 +289,7 @@ impl Outbox {
     /// Notes that the sink has the first waiting request, or that it lies in `dead/`. Lost, it is sent again under the same key.
     pub fn acknowledge(&self, number: u64) -> Result<(), Fault> {
         let front = {
-            let state = lock(&self.state);
+            let state = locked(&self.state);
             if number <= state.facts.acknowledged {
                 return Ok(());
             }
@@ -306,7 +306,7 @@ impl Outbox {
         let taken = self.change(|state| {
             (number > state.facts.acknowledged).then_some(Change::Acknowledge { number, length })
         })?;
-        if taken && lock(&self.state).front().map(|now| now.segment) != Some(front.segment) {
+        if taken && locked(&self.state).front().map(|now| now.segment) != Some(front.segment) {
             self.sweep()?;
         }
         Ok(())

@@ -2,7 +2,7 @@
 //! was synced the first ones, and of those that were deleted any: not every file system keeps the order of deletions.
 
 use super::disk::{Call, Disk};
-use super::lock;
+use super::locked;
 use super::test_random::TestRandom;
 use std::collections::{BTreeMap, HashMap};
 use std::os::unix::fs::MetadataExt;
@@ -111,7 +111,7 @@ pub(super) fn disk(shadow: &Arc<Mutex<Shadow>>, calls: u64) -> Disk {
 pub(super) fn disk_behind(shadow: &Arc<Mutex<Shadow>>, left: Arc<AtomicU64>) -> Disk {
     let shadow = shadow.clone();
     Disk::failing(move |call, path| {
-        let mut shadow = lock(&shadow);
+        let mut shadow = locked(&shadow);
         match left.fetch_update(SeqCst, SeqCst, |left| left.checked_sub(1)) {
             Ok(_) => shadow.see(call, path),
             Err(_) => return Err(std::io::Error::other("the power is lost")),

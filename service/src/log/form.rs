@@ -150,7 +150,7 @@ impl Visit for Said {
 #[cfg(test)]
 mod tests {
     use super::*;
-    use crate::work::Sound;
+    use crate::work::locked;
     use prometheus::IntCounter;
     use tracing_subscriber::prelude::*;
 
@@ -164,7 +164,7 @@ mod tests {
             tracing::warn!(sender, reason, points = 7, "points of {sender}\n<3>are not taken: {reason}");
             tracing::error!(target: "h2::codec", stream = 5, "lost");
         });
-        let text = String::from_utf8(log.state.sound().waiting.text.clone()).unwrap();
+        let text = String::from_utf8(locked(&log.state).waiting.text.clone()).unwrap();
         text
     }
 

@@ -1,6 +1,6 @@
 //! What may happen at any rate, and is told now and then.
 
-use crate::work::Sound;
+use crate::work::locked;
 use std::sync::Mutex;
 use std::time::{Duration, Instant};
 
@@ -26,7 +26,7 @@ impl RateLimit {
     }
 
     fn is_due_at(&self, now: Instant) -> bool {
-        let mut last = self.last.sound();
+        let mut last = locked(&self.last);
         let is_due = last.is_none_or(|last: Instant| now >= last + self.between);
         if is_due {
             *last = Some(now);

@@ -33,14 +33,14 @@ fn lines_without_room_are_counted_and_missed_in_their_place() {
     let log = log();
     write(&log, writer);
     log.put(&[&[b'-'; MOST_WAITING / 2][..], b"\n"].concat()); // more than a pipe takes: the thread stands still
-    while !log.state.sound().waiting.is_empty() {
+    while !locked(&log.state).waiting.is_empty() {
         std::thread::yield_now();
     }
     let all = 3 * MOST_WAITING / 1000;
     (0..all).for_each(|number| log.put(line(number).as_bytes()));
     let lost = log.lost.get();
     assert!(lost > 0, "all found room");
-    assert!(log.state.sound().waiting.text.len() <= MOST_WAITING);
+    assert!(locked(&log.state).waiting.text.len() <= MOST_WAITING);
     let reading = std::thread::spawn(move || {
         let mut text = String::new();
         while !text.ends_with("last\n") {

@@ -4,7 +4,7 @@ use super::make::metrics;
 use crate::cluster::{Forwarded, Status};
 use crate::operate::DatabaseStatus;
 use crate::store::postgres::Counts;
-use crate::work::Sound;
+use crate::work::locked;
 use prometheus::{Gauge, GaugeVec, IntCounter, IntCounterVec, IntGauge, IntGaugeVec};
 use std::sync::atomic::Ordering::Relaxed;
 use std::sync::Mutex;
@@ -49,7 +49,7 @@ impl OfCluster {
         forwarded: Forwarded,
         writes: &Counts,
     ) {
-        let _one = self.setting.sound();
+        let _one = locked(&self.setting);
         self.slots_owned.set(owned as i64);
         self.slot_term.reset();
         for (slot, term) in &seen.terms {

@@ -11,7 +11,7 @@ pub use rounding::{RoundedSeries, SeriesOfRule, SHOWN as SHOWN_OF_RULE};
 
 use crate::otlp::{Cause, Causes, Outcome, Rounded, Rounding};
 use crate::shares::Used;
-use crate::work::Sound;
+use crate::work::locked;
 use make::metrics;
 use prometheus::core::Collector;
 use prometheus::{
@@ -202,7 +202,7 @@ impl Metrics {
     }
 
     fn has_label(&self, sender: &str) -> bool {
-        let mut senders = self.senders.sound();
+        let mut senders = locked(&self.senders);
         if senders.contains(sender) {
             return true;
         }

@@ -4,7 +4,7 @@
 //! nobody posts to are forgotten.
 
 use crate::otlp::{Rounded, Rounding};
-use crate::work::Sound;
+use crate::work::locked;
 use std::cmp::Ordering;
 use std::collections::{BTreeMap, HashMap};
 use std::sync::atomic::{AtomicUsize, Ordering::Relaxed};
@@ -63,7 +63,7 @@ impl RoundingBySeries {
         if rounded.points.is_empty() {
             return;
         }
-        let mut table = self.table.sound();
+        let mut table = locked(&self.table);
         table.add(rounded);
         let most = self.most.load(Relaxed);
         if table.count() > most {
@@ -73,7 +73,7 @@ impl RoundingBySeries {
 
     /// By how much one series was rounded at most, by rule.
     pub fn greatest(&self) -> Vec<(Arc<str>, f64)> {
-        let table = self.table.sound();
+        let table = locked(&self.table);
         let rules = table.rules.iter();
         rules
             .map(|(rule, series)| {
@@ -84,7 +84,7 @@ impl RoundingBySeries {
     }
 
     pub fn of_rule(&self, rule: &str) -> SeriesOfRule {
-        let table = self.table.sound();
+        let table = locked(&self.table);
         let Some(series) = table.rules.get(rule) else {
             return SeriesOfRule::default();
         };
@@ -218,7 +218,7 @@ mod tests {
         let found = table.of_rule("s=1000:ms");
         // The series that was rounded again is there still, with all that it was rounded by.
         assert_eq!((found.count, names(&found)[0]), (10_000 - 625, ("n0", 2, 1.0)));
-        let table = table.table.sound();
+        let table = locked(&table.table);
         let of = |name: &str| table.rules["s=1000:ms"].values().any(|one| one.metric == name);
         let left_out = 10_001 - found.count;
         assert!(!of("n1") && !of(&format!("n{left_out}")));

@@ -7,7 +7,7 @@
 use super::user;
 use crate::intake::user::User;
 use crate::log::{all_shown, cut};
-use crate::work::{blocking, Sound};
+use crate::work::{blocking, locked};
 use serde::Serialize;
 use std::fs::{File, OpenOptions};
 use std::future::Future;
@@ -153,7 +153,7 @@ impl Acts {
     fn put(&self, act: &Act, outcome: Option<&str>) {
         let Act { who, asked: Asked { what, of, given } } = act;
         let line = Written { time: crate::log::now(), who, act: what, of, given, outcome };
-        let _one = self.file.sound();
+        let _one = locked(&self.file);
         if let Err(error) = self.append(&line, outcome.is_none()) {
             let (file, reason) = (self.folder.join(NAME).display().to_string(), error.to_string());
             tracing::warn!(file, reason, "{file} can't be written: {reason}");

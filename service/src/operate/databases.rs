@@ -3,7 +3,7 @@
 
 use super::{DatabaseStatus, Units};
 use crate::store::postgres::{Copies, Counts, PostgresStore};
-use crate::work::Sound;
+use crate::work::locked;
 use std::sync::{Arc, Mutex, Weak};
 use std::time::Duration;
 
@@ -25,7 +25,7 @@ impl Databases {
     /// Looks until it is dropped.
     pub fn begin(store: &Arc<PostgresStore>, asked: Copies) -> Arc<Databases> {
         let databases = Databases::of(store.names(), asked, store.counts().clone());
-        let count = databases.seen.sound().len();
+        let count = locked(&databases.seen).len();
         for number in 0..count {
             tokio::spawn(look(store.clone(), Arc::downgrade(&databases), number));
         }
@@ -44,7 +44,7 @@ impl Databases {
 
     /// Each that does not answer, and why not, where it is known of each.
     pub fn silent(&self, known: &[Option<String>]) -> Vec<String> {
-        let seen = self.seen.sound();
+        let seen = locked(&self.seen);
         let each = seen.iter().zip(known);
         let silent =
             each.filter_map(|(of, why)| Some(format!("{} does not answer: {}", of.database, why.as_ref()?)));
@@ -53,7 +53,7 @@ impl Databases {
 
     /// In their order. `beat_ages` are since the last own beat in each that is committed.
     pub fn status(&self, units: &Units, beat_ages: &[Option<Duration>]) -> Vec<DatabaseStatus> {
-        let mut all = self.seen.sound().clone();
+        let mut all = locked(&self.seen).clone();
         for (of, age) in all.iter_mut().zip(beat_ages) {
             of.doubt_seconds = age.filter(|age| *age > BEAT).map_or(0, |age| age.as_secs());
         }
@@ -83,7 +83,7 @@ async fn look(store: Arc<PostgresStore>, databases: Weak<Databases>, number: usi
         let Some(databases) = databases.upgrade() else {
             return;
         };
-        let mut seen = databases.seen.sound();
+        let mut seen = locked(&databases.seen);
         (seen[number].copies, seen[number].why) = (copies, why);
     }
 }

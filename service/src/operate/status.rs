@@ -11,7 +11,7 @@ use crate::files::Held;
 use crate::log::seconds;
 use crate::metrics::RoundedSeries;
 use crate::shares::Used;
-use crate::work::Sound;
+use crate::work::locked;
 use serde::{Deserialize, Serialize};
 use std::collections::BTreeSet;
 
@@ -279,7 +279,7 @@ impl SlotStatus {
     fn of(undelivered: &Undelivered) -> SlotStatus {
         let outbox = &undelivered.outbox;
         let (waiting, bytes, first) = outbox.waiting();
-        let delivery = undelivered.delivery.sound().clone();
+        let delivery = locked(&undelivered.delivery).clone();
         SlotStatus {
             slot: undelivered.number,
             series: outbox.series_count(),

@@ -2,8 +2,8 @@
 
 use super::tls::Tls;
 use super::Server;
-use crate::lock::lock;
 use crate::sinks::roots::{self, NoRoots};
+use crate::work::locked;
 use std::future::poll_fn;
 use std::sync::{Arc, Mutex};
 use std::time::Duration;
@@ -98,13 +98,13 @@ impl Warnings {
     fn note(&self, message: &AsyncMessage) {
         if let AsyncMessage::Notice(notice) = message {
             if is_doubt(notice.code(), notice.routine()) {
-                *lock(&self.0) = Some(notice.message().into());
+                *locked(&self.0) = Some(notice.message().into());
             }
         }
     }
 
     pub(crate) fn take(&self) -> Option<String> {
-        lock(&self.0).take()
+        locked(&self.0).take()
     }
 }
 

@@ -17,7 +17,7 @@ pub use law::{Entry, First, Kind, Options, Refused, Reset, Run, Since};
 use crate::core::Names;
 use crate::files::{self, Outbox, Points};
 use crate::otlp::series::{self, Digest, SeriesKey};
-use crate::work::Sound;
+use crate::work::locked;
 use law::{entry, Added};
 use std::collections::HashMap;
 use std::sync::atomic::{AtomicUsize, Ordering::Relaxed};
@@ -75,7 +75,7 @@ impl Runs {
 
     /// Waits for the lock. It is taken before that of the book.
     pub fn lock(&self) -> Locked<'_> {
-        self.state.sound() // each change of it is whole, or undone by a draft
+        locked(&self.state) // each change of it is whole, or undone by a draft
     }
 
     /// Puts what a start has found in the place of all.

@@ -17,7 +17,7 @@ use crate::post_reports::Reported;
 use crate::slot::{Phase, Slot, Slots};
 use crate::store::postgres::{Copies, Member, PostgresDrive, PostgresStore, Server};
 use crate::tls;
-use crate::work::{blocking, Sound};
+use crate::work::{blocking, locked};
 use anyhow::{anyhow, Context};
 use std::collections::{BTreeMap, BTreeSet};
 use std::sync::{Arc, Mutex};
@@ -171,7 +171,7 @@ struct Instance {
 impl Instance {
     /// Nothing of it is written any more.
     fn forget(&self, slot: u16) -> Option<Arc<PostgresDrive>> {
-        let drive = self.open.sound().remove(&slot);
+        let drive = locked(&self.open).remove(&slot);
         if let Some(drive) = &drive {
             drive.lose();
         }
@@ -190,7 +190,7 @@ impl Instance {
             Fault::Lost(_) => Unopened::Lost,
             fault => Unopened::Fault(fault.to_string()),
         })?;
-        self.open.sound().insert(slot, drive);
+        locked(&self.open).insert(slot, drive);
         let files = Files {
             number: slot,
             journal,

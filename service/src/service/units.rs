@@ -7,7 +7,7 @@ use crate::operate;
 use crate::post_reports::{Reported, Reporter};
 use crate::sinks::Sink;
 use crate::slot::{Place, Shared, Slot, Slots};
-use crate::work::{blocking, Sound};
+use crate::work::{blocking, locked};
 use std::collections::BTreeMap;
 use std::sync::{Arc, Mutex};
 use tokio::sync::{mpsc, watch};
@@ -52,12 +52,12 @@ impl AtWork {
         self.of_desk.put(unit.of_desk.clone());
         let (stop, stopped) = watch::channel(false);
         let task = tokio::spawn(run(number, unit, stopped, self.ends.clone()));
-        self.tasks.sound().insert(number, Task { stop, task });
+        locked(&self.tasks).insert(number, Task { stop, task });
     }
 
     /// Ends a slot once all that was taken is in its outbox; false where that took too long.
     pub async fn stop(&self, number: u16) -> Result<bool, Ended> {
-        let task = self.tasks.sound().remove(&number);
+        let task = locked(&self.tasks).remove(&number);
         let Some(mut task) = task else { return Ok(true) };
         task.stop.send_replace(true);
         let ended = (&mut task.task).await;
@@ -67,7 +67,7 @@ impl AtWork {
 
     /// The same of all at once.
     pub async fn stop_all(self: &Arc<Self>) -> Result<bool, Ended> {
-        let numbers: Vec<u16> = self.tasks.sound().keys().copied().collect();
+        let numbers: Vec<u16> = locked(&self.tasks).keys().copied().collect();
         let mut stopping = JoinSet::new();
         for number in numbers {
             let at_work = self.clone();
@@ -83,7 +83,7 @@ impl AtWork {
 
     /// Ends a slot that is another's: it answers and delivers nothing any more.
     pub fn lose(&self, number: u16) {
-        let task = self.tasks.sound().remove(&number);
+        let task = locked(&self.tasks).remove(&number);
         if let Some(unit) = self.of_desk.remove(number) {
             unit.slot.lose();
         }

@@ -4,9 +4,9 @@ use super::{backoff, Fate, Forwarded, Sink};
 use crate::files::outbox::Waiting;
 use crate::files::{Dead, Fault, Lost, Outbox};
 use crate::latch::Latch;
-use crate::lock::lock;
 use crate::metrics::Metrics;
 use crate::work::blocking;
+use crate::work::locked;
 use std::future::Future;
 use std::pin::pin;
 use std::sync::{Arc, Mutex};
@@ -200,9 +200,9 @@ impl<S: Store> Run<S> {
              or away"
         );
         tracing::warn!(slot, reason, "slot {slot}: {reason}");
-        let before = lock(&self.state).trouble.replace(reason);
+        let before = locked(&self.state).trouble.replace(reason);
         sure.await??;
-        lock(&self.state).trouble = before;
+        locked(&self.state).trouble = before;
         tracing::info!(
             slot,
             "slot {slot}: the store says in time that it is this instance's: requests are sent again"
@@ -218,12 +218,12 @@ impl<S: Store> Run<S> {
                 let full =
                     format!("the disk has no room to keep {key} in dead/, which the sink refused: {reason}");
                 tracing::warn!(key, reason = full, "{full}; nothing is sent until there is more");
-                before = Some(lock(&self.state).trouble.replace(full));
+                before = Some(locked(&self.state).trouble.replace(full));
             }
             self.unless_stopped(tokio::time::sleep(ROOM)).await?;
         }
         if let Some(before) = before {
-            lock(&self.state).trouble = before;
+            locked(&self.state).trouble = before;
         }
         Ok(())
     }
@@ -295,7 +295,7 @@ impl<S: Store> Run<S> {
     /// Notes a try that failed. How many it were.
     fn failed(&self, key: &str, reason: String, outcome: &str) -> u64 {
         self.metrics.deliveries.with_label_values(&[outcome]).inc();
-        let mut state = lock(&self.state);
+        let mut state = locked(&self.state);
         state.tries += 1;
         if state.trouble.is_none() {
             let sink = self.sink.name();
@@ -312,7 +312,7 @@ impl<S: Store> Run<S> {
 
     fn ended(&self, outcome: &str) {
         self.metrics.deliveries.with_label_values(&[outcome]).inc();
-        let mut state = lock(&self.state);
+        let mut state = locked(&self.state);
         if state.trouble.is_some() {
             let (sink, tries) = (self.sink.name(), state.tries);
             tracing::info!(sink, tries, "{sink} answers again; attempts that failed: {tries}");

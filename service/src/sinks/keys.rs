@@ -1,7 +1,7 @@
 //! One key is sent once at a time: the delivery and an operator may have the same request, where a run was killed before
 //! the outbox knew that it lies in `dead/`.
 
-use crate::lock::lock;
+use crate::work::locked;
 use std::collections::HashSet;
 use std::sync::Mutex;
 use tokio::sync::Notify;
@@ -24,7 +24,7 @@ impl Keys {
     pub async fn hold(&self, key: &str) -> Held<'_> {
         loop {
             let freed = self.freed.notified(); // before it is looked, so that no end is missed
-            if lock(&self.held).insert(key.to_string()) {
+            if locked(&self.held).insert(key.to_string()) {
                 let key = key.to_string();
                 return Held { keys: self, key };
             }
@@ -35,7 +35,7 @@ impl Keys {
 
 impl Drop for Held<'_> {
     fn drop(&mut self) {
-        lock(&self.keys.held).remove(&self.key);
+        locked(&self.keys.held).remove(&self.key);
         self.keys.freed.notify_waiters();
     }
 }

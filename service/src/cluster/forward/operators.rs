@@ -4,7 +4,7 @@
 use super::internal::{whole, Internal};
 use super::{owner_answer, Broken, Forward, Forwarded, Here, Unanswering};
 use crate::cluster::terms::Doing;
-use crate::lock::lock;
+use crate::work::locked;
 use bytes::Bytes;
 use hyper::{Body, Request, Response};
 use std::sync::Arc;
@@ -53,7 +53,7 @@ impl<H: Here> Asks for Forward<H> {
     }
 
     fn forwarded(&self) -> Forwarded {
-        *lock(&self.counts)
+        *locked(&self.counts)
     }
 
     fn unanswering(&self) -> Vec<Unanswering> {

@@ -1,6 +1,6 @@
 //! The other instances as they are asked: how much at once, and since when one is silent.
 
-use crate::lock::lock;
+use crate::work::locked;
 use std::collections::HashMap;
 use std::sync::{Arc, Mutex};
 use std::time::Duration;
@@ -62,7 +62,7 @@ pub struct Unanswering {
 
 impl Peers {
     pub fn at(&self, address: &str) -> Arc<Peer> {
-        let mut peers = lock(&self.0);
+        let mut peers = locked(&self.0);
         let new = || {
             Arc::new(Peer {
                 address: address.into(),
@@ -77,12 +77,12 @@ impl Peers {
     /// Those that have answered none for long, and are still asked.
     pub fn unanswering(&self) -> Vec<Unanswering> {
         let unanswering = |peer: &Arc<Peer>| {
-            let silent = lock(&peer.silent);
+            let silent = locked(&peer.silent);
             let silent = silent.as_ref().filter(|silent| silent.is_long() && !silent.is_over())?;
             let (address, time) = (peer.address.clone(), silent.since.elapsed());
             Some(Unanswering { address, time, why: silent.why.clone() })
         };
-        lock(&self.0).values().filter_map(unanswering).collect()
+        locked(&self.0).values().filter_map(unanswering).collect()
     }
 }
 
@@ -101,12 +101,12 @@ impl Peer {
     }
 
     pub fn answers(&self) {
-        *lock(&self.silent) = None;
+        *locked(&self.silent) = None;
     }
 
     /// A post that came then has got no answer: whether that has been so for long.
     pub fn is_silent(&self, came: Instant, why: &str) -> bool {
-        let mut silent = lock(&self.silent);
+        let mut silent = locked(&self.silent);
         let before = silent.take().filter(|before| !before.is_over());
         let since = before.map_or(came, |before| before.since);
         silent.insert(Silent { since, last: Instant::now(), why: why.into() }).is_long()

@@ -1,9 +1,9 @@
 //! What instances speak with each other, and the connections that are kept.
 
 use super::{peer, CONNECT, IDLE};
-use crate::lock::lock;
 use crate::sinks::roots::client_config;
 use crate::tls::{Contexts, Tls};
+use crate::work::locked;
 use hyper::client::HttpConnector;
 use hyper::{Body, Client};
 use hyper_rustls::HttpsConnector;
@@ -47,7 +47,7 @@ impl Connections {
     }
 
     pub fn asks(&self) -> Asks {
-        let mut now = lock(&self.now);
+        let mut now = locked(&self.now);
         if let Some(tls) = &self.tls {
             let latest = tls.contexts();
             if !now.by.as_ref().is_some_and(|by| Arc::ptr_eq(by, &latest)) {

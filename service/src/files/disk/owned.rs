@@ -1,8 +1,8 @@
 //! A drive that this instance has, until it is lost.
 
 use crate::files::drive::{is_lost, lost, Drive, Lost};
-use crate::files::lock;
 use crate::latch::Latch;
+use crate::work::locked;
 use std::io;
 use std::sync::atomic::{AtomicU64, Ordering::SeqCst};
 use std::sync::{Arc, Mutex, OnceLock};
@@ -73,7 +73,7 @@ impl Owned {
         let (made, began) = (self.made.load(SeqCst), Instant::now());
         self.call(|drive| drive.sync())?;
         self.durable.fetch_max(made, SeqCst);
-        let mut ours = lock(&self.ours);
+        let mut ours = locked(&self.ours);
         *ours = began.max(*ours);
         Ok(())
     }
@@ -97,7 +97,7 @@ impl Owned {
 
     /// How long ago it was certainly this instance's.
     pub fn ours_before(&self) -> Duration {
-        lock(&self.ours).elapsed()
+        locked(&self.ours).elapsed()
     }
 
     pub fn under_way(&self) -> Duration {

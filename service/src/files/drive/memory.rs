@@ -1,7 +1,7 @@
 //! A store in memory, for tests: a slot's files as they were last synced, and the term of its owner.
 
 use super::{lost, Drive};
-use crate::files::lock;
+use crate::work::locked;
 use std::collections::{BTreeMap, HashMap};
 use std::ffi::OsString;
 use std::io::{self, ErrorKind};
@@ -71,7 +71,7 @@ impl Store {
         self: &Arc<Self>,
         hook: impl Fn(Step) -> io::Result<()> + Send + Sync + 'static,
     ) -> Arc<Owner> {
-        let mut kept = lock(&self.0);
+        let mut kept = locked(&self.0);
         kept.term += 1;
         let mut view = View::default();
         for (name, bytes) in &kept.files {
@@ -90,12 +90,12 @@ impl Store {
 
     /// What the next owner has.
     pub fn names(&self) -> Vec<PathBuf> {
-        lock(&self.0).files.keys().cloned().collect()
+        locked(&self.0).files.keys().cloned().collect()
     }
 
     /// Changes what the next owner has of a file; it has none that is empty then.
     pub fn change(&self, name: &Path, change: impl FnOnce(&mut Vec<u8>)) {
-        let mut kept = lock(&self.0);
+        let mut kept = locked(&self.0);
         let bytes = Arc::make_mut(kept.files.get_mut(name).unwrap());
         change(bytes);
         if bytes.is_empty() {
@@ -131,7 +131,7 @@ impl View {
 impl Drive for Owner {
     fn create(&self, name: &Path) -> io::Result<u64> {
         (self.hook)(Step::Create)?;
-        let mut view = lock(&self.view);
+        let mut view = locked(&self.view);
         match view.names.contains_key(name) {
             true => Err(ErrorKind::AlreadyExists.into()),
             false => Ok(view.put(name, Bytes::default())),
@@ -140,24 +140,24 @@ impl Drive for Owner {
 
     fn open(&self, name: &Path) -> io::Result<u64> {
         (self.hook)(Step::Open)?;
-        lock(&self.view).number(name)
+        locked(&self.view).number(name)
     }
 
     fn list(&self, folder: &Path) -> io::Result<Vec<OsString>> {
         (self.hook)(Step::List)?;
-        let view = lock(&self.view);
+        let view = locked(&self.view);
         let inside = view.names.keys().filter(|name| name.parent() == Some(folder));
         Ok(inside.filter_map(|name| Some(name.file_name()?.into())).collect())
     }
 
     fn length(&self, file: u64) -> io::Result<u64> {
         (self.hook)(Step::Length)?;
-        Ok(lock(&self.view).file(file)?.len() as u64)
+        Ok(locked(&self.view).file(file)?.len() as u64)
     }
 
     fn read_at(&self, file: u64, bytes: &mut [u8], at: u64) -> io::Result<usize> {
         (self.hook)(Step::Read)?;
-        let view = lock(&self.view);
+        let view = locked(&self.view);
         let rest = view.file(file)?.get(at as usize..).unwrap_or_default();
         let length = rest.len().min(bytes.len());
         bytes[..length].copy_from_slice(&rest[..length]);
@@ -166,7 +166,7 @@ impl Drive for Owner {
 
     fn write_at(&self, file: u64, bytes: &[u8], at: u64) -> io::Result<()> {
         (self.hook)(Step::Write)?;
-        let mut view = lock(&self.view);
+        let mut view = locked(&self.view);
         let there = view.files.get_mut(&file).ok_or(ErrorKind::NotFound)?;
         let (there, at) = (Arc::make_mut(there), at as usize);
         assert!(at <= there.len(), "a hole before {at}, behind {}", there.len());
@@ -178,7 +178,7 @@ impl Drive for Owner {
 
     fn rename(&self, from: &Path, to: &Path) -> io::Result<()> {
         (self.hook)(Step::Rename)?;
-        let mut view = lock(&self.view);
+        let mut view = locked(&self.view);
         let number = view.number(from)?;
         let _ = view.remove(to); // where there is none nothing is replaced
         view.names.remove(from);
@@ -188,7 +188,7 @@ impl Drive for Owner {
 
     fn remove(&self, name: &Path) -> io::Result<()> {
         (self.hook)(Step::Remove)?;
-        lock(&self.view).remove(name)
+        locked(&self.view).remove(name)
     }
 
     fn board(&self) {
@@ -202,16 +202,16 @@ impl Drive for Owner {
     fn sync(&self) -> io::Result<()> {
         self.leave();
         let began = Instant::now();
-        lock(&self.waiting).push(began);
+        locked(&self.waiting).push(began);
         let synced = self.commit();
-        let mut waiting = lock(&self.waiting);
+        let mut waiting = locked(&self.waiting);
         let place = waiting.iter().position(|other| *other == began);
         place.map(|place| waiting.remove(place));
         synced
     }
 
     fn under_way(&self) -> Duration {
-        let first = lock(&self.waiting).iter().min().copied();
+        let first = locked(&self.waiting).iter().min().copied();
         first.map_or(Duration::ZERO, |first| first.elapsed())
     }
 }
@@ -223,15 +223,15 @@ impl Owner {
     }
 
     fn commit(&self) -> io::Result<()> {
-        let _one = lock(&self.syncing);
+        let _one = locked(&self.syncing);
         (self.hook)(Step::Sync)?;
         let now: BTreeMap<_, _> = {
-            let view = lock(&self.view);
+            let view = locked(&self.view);
             let file = |(name, number): (&PathBuf, &u64)| (name.clone(), view.files[number].clone());
             view.names.iter().map(file).collect()
         };
         {
-            let mut kept = lock(&self.store.0);
+            let mut kept = locked(&self.store.0);
             if kept.term != self.term {
                 return Err(lost());
             }

@@ -2,7 +2,7 @@
 //! it does.
 
 use super::version::is_hexadecimal;
-use super::{io_fault, lock, Fault, Folder, FolderFault};
+use super::{io_fault, locked, Fault, Folder, FolderFault};
 use std::path::Path;
 
 /// What a move has come to, as far as the folder knows.
@@ -66,7 +66,7 @@ impl Mark {
 
 impl Folder {
     pub fn mark(&self) -> Option<Mark> {
-        lock(&self.version).mark.clone()
+        locked(&self.version).mark.clone()
     }
 
     /// Durable, or not done, when this returns.

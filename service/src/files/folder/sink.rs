@@ -1,7 +1,7 @@
 //! Which sink the folder's requests go to.
 
 use super::version::is_hexadecimal;
-use super::{lock, Fault, Folder};
+use super::{locked, Fault, Folder};
 use std::fmt::{Display, Formatter};
 
 /// How many digits of an id are shown.
@@ -81,7 +81,7 @@ impl Display for KnownSink {
 impl Folder {
     /// The one that an earlier start has met; none in a new folder, and in one of 0.5.0.
     pub fn sink(&self) -> Option<KnownSink> {
-        lock(&self.version).sink.clone()
+        locked(&self.version).sink.clone()
     }
 
     /// Durable, or not done, when this returns.

@@ -12,7 +12,7 @@ fn open(path: &Path) -> Result<Folder, FolderFault> {
 }
 
 fn epoch(folder: &Folder) -> String {
-    super::super::lock(&folder.version).epoch.clone()
+    locked(&folder.version).epoch.clone()
 }
 
 /// Run by the next test in a process of its own.
@@ -131,7 +131,7 @@ fn a_folder_that_is_made_has_a_name_that_lasts() {
     let seen = synced.clone();
     let disk = Disk::failing(move |call, path: &Path| {
         if call == Call::SyncFolder {
-            super::super::lock(&seen).push(path.to_path_buf());
+            locked(&seen).push(path.to_path_buf());
         }
         Ok(())
     });
@@ -144,7 +144,7 @@ fn a_folder_that_is_made_has_a_name_that_lasts() {
             std::fs::create_dir_all(&path).unwrap();
         }
         drop(Folder::open_on(disk.clone(), &path, Durability::Disk).unwrap());
-        let synced = std::mem::take(&mut *super::super::lock(&synced));
+        let synced = std::mem::take(&mut *locked(&synced));
         let first = |folder| synced.iter().position(|one| one == folder);
         assert!(first(&above).is_some() && first(&place).is_some(), "{synced:?}");
         assert!(first(&path) > first(&above).max(first(&place)), "its version is the last");

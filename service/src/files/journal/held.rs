@@ -7,7 +7,7 @@
 
 use super::name_records::NameWriter;
 use super::record::{self, Posts, Wanted};
-use super::{lock, Journal, Post, Replayed, Shared, HELD};
+use super::{locked, Journal, Post, Replayed, Shared, HELD};
 use crate::files::disk::{io_fault, Disk, File};
 use crate::files::records::{self, Next, Reader, Which};
 use crate::files::Fault;
@@ -47,10 +47,10 @@ impl Journal {
     /// is held. Durable before what comes next, and it counts once `next` is the first segment that is replayed.
     pub fn hold(&self, quarantined: &BTreeSet<String>, first: u64, next: u64) -> Result<(), Fault> {
         let shared = &*self.shared;
-        let mut list = lock(&shared.held).get(&first).cloned().unwrap_or_default();
+        let mut list = locked(&shared.held).get(&first).cloned().unwrap_or_default();
         list.retain(|sender, _| quarantined.contains(sender));
         let due: BTreeSet<&String> = {
-            let place = lock(&shared.place);
+            let place = locked(&shared.place);
             quarantined.iter().filter(|sender| !place.moved.contains(*sender)).collect()
         };
         if !due.is_empty() {
@@ -66,13 +66,13 @@ impl Journal {
         }
         shared.note_held(next, list)?;
         self.settle_kept();
-        lock(&shared.place).moved.extend(due.into_iter().cloned());
+        locked(&shared.place).moved.extend(due.into_iter().cloned());
         Ok(())
     }
 
     /// What is held. Never waits for the disk.
     pub fn held(&self) -> Held {
-        let lists = lock(&self.shared.held);
+        let lists = locked(&self.shared.held);
         let mut held = Held::default();
         for part in lists.last_key_value().iter().flat_map(|(_, list)| list.values()) {
             held.senders += 1;
@@ -85,7 +85,7 @@ impl Journal {
     /// Whether something is held of a sender that is none of these: it was released, and the next flush takes it. So until
     /// that is committed.
     pub fn holds_of_others(&self, quarantined: &BTreeSet<String>) -> bool {
-        let lists = lock(&self.shared.held);
+        let lists = locked(&self.shared.held);
         lists.values().flat_map(List::keys).any(|sender| !quarantined.contains(sender))
     }
 
@@ -93,7 +93,7 @@ impl Journal {
     pub(super) fn forget_held(&self, before: u64) -> Result<(), Fault> {
         let shared = &*self.shared;
         let wanted: BTreeSet<PathBuf> = {
-            let mut lists = lock(&shared.held);
+            let mut lists = locked(&shared.held);
             lists.retain(|segment, _| *segment >= before);
             lists.values().flat_map(List::keys).map(|sender| path(&shared.folder, sender)).collect()
         };
@@ -128,7 +128,7 @@ impl Shared {
         place.ticket += 1;
         place.kept = place.ticket;
         drop(place);
-        lock(&self.held).insert(next, list);
+        locked(&self.held).insert(next, list);
         Ok(())
     }
 }

@@ -1,7 +1,7 @@
 //! The posts of the journal, in order.
 
 use super::record::{Posts, Wanted};
-use super::{held, lock, Journal, Replayed, Shared, COPY, HELD};
+use super::{held, locked, Journal, Replayed, Shared, COPY, HELD};
 use crate::files::records::{self, Next, Reader, Which};
 use crate::files::{segment, Fault};
 
@@ -27,7 +27,7 @@ impl Journal {
         let shared = &*self.shared;
         let mut each = |_: u64, post: Replayed| Ok(each(post));
         // Ahead of the segments: behind some of their posts these files would say otherwise what their numbers stand for.
-        let list = lock(&shared.held).get(&first).filter(|_| first < end).cloned();
+        let list = locked(&shared.held).get(&first).filter(|_| first < end).cloned();
         match held::posts(&shared.disk, &shared.folder, &list.unwrap_or_default(), &mut each)? {
             true => shared.posts(first, end, wanted, &mut each),
             false => Ok(()),

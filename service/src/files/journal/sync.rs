@@ -1,6 +1,6 @@
 //! The journal's syncer: one thread, one `fdatasync` for all that wait.
 
-use super::{lock, Journal, Shared};
+use super::{locked, Journal, Shared};
 use crate::files::drive::Lost;
 use crate::files::Fault;
 use std::sync::atomic::Ordering::SeqCst;
@@ -53,7 +53,7 @@ impl Shared {
             return Ok(());
         }
         let done = {
-            let mut waiters = lock(&self.waiters);
+            let mut waiters = locked(&self.waiters);
             // Who syncs stores this before it looks for waiters.
             if self.durable.load(SeqCst) >= ticket {
                 return Ok(());
@@ -81,10 +81,10 @@ impl Shared {
     /// Makes all durable that was appended until now. Where that fails the process ends while nobody else can sync:
     /// after a sync that failed the next one says yes to what the disk has not.
     pub fn sync(&self) {
-        let _one = lock(&self.syncing);
+        let _one = locked(&self.syncing);
         if let Err(fault) = self.try_sync() {
             let Lost = self.disk.fail(fault);
-            lock(&self.waiters).list.clear(); // who waited is told so
+            locked(&self.waiters).list.clear(); // who waited is told so
         }
     }
 
@@ -116,7 +116,7 @@ impl Shared {
             }
         }
         {
-            let mut place = lock(&self.place);
+            let mut place = locked(&self.place);
             if place.segment.number == number {
                 place.segment.note_durable(at, length);
                 place.named = true;
@@ -129,7 +129,7 @@ impl Shared {
 
     fn tell(&self, ticket: u64) {
         let due: Vec<Waiter> = {
-            let list = &mut lock(&self.waiters).list;
+            let list = &mut locked(&self.waiters).list;
             let (due, later) = std::mem::take(list).into_iter().partition(|one| one.ticket <= ticket);
             *list = later;
             due
@@ -152,7 +152,7 @@ impl Shared {
 
     /// Returns once there is something to do.
     fn wait(&self) -> Due {
-        let mut waiters = lock(&self.waiters);
+        let mut waiters = locked(&self.waiters);
         let mut waited = Duration::ZERO;
         loop {
             if waiters.ending || self.disk.is_lost() {
@@ -197,10 +197,10 @@ impl Shared {
             return;
         }
         let (number, forgotten) = {
-            let place = lock(&self.place);
+            let place = locked(&self.place);
             (place.segment.number + 1, place.segment.forgotten())
         };
-        let mut next = lock(&self.next);
+        let mut next = locked(&self.next);
         if next.as_ref().is_some_and(|next| next.number >= number) {
             return;
         }
@@ -220,7 +220,7 @@ impl Shared {
                 Due::Mark => self.mark_last(),
                 Due::End => {
                     if self.disk.is_lost() {
-                        lock(&self.waiters).list.clear(); // who comes later is told so before it waits
+                        locked(&self.waiters).list.clear(); // who comes later is told so before it waits
                     }
                     return;
                 }
@@ -233,7 +233,7 @@ impl Shared {
 /// nothing is torn, and what anybody was told of is durable: nothing is waited for.
 impl Drop for Journal {
     fn drop(&mut self) {
-        lock(&self.shared.waiters).ending = true;
+        locked(&self.shared.waiters).ending = true;
         self.shared.work.notify_one();
         if self.shared.disk.keeps_order() {
             return;
@@ -241,7 +241,7 @@ impl Drop for Journal {
         if let Some(syncer) = self.syncer.take() {
             let _ = syncer.join();
         }
-        if let Some(next) = lock(&self.shared.next).take() {
+        if let Some(next) = locked(&self.shared.next).take() {
             self.shared.disk.discard(&next.path); // the next start does it too
         }
         self.shared.sync();

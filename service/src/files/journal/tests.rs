@@ -61,10 +61,10 @@ fn append_copy(journal: &Journal, text: &str) {
     let numbers = [seconds(), post.foreign, name.len() as u64].map(u64::to_le_bytes);
     let mut record = Vec::new();
     records::put(&mut record, COPY, &[numbers.as_flattened(), name, text.as_bytes()]);
-    let mut place = lock(&journal.shared.place);
+    let mut place = locked(&journal.shared.place);
     place.segment.put(&record).unwrap();
     place.ticket += 1;
-    if let Some(size) = lock(&journal.shared.sizes).last_mut() {
+    if let Some(size) = locked(&journal.shared.sizes).last_mut() {
         size.bytes += record.len() as u64;
     }
 }
@@ -84,7 +84,7 @@ fn texts(journal: &Journal, first: u64) -> Vec<String> {
 
 /// As `kill -9` leaves it.
 fn kill(mut journal: Journal) {
-    lock(&journal.shared.waiters).ending = true;
+    locked(&journal.shared.waiters).ending = true;
     journal.shared.work.notify_one();
     journal.syncer.take().map(|syncer| syncer.join());
     std::mem::forget(journal);
@@ -195,7 +195,7 @@ fn it_is_as_a_list_in_memory_over_any_calls_and_starts() {
                     segment = begun(&model, reach);
                 }
                 _ => {
-                    let at = lock(&journal.shared.place).segment.at;
+                    let at = locked(&journal.shared.place).segment.at;
                     kill(journal);
                     let mut torn = Vec::new();
                     let kind = [POST, NAME, POINTS][numbers.below(3) as usize];

@@ -1,6 +1,6 @@
 //! How what was appended gets into the segment: by one write for all that was there when it began.
 
-use super::{lock, Journal, Place, Shared, Ticket};
+use super::{locked, Journal, Place, Shared, Ticket};
 use crate::files::drive::Lost;
 use crate::work::others_first;
 use std::ops::{Deref, DerefMut};
@@ -66,21 +66,21 @@ impl Drop for InAnyCase<'_> {
 impl Journal {
     /// Nobody appends until this is dropped.
     pub fn hold_appends(&self) -> impl Sized + '_ {
-        lock(&self.shared.place)
+        locked(&self.shared.place)
     }
 }
 
 impl Shared {
     pub fn to_write(&self) -> ToWrite<'_> {
-        let writing = lock(&self.writing);
-        ToWrite { place: lock(&self.place), _writing: writing }
+        let writing = locked(&self.writing);
+        ToWrite { place: locked(&self.place), _writing: writing }
     }
 
     /// Writes all that was appended until now: what `see` says of the place up to there. Who appends meanwhile does not wait.
     /// Where that fails the process ends while nobody else can write: what is behind a hole is there for no start.
     pub fn written<T>(&self, see: impl FnOnce(&mut Place) -> T) -> Result<T, Lost> {
-        let mut bytes = lock(&self.writing);
-        let mut place = lock(&self.place);
+        let mut bytes = locked(&self.writing);
+        let mut place = locked(&self.place);
         let (seen, ticket) = (see(&mut place), place.ticket);
         let at = place.segment.give_unwritten(&mut bytes);
         let (file, path) = (place.segment.file.clone(), place.segment.path.clone());

@@ -2,12 +2,12 @@
 
 use super::changes::{Change, UnitOfMetric};
 use super::Outbox;
-use crate::files::{lock, Fault};
+use crate::files::{locked, Fault};
 use std::collections::BTreeSet;
 
 impl Outbox {
     pub fn beside(&self) -> BTreeSet<UnitOfMetric> {
-        lock(&self.state).facts.beside.clone()
+        locked(&self.state).facts.beside.clone()
     }
 
     /// Ordered before all that follows; in a folder it is durable when this returns.

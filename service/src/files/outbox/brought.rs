@@ -5,7 +5,7 @@ use super::keys::Keys;
 use super::rows;
 use super::state::Batch;
 use super::{Outbox, Series};
-use crate::files::{lock, segment, Fault};
+use crate::files::{locked, segment, Fault};
 use crate::otlp::series::SeriesKey;
 use crate::runs::Since;
 use std::collections::BTreeSet;
@@ -40,12 +40,12 @@ impl Waits {
 impl Outbox {
     /// The number of the first request that waits; where none does, of the next one.
     pub fn first_number(&self) -> u64 {
-        lock(&self.state).facts.acknowledged + 1
+        locked(&self.state).facts.acknowledged + 1
     }
 
     /// Gives what waits, group by group.
     pub fn each_group(&self, mut each: impl FnMut(Waits) -> Result<(), Fault>) -> Result<(), Fault> {
-        let batches: Vec<Batch> = lock(&self.state).batches.iter().cloned().collect();
+        let batches: Vec<Batch> = locked(&self.state).batches.iter().cloned().collect();
         batches.into_iter().try_for_each(|batch| each(self.waits(batch)?))
     }
 
@@ -72,9 +72,9 @@ impl Outbox {
 
     /// Goes on with requests of another outbox, whose series are known here already: the next ones in its order.
     pub fn go_on_with(&self, waits: Waits) -> Result<(), Fault> {
-        let mut writer = lock(&self.writer);
+        let mut writer = locked(&self.writer);
         let group = {
-            let state = lock(&self.state);
+            let state = locked(&self.state);
             Group {
                 first: waits.first,
                 epoch: waits.epoch,

@@ -3,7 +3,7 @@
 
 use super::rows;
 use super::state::Batch;
-use super::{lock, Outbox};
+use super::{locked, Outbox};
 use crate::files::{segment, Fault};
 use std::time::Duration;
 
@@ -13,13 +13,13 @@ const LOOK_AGAIN: Duration = Duration::from_millis(if cfg!(test) { 20 } else { 1
 impl Outbox {
     /// Why the first waiting request can't be delivered, where it was changed.
     pub fn stuck(&self) -> Option<String> {
-        lock(&self.stuck).clone()
+        locked(&self.stuck).clone()
     }
 
     /// Notes that the first waiting request was changed, or was not: in the log once.
     pub(super) async fn note_changed(&self, fault: &Fault) {
         let text = fault.to_string();
-        if lock(&self.stuck).replace(text.clone()).as_ref() != Some(&text) {
+        if locked(&self.stuck).replace(text.clone()).as_ref() != Some(&text) {
             let folder = self.folder.display().to_string();
             tracing::error!(folder, reason = text.as_str(), "the delivery of {folder} stops: {text}");
         }
@@ -27,7 +27,7 @@ impl Outbox {
     }
 
     pub(super) fn note_sound(&self) {
-        if lock(&self.stuck).take().is_some() {
+        if locked(&self.stuck).take().is_some() {
             let folder = self.folder.display().to_string();
             tracing::info!(folder, "the delivery of {folder} goes on");
         }
@@ -35,7 +35,7 @@ impl Outbox {
 
     /// Reads each waiting request, and gives a fault for each that can't be delivered.
     pub fn find_changed(&self) -> Result<Vec<Fault>, Fault> {
-        let batches: Vec<Batch> = lock(&self.state).batches.iter().cloned().collect();
+        let batches: Vec<Batch> = locked(&self.state).batches.iter().cloned().collect();
         let mut changed = Vec::new();
         for batch in batches {
             self.find_changed_of(batch, &mut changed)?;

@@ -4,7 +4,7 @@ use super::changes::Change;
 use super::state::State;
 use super::table::Table;
 use super::{Outbox, Series};
-use crate::files::{lock, Fault};
+use crate::files::{locked, Fault};
 use crate::otlp::series::SeriesKey;
 use std::collections::BTreeSet;
 
@@ -34,9 +34,9 @@ impl Outbox {
 
     /// A new segment's snapshot has what is changed.
     pub(super) fn renew(&self, change: impl FnOnce(&mut State)) -> Result<(), Fault> {
-        let mut writer = lock(&self.writer);
+        let mut writer = locked(&self.writer);
         writer.begin(&self.disk)?;
-        change(&mut lock(&self.state));
+        change(&mut locked(&self.state));
         self.begin_segment(&mut writer)?;
         writer.failed = false;
         Ok(())
@@ -44,7 +44,7 @@ impl Outbox {
 
     /// How many series end after this time, and the last of them.
     pub fn ahead_of(&self, time: u64) -> (usize, Option<SeriesKey>) {
-        let state = lock(&self.state);
+        let state = locked(&self.state);
         let ends = state.series.iter().map(|(id, known)| (known.series.frontier, id));
         let ahead: Vec<(u64, u32)> = ends.filter(|(end, _)| *end > time).collect();
         let last = ahead.iter().max().map(|(_, id)| *id);

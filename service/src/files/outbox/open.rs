@@ -8,7 +8,7 @@ use super::{ends, Outbox, ReadEnds, Writer, SEGMENT};
 use crate::files::disk::Disk;
 use crate::files::free_space::FreeSpace;
 use crate::files::records::Reader;
-use crate::files::{lock, nanoseconds, segment, Dropped, Fault};
+use crate::files::{locked, nanoseconds, segment, Dropped, Fault};
 use std::path::{Path, PathBuf};
 use std::sync::atomic::AtomicU64;
 use std::sync::{Arc, Mutex};
@@ -64,7 +64,7 @@ impl Outbox {
             dropped,
             stuck: Mutex::new(None),
         };
-        outbox.keep_room(&lock(&outbox.writer));
+        outbox.keep_room(&locked(&outbox.writer));
         outbox.sweep()?;
         Ok(outbox)
     }

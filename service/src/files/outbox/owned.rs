@@ -1,7 +1,7 @@
 //! Which series each sender has.
 
 use super::texts::{begin_of, Texts};
-use super::{lock, Outbox};
+use super::{locked, Outbox};
 use crate::otlp::series::SeriesKey;
 use std::collections::{BTreeMap, HashMap};
 use std::sync::Arc;
@@ -47,7 +47,7 @@ impl Outbox {
     /// Of those whose owner is known: each is, a moment after its first group.
     pub fn series_by_owner(&self) -> HashMap<Arc<str>, u64> {
         let mut counts = HashMap::new();
-        for (_, known) in lock(&self.state).series.iter() {
+        for (_, known) in locked(&self.state).series.iter() {
             if let Some(owner) = &known.series.owner {
                 *counts.entry(owner.clone()).or_default() += 1;
             }

@@ -11,7 +11,7 @@ use super::{Outbox, Runs, Writer};
 use crate::files::disk::Disk;
 use crate::files::records::Which;
 use crate::files::segment::{self, Ahead, Segment};
-use crate::files::{lock, seconds, Fault};
+use crate::files::{locked, seconds, Fault};
 use crate::otlp::series::{Digest, Digests, NotForwarded, SeriesKey};
 use std::collections::HashMap;
 use std::io;
@@ -34,15 +34,15 @@ impl Outbox {
         let (mut ends, mut items) = (Ends::default(), Vec::new());
         for body in bodies {
             for (key, end) in (self.read_ends)(body).map_err(|error| self.unreadable(error))? {
-                ends.note(key, end, |digest| lock(&self.state).series.id_of(digest).is_some());
+                ends.note(key, end, |digest| locked(&self.state).series.id_of(digest).is_some());
             }
             items.push(rows::deflated(body));
         }
         ends.sort();
         runs.retain(|digest, _| ends.of.contains_key(digest));
-        let mut writer = lock(&self.writer);
+        let mut writer = locked(&self.writer);
         let group = {
-            let state = lock(&self.state);
+            let state = locked(&self.state);
             let by_id = ends.by_id(&runs, &state.series);
             let (ends, new) = by_id.ok_or_else(|| self.unreadable(NotForwarded(OTHER_SERIES.into())))?;
             Group {
@@ -101,9 +101,9 @@ impl Outbox {
 
     /// Writes what is to be changed, and then changes it; whether there was something.
     pub(super) fn change(&self, make: impl FnOnce(&State) -> Option<Change>) -> Result<bool, Fault> {
-        let mut writer = lock(&self.writer);
+        let mut writer = locked(&self.writer);
         let (change, record) = {
-            let state = lock(&self.state);
+            let state = locked(&self.state);
             let Some(change) = make(&state) else {
                 return Ok(false);
             };
@@ -129,7 +129,7 @@ impl Outbox {
         if !matches!(change, Change::Acknowledge { .. }) {
             writer.segment.order()?;
         }
-        lock(&self.state).apply(change);
+        locked(&self.state).apply(change);
         // Else a change of this record can't be told from one that was torn.
         writer.segment.mark_last()?;
         self.keep_room(writer);
@@ -150,7 +150,7 @@ impl Outbox {
         writer.segment.end()?;
         writer.segment.order()?;
         let number = writer.segment.number + 1;
-        let snapshot = lock(&self.state).snapshot();
+        let snapshot = locked(&self.state).snapshot();
         writer.go_on_in(begin(&self.disk, &self.folder, number, &snapshot)?);
         self.keep_room(writer);
         self.delete_taken(writer)
@@ -158,7 +158,7 @@ impl Outbox {
 
     /// Deletes the segments that no waiting request is in, once it is durable that the sink has theirs.
     pub(super) fn sweep(&self) -> Result<(), Fault> {
-        let mut writer = lock(&self.writer);
+        let mut writer = locked(&self.writer);
         writer.begin(&self.disk)?;
         writer.segment.order()?;
         self.delete_taken(&writer)?;
@@ -168,7 +168,7 @@ impl Outbox {
 
     fn delete_taken(&self, writer: &Writer) -> Result<(), Fault> {
         let last = writer.segment.number;
-        let first = lock(&self.state).front().map_or(last, |front| front.segment.min(last));
+        let first = locked(&self.state).front().map_or(last, |front| front.segment.min(last));
         let numbers = segment::numbers(&self.disk, &self.folder)?;
         for number in numbers.into_iter().filter(|number| *number < first) {
             self.disk.remove(&segment::path(&self.folder, number))?;
@@ -249,7 +249,7 @@ pub(super) fn begin(disk: &Disk, folder: &Path, number: u64, snapshot: &Snapshot
 /// is torn.
 impl Drop for Outbox {
     fn drop(&mut self) {
-        let mut writer = lock(&self.writer);
+        let mut writer = locked(&self.writer);
         if writer.failed || self.disk.keeps_order() {
             return;
         }

@@ -1,7 +1,7 @@
 //! What was posted and delivered a second, for the last minutes: a line of the operator's page.
 
 use crate::metrics::Metrics;
-use crate::work::Sound;
+use crate::work::locked;
 use std::collections::VecDeque;
 use std::sync::{Arc, Mutex, Weak};
 use std::time::Duration;
@@ -38,7 +38,7 @@ impl Pulse {
     }
 
     fn note(&self, counted: Counted) {
-        let mut all = self.0.sound();
+        let mut all = locked(&self.0);
         if all.len() > KEPT {
             all.pop_front();
         }
@@ -47,7 +47,7 @@ impl Pulse {
 
     /// The oldest first.
     pub fn rates(&self) -> Vec<Rates> {
-        let all = self.0.sound();
+        let all = locked(&self.0);
         let pairs = all.iter().zip(all.iter().skip(1));
         pairs.map(|(before, now)| now.since(*before)).collect()
     }

@@ -4,7 +4,7 @@ use super::super::Ended;
 use super::Remembers;
 use crate::files::KnownSink;
 use crate::store::postgres::PostgresStore;
-use crate::work::Sound;
+use crate::work::locked;
 use anyhow::{anyhow, Context};
 use std::collections::BTreeMap;
 use std::sync::{Arc, Mutex};
@@ -35,12 +35,12 @@ impl InStore {
 
 impl Remembers for InStore {
     fn sink(&self) -> Option<KnownSink> {
-        self.known.sound().clone()
+        locked(&self.known).clone()
     }
 
     /// All instances deliver to one, so the first that meets it says so for all.
     fn set_sink(&self, sink: KnownSink) -> Result<(), Ended> {
-        let mut known = self.known.sound();
+        let mut known = locked(&self.known);
         let before = known.as_ref().map(KnownSink::line).unwrap_or_default();
         let line = sink.line();
         let there = in_place(|| self.store.set_sink(&before, &line));

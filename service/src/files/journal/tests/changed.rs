@@ -10,7 +10,7 @@ fn killed(folder: &Path, durability: Durability) -> Vec<u8> {
         append(&journal, text);
     }
     journal.shared.sync();
-    while lock(&journal.shared.place).segment.needs_mark() {
+    while locked(&journal.shared.place).segment.needs_mark() {
         std::thread::sleep(Duration::from_millis(1));
     }
     kill(journal);
@@ -136,7 +136,7 @@ fn what_is_dropped_is_kept_aside() {
     let folder = place();
     let journal = open(folder.path());
     append(&journal, "first");
-    let end = lock(&journal.shared.place).segment.at;
+    let end = locked(&journal.shared.place).segment.at;
     append(&journal, "second");
     kill(journal);
     let path = segment::path(folder.path(), 1);

@@ -94,7 +94,7 @@ fn a_later_version_and_a_missing_segment_are_refused_by_name() {
 /// As a power loss between a turn and the next sync may leave it: the first segment is torn, the second is whole.
 fn torn_before_its_last(folder: &Path, durable: bool) {
     let journal = open(folder);
-    let held = lock(&journal.shared.syncing);
+    let held = locked(&journal.shared.syncing);
     for text in ["first", "second"] {
         append(&journal, text);
     }

@@ -283,7 +283,7 @@ fn run(folder: &Path, left: &Path, chance: &mut TestRandom) -> (u64, Queues) {
     });
     told.recv().unwrap();
     calls.store(0, SeqCst);
-    lock(&shadow).lose_power(left, chance);
+    locked(&shadow).lose_power(left, chance);
     std::mem::forget(journal);
     (first, queues)
 }
@@ -303,7 +303,7 @@ fn whenever_the_power_is_lost_each_post_that_is_held_is_there_once() {
                 |disk: &Disk, folder: &Path| open_begun(disk, folder, Durability::Disk, first, Some(1));
             let opened = open(&crate::files::power::disk(&shadow, calls), &again);
             let is_whole = opened.map(kill).is_ok();
-            lock(&shadow).lose_power(&left, &mut chance);
+            locked(&shadow).lose_power(&left, &mut chance);
             let journal = open(&Disk::default(), &left);
             let journal = journal.unwrap_or_else(|fault| panic!("seed {seed} call {calls}: {fault}"));
             journal.forget(first).unwrap();

@@ -55,7 +55,7 @@ fn a_segment_says_a_name_once_ahead_of_its_first_points_and_by_the_same_write() 
     });
     let journal = open_on(&disk, folder.path(), Durability::Process).unwrap();
     for (letters, segment) in [(&b"abca"[..], 1), (b"cb", 1), (b"da", 1), (b"ab", 2), (b"ab", 2)] {
-        if lock(&journal.shared.place).segment.number < segment {
+        if locked(&journal.shared.place).segment.number < segment {
             journal.turn();
         }
         let ticket = journal.append(&of_letters(letters), &Letters::of(""));
@@ -121,7 +121,7 @@ fn points_without_a_name_are_refused_by_name() {
     journal.turn();
     let mut record = Vec::new();
     record::put(&mut record, 5, &of_letters(b"a"));
-    let at = lock(&journal.shared.place).segment.put(&record).unwrap();
+    let at = locked(&journal.shared.place).segment.put(&record).unwrap();
     let fault = journal.posts(1, u64::MAX, |_| true).unwrap_err().to_string();
     let place = format!("000000000002.seg, byte {at}: has points of a series");
     assert!(fault.contains(&place), "{fault}");

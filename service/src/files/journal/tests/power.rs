@@ -40,7 +40,7 @@ fn run(folder: &Path, left: &Path, durability: Durability, chance: &mut TestRand
         }
     }
     kill(journal);
-    lock(&shadow).lose_power(left, chance);
+    locked(&shadow).lose_power(left, chance);
     posted
 }
 
@@ -61,7 +61,7 @@ fn what_was_durable_is_there_and_of_the_rest_the_first_posts() {
                 |disk: &Disk, folder: &Path| open_begun(disk, folder, durability, posted.reach, Some(1));
             let opened = open(&disk(&shadow, calls), &again);
             let is_whole = opened.map(kill).is_ok();
-            lock(&shadow).lose_power(&left, &mut chance);
+            locked(&shadow).lose_power(&left, &mut chance);
             let journal = open(&Disk::default(), &left);
             let journal = journal.unwrap_or_else(|fault| panic!("seed {seed} call {calls}: {fault}"));
             let found = texts(&journal, posted.reach);

@@ -81,7 +81,7 @@ fn what_an_earlier_run_wrote_is_written_anew_before_it_is_believed() {
     let calls = Arc::new(Mutex::new(Vec::new()));
     let seen = calls.clone();
     let disk = Disk::failing(move |call, path: &Path| {
-        lock(&seen).push((call, path.to_path_buf()));
+        locked(&seen).push((call, path.to_path_buf()));
         Ok(())
     });
     let journal = open_from(&disk, folder.path(), Durability::Disk, 2).unwrap();
@@ -89,7 +89,7 @@ fn what_an_earlier_run_wrote_is_written_anew_before_it_is_believed() {
         [(1, &[Call::Sync][..]), (2, &[Call::Write, Call::Sync]), (3, &[Call::Write, Call::Sync])]
     {
         let path = segment::path(folder.path(), number);
-        let of_it: Vec<Call> = lock(&calls).iter().filter(|one| one.1 == path).map(|one| one.0).collect();
+        let of_it: Vec<Call> = locked(&calls).iter().filter(|one| one.1 == path).map(|one| one.0).collect();
         assert_eq!(of_it, wanted, "{number}");
     }
     assert_eq!([before(1), before(2), before(3)], written);
@@ -114,7 +114,7 @@ fn what_is_held_is_durable_before_it_counts_where_posts_are_only_written() {
 fn a_process_only_journal_waits_for_nothing() {
     let folder = tempfile::tempdir().unwrap();
     let journal = open(folder.path());
-    let _held = lock(&journal.shared.syncing);
+    let _held = locked(&journal.shared.syncing);
     let ticket = append(&journal, "a");
     let runtime = tokio::runtime::Builder::new_current_thread().enable_time().build().unwrap();
     let durable = async { tokio::time::timeout(Duration::from_secs(5), journal.durable(ticket)).await };
@@ -298,7 +298,7 @@ fn who_came_aboard_and_can_not_sync_keeps_no_other_slot_waiting() {
         let (journal, _outbox, _dead) = drive::open(owner.clone(), "00000000000000aa").unwrap();
         let journal = Arc::new(journal);
         opened.set(Arc::downgrade(&journal)).unwrap();
-        lock(&journal.shared.place).segment.append(&[b"what is written by the sync"]).unwrap();
+        locked(&journal.shared.place).segment.append(&[b"what is written by the sync"]).unwrap();
         fails.store(true, SeqCst);
         assert!(journal.shared.try_sync().is_err());
         assert!(!owner.is_aboard(), "the slot ends: {ends}");

@@ -167,7 +167,7 @@ fn nobody_writes_after(writes: fn(&Journal)) {
     append(&journal, "a");
     journal.turn();
     journal.shared.sync();
-    while lock(&journal.shared.place).segment.needs_mark() {
+    while locked(&journal.shared.place).segment.needs_mark() {
         std::thread::sleep(Duration::from_millis(1));
     }
     failing.fails.store(true, SeqCst);

@@ -93,7 +93,7 @@ fn run(at: impl Fn(&str) -> PathBuf, chance: &mut TestRandom) -> Vec<String> {
         }
         kill(outbox);
     }
-    lock(&shadow).lose_power(&at("left"), chance);
+    locked(&shadow).lose_power(&at("left"), chance);
     may_be
 }
 
@@ -109,7 +109,7 @@ async fn what_was_durable_is_there_and_of_the_rest_what_was_made_first() {
             copy(&at("left"), &again);
             let shadow = Arc::new(Mutex::new(Shadow::of(&again)));
             let is_whole = open_on(&disk(&shadow, calls), &again, "e", 3000).map(kill).is_ok();
-            lock(&shadow).lose_power(&left, &mut chance);
+            locked(&shadow).lose_power(&left, &mut chance);
             let outbox = open_on(&Disk::default(), &left, "e", 3000);
             let outbox = outbox.unwrap_or_else(|fault| panic!("seed {seed} call {calls}: {fault}"));
             let found = said(&outbox);

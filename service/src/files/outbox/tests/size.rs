@@ -73,7 +73,7 @@ fn a_series_takes_few_bytes_of_memory() {
     let bytes: usize = ends.iter().map(|(key, _)| key.0.len()).sum();
     let keys: Vec<_> = ends.iter().map(|(key, end)| (&*key.0, *end)).collect();
     outbox.commit(&[body(&keys, "")], 2).unwrap();
-    let packed = lock(&outbox.state).series.texts().bytes();
+    let packed = locked(&outbox.state).series.texts().bytes();
     println!("{packed} bytes of {bytes}");
     assert!(packed * 10 <= bytes);
 }

@@ -24,7 +24,7 @@ pub(super) use writer::Writer;
 use super::shared::{Shared, Stored};
 use crate::files::drive::{lost, Drive, Lost};
 use crate::latch::Latch;
-use crate::lock::lock;
+use crate::work::locked;
 use cache::Cache;
 use files::{Bytes, Read};
 use packed::Packed;
@@ -124,14 +124,14 @@ impl PostgresDrive {
 
     /// Waits until what there is may be written: with others, or where it is long or nobody takes it so, alone.
     fn come_aboard(&self) -> Result<Option<Seat>, Lost> {
-        if lock(&self.files).is_long() {
+        if locked(&self.files).is_long() {
             return Ok(None);
         }
         self.wait_here(self.together.board())
     }
 
     fn commit(&self, seat: Option<Seat>) -> Result<(), Lost> {
-        let batch = lock(&self.files).batch();
+        let batch = locked(&self.files).batch();
         let packed = Arc::new(Packed::of(&batch));
         let is_there = match seat.filter(|_| packed.is_short()) {
             Some(seat) => self.join(&packed, seat)?,
@@ -141,8 +141,8 @@ impl PostgresDrive {
             let writer = self.writer.clone();
             self.wait(async move { writer.lock().await.commit(&packed).await })?;
         }
-        lock(&self.files).is_there(&batch);
-        let mut cache = lock(&self.cache);
+        locked(&self.files).is_there(&batch);
+        let mut cache = locked(&self.cache);
         for (number, piece) in batch.pieces {
             cache.put(number, piece.bytes);
         }
@@ -171,7 +171,7 @@ impl PostgresDrive {
         let mut found = HashMap::new();
         for Stored { number, length, bytes } in rows.map_err(|Lost| lost())? {
             let bytes: Bytes = packed::unpacked(&bytes, length)?.into();
-            lock(&self.cache).put(number, bytes.clone());
+            locked(&self.cache).put(number, bytes.clone());
             found.insert(number, bytes);
         }
         Ok(found)
@@ -191,22 +191,22 @@ impl PostgresDrive {
 impl Drive for PostgresDrive {
     fn create(&self, name: &Path) -> io::Result<u64> {
         self.check()?;
-        lock(&self.files).create(name)
+        locked(&self.files).create(name)
     }
 
     fn open(&self, name: &Path) -> io::Result<u64> {
         self.check()?;
-        lock(&self.files).open(name)
+        locked(&self.files).open(name)
     }
 
     fn list(&self, folder: &Path) -> io::Result<Vec<OsString>> {
         self.check()?;
-        Ok(lock(&self.files).list(folder))
+        Ok(locked(&self.files).list(folder))
     }
 
     fn length(&self, file: u64) -> io::Result<u64> {
         self.check()?;
-        lock(&self.files).length(file)
+        locked(&self.files).length(file)
     }
 
     fn read_at(&self, file: u64, bytes: &mut [u8], at: u64) -> io::Result<usize> {
@@ -214,8 +214,8 @@ impl Drive for PostgresDrive {
         let mut asked = Vec::new();
         loop {
             self.check()?;
-            let known = |number| fetched.get(&number).cloned().or_else(|| lock(&self.cache).find(number));
-            let read = lock(&self.files).read(file, bytes, at, known)?;
+            let known = |number| fetched.get(&number).cloned().or_else(|| locked(&self.cache).find(number));
+            let read = locked(&self.files).read(file, bytes, at, known)?;
             match read {
                 Read::Done(length) => return Ok(length),
                 Read::Needs(numbers) if numbers == asked => return Err(self.vanished(file, &numbers)),
@@ -229,24 +229,24 @@ impl Drive for PostgresDrive {
 
     fn write_at(&self, file: u64, bytes: &[u8], at: u64) -> io::Result<()> {
         self.check()?;
-        lock(&self.files).write(file, bytes, at)?;
+        locked(&self.files).write(file, bytes, at)?;
         self.together.come();
         Ok(())
     }
 
     fn rename(&self, from: &Path, to: &Path) -> io::Result<()> {
         self.check()?;
-        lock(&self.files).rename(from, to)
+        locked(&self.files).rename(from, to)
     }
 
     fn remove(&self, name: &Path) -> io::Result<()> {
         self.check()?;
-        lock(&self.files).remove(name)
+        locked(&self.files).remove(name)
     }
 
     fn board(&self) {
         if let Ok(seat) = self.turns.waited(|| self.come_aboard()) {
-            *lock(&self.seat) = seat;
+            *locked(&self.seat) = seat;
         }
         if self.turns.check().is_err() {
             self.leave();
@@ -255,12 +255,12 @@ impl Drive for PostgresDrive {
 
     /// Others that write together wait for nothing of this slot: it has one seat at a time, and none while it waits.
     fn leave(&self) {
-        drop(lock(&self.seat).take());
+        drop(locked(&self.seat).take());
     }
 
     fn sync(&self) -> io::Result<()> {
         let board = || {
-            let seat = lock(&self.seat).take();
+            let seat = locked(&self.seat).take();
             seat.map_or_else(|| self.come_aboard(), |seat| Ok(Some(seat)))
         };
         let done = self.turns.ended(board, |seat| self.commit(seat), || self.leave());

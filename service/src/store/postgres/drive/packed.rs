@@ -1,7 +1,7 @@
 //! A batch in the form of the statement that writes it: columns of pieces, each packed where that is shorter.
 
 use super::files::{Batch, Bytes, Piece};
-use crate::lock::lock;
+use crate::work::locked;
 use flate2::read::DeflateDecoder;
 use flate2::{Compress, Compression, FlushCompress, Status};
 use std::io::{self, Read};
@@ -90,13 +90,13 @@ fn pack(bytes: &Bytes) -> Bytes {
     if bytes.len() < LEAST {
         return bytes.clone();
     }
-    let kept = lock(&PACKERS).pop();
+    let kept = locked(&PACKERS).pop();
     let mut packer = kept.unwrap_or_else(|| Compress::new(Compression::fast(), false));
     packer.reset();
     // There is no room for what is longer.
     let mut packed = Vec::with_capacity(bytes.len());
     let done = packer.compress_vec(bytes, &mut packed, FlushCompress::Finish);
-    let mut packers = lock(&PACKERS);
+    let mut packers = locked(&PACKERS);
     if packers.len() < MOST_PACKERS {
         packers.push(packer);
     }
@@ -159,6 +159,6 @@ mod tests {
             assert_eq!(done.unwrap(), Status::StreamEnd);
             assert_eq!(*pack(&bytes), new);
         }
-        assert!((1..=MOST_PACKERS).contains(&lock(&PACKERS).len()));
+        assert!((1..=MOST_PACKERS).contains(&locked(&PACKERS).len()));
     }
 }

@@ -1,7 +1,7 @@
 //! One sync at a time, and one for all that wait.
 
 use crate::files::drive::Lost;
-use crate::lock::lock;
+use crate::work::locked;
 use std::sync::{Condvar, Mutex, MutexGuard, PoisonError};
 use std::time::{Duration, Instant};
 
@@ -31,7 +31,7 @@ impl Turns {
         leave: impl Fn(),
     ) -> Result<(), Lost> {
         self.waited(|| {
-            let mut state = lock(&self.state);
+            let mut state = locked(&self.state);
             let wanted = state.begun + 1;
             loop {
                 if state.is_lost {
@@ -53,9 +53,9 @@ impl Turns {
     /// Does what waits for the store, as is seen meanwhile.
     pub fn waited<T>(&self, work: impl FnOnce() -> T) -> T {
         let began = Instant::now();
-        lock(&self.state).waiting.push(began);
+        locked(&self.state).waiting.push(began);
         let done = work();
-        let mut state = lock(&self.state);
+        let mut state = locked(&self.state);
         if let Some(place) = state.waiting.iter().position(|other| *other == began) {
             state.waiting.swap_remove(place);
         }
@@ -74,7 +74,7 @@ impl Turns {
             let number = self.begin();
             turn(aboard).map(|()| number)
         });
-        let mut state = lock(&self.state);
+        let mut state = locked(&self.state);
         state.is_busy = false;
         match done {
             Ok(number) => state.ended = number,
@@ -86,18 +86,18 @@ impl Turns {
 
     /// Who comes from here on waits for the next one.
     fn begin(&self) -> u64 {
-        let mut state = lock(&self.state);
+        let mut state = locked(&self.state);
         state.begun += 1;
         state.begun
     }
 
     pub fn lose(&self) {
-        lock(&self.state).is_lost = true;
+        locked(&self.state).is_lost = true;
         self.changed.notify_all();
     }
 
     pub fn check(&self) -> Result<(), Lost> {
-        match lock(&self.state).is_lost {
+        match locked(&self.state).is_lost {
             true => Err(Lost),
             false => Ok(()),
         }
@@ -105,7 +105,7 @@ impl Turns {
 
     /// How long the one that began first has waited.
     pub fn longest(&self) -> Duration {
-        let first = lock(&self.state).waiting.iter().min().copied();
+        let first = locked(&self.state).waiting.iter().min().copied();
         first.map_or(Duration::ZERO, |first| first.elapsed())
     }
 }
@@ -134,7 +134,7 @@ mod tests {
             })
         };
         let until = |waiting: usize| {
-            while lock(&turns.state).waiting.len() < waiting || count.load(SeqCst) == 0 {
+            while locked(&turns.state).waiting.len() < waiting || count.load(SeqCst) == 0 {
                 thread::sleep(Duration::from_millis(1));
             }
         };
@@ -192,7 +192,7 @@ mod tests {
             })
         };
         let all = [come(), come(), come()];
-        while lock(&turns.state).waiting.len() < 3 {
+        while locked(&turns.state).waiting.len() < 3 {
             thread::sleep(Duration::from_millis(1));
         }
         go.send(()).unwrap();

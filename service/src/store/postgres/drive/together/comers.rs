@@ -1,8 +1,8 @@
 //! Who waits for a write, and how long one waits for who was answered by the last one: where senders post as fast as they are
 //! answered, these come again at once, and else would wait for the next one while it is under way.
 
-use crate::lock::lock;
 use crate::work::blocking;
+use crate::work::locked;
 use std::sync::atomic::{AtomicU64, Ordering::SeqCst};
 use std::sync::{Arc, Condvar, Mutex};
 use std::time::{Duration, Instant};
@@ -37,7 +37,7 @@ impl Comers {
     /// It costs who posts nothing, as a rule.
     pub fn come(&self) {
         if self.came.fetch_add(1, SeqCst) + 1 == self.awaited.load(SeqCst) {
-            let _waits = lock(&self.waiting);
+            let _waits = locked(&self.waiting);
             self.all_are_there.notify_one();
         }
     }
@@ -51,7 +51,7 @@ impl Comers {
         self.awaited.store(awaited, SeqCst);
         let left = late.saturating_duration_since(Instant::now());
         let lacks_some = |_: &mut ()| self.came() < awaited;
-        drop(self.all_are_there.wait_timeout_while(lock(&self.waiting), left, lacks_some));
+        drop(self.all_are_there.wait_timeout_while(locked(&self.waiting), left, lacks_some));
     }
 }
 
