@@ -71,7 +71,7 @@ metrics! {
             "Points that the sink rejected, and faults of the program";
         pub checkpoint_pause_seconds: Histogram = "checkpoint_pause_seconds", "How long a checkpoint held the posts";
         pub recovery_seconds: Histogram = "recovery_seconds",
-            "How long it took to prime the book and to put in the posts of the journal";
+            "How long it took to put in the posts of the journal, and what priming the book took longer than opening the files";
         build_info: IntGaugeVec = "build_info" ["version"], "1, by the version of the program";
     }
     with {

@@ -2,28 +2,16 @@
 
 use super::*;
 use crate::core::{Core, Names};
-use crate::otlp::series::{request_of, zeros, SeriesKey};
+use crate::otlp::series::{request_of, zeros, SeriesKey, KINDS, VALUES};
 
 /// Else a late repeat would be taken, and a posted point be of another series than the one that was primed.
 #[test]
 fn what_primes_is_of_the_series_that_its_key_names() {
-    let values = [
-        r#"{}"#,
-        r#"{"stringValue":""}"#,
-        r#"{"stringValue":"\"\\\b\u0001é😀"}"#,
-        r#"{"boolValue":false}"#,
-        r#"{"boolValue":true}"#,
-        r#"{"intValue":"0"}"#,
-        r#"{"intValue":"-9223372036854775808"}"#,
-        r#"{"arrayValue":{"values":[]}}"#,
-        r#"{"arrayValue":{"values":[{},{"stringValue":"a"},{"boolValue":false},{"intValue":"-1"}]}}"#,
-    ];
-    let kinds = [r#""sum""#, r#""monotonic""#, "[]", "[-9007199254740992,0,9007199254740992]"];
     let lists =
-        values.map(|value| format!(r#"[{{"key":"","value":{value}}},{{"key":"é","value":{value}}}]"#));
+        VALUES.map(|value| format!(r#"[{{"key":"","value":{value}}},{{"key":"é","value":{value}}}]"#));
     let mut keys = Vec::new();
     for list in &lists {
-        for kind in kinds {
+        for kind in KINDS {
             keys.push(format!(r#"[{list},"","",[],"m","",{kind},[]]"#));
             keys.push(format!(r#"[[],"s","\"1",{list},"m","é",{kind},[]]"#));
             keys.push(format!(r#"[[],"s","\"1",[],"m\\","é",{kind},{list}]"#));

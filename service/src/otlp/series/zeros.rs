@@ -228,3 +228,20 @@ fn double(bound: i64) -> f64 {
         false => f64::NAN,
     }
 }
+
+/// Values of attributes, as keys have them.
+#[cfg(test)]
+pub const VALUES: [&str; 9] = [
+    r#"{}"#,
+    r#"{"stringValue":""}"#,
+    r#"{"stringValue":"\"\\\b\u0001é\n😀"}"#,
+    r#"{"boolValue":false}"#,
+    r#"{"boolValue":true}"#,
+    r#"{"intValue":"0"}"#,
+    r#"{"intValue":"-9223372036854775808"}"#,
+    r#"{"arrayValue":{"values":[]}}"#,
+    r#"{"arrayValue":{"values":[{},{"stringValue":"a"},{"boolValue":false},{"intValue":"-1"}]}}"#,
+];
+/// The same of kinds.
+#[cfg(test)]
+pub const KINDS: [&str; 4] = [r#""sum""#, r#""monotonic""#, "[]", "[-9007199254740992,0,9007199254740992]"];

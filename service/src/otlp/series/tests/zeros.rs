@@ -45,22 +45,10 @@ fn zeros_say_once_what_a_series_shares_with_the_one_before() {
 /// Else it would be primed as another series than it is, and a late repeat be taken.
 #[test]
 fn zeros_are_of_the_series_whose_key_it_is() {
-    let values = [
-        r#"{}"#,
-        r#"{"stringValue":""}"#,
-        r#"{"stringValue":"\"\\\b\u0001é\n😀"}"#,
-        r#"{"boolValue":false}"#,
-        r#"{"boolValue":true}"#,
-        r#"{"intValue":"0"}"#,
-        r#"{"intValue":"-9223372036854775808"}"#,
-        r#"{"arrayValue":{"values":[]}}"#,
-        r#"{"arrayValue":{"values":[{},{"stringValue":"a"},{"boolValue":false},{"intValue":"-1"}]}}"#,
-    ];
-    let kinds = [r#""sum""#, r#""monotonic""#, "[]", "[-9007199254740992,0,9007199254740992]"];
     let mut keys: Vec<String> = Vec::new();
-    for (place, value) in values.iter().enumerate() {
+    for (place, value) in VALUES.iter().enumerate() {
         let list = format!(r#"[{{"key":"","value":{value}}},{{"key":"k\"é","value":{value}}}]"#);
-        let (other, kind) = (if place % 2 == 0 { "[]" } else { &list }, kinds[place % 4]);
+        let (other, kind) = (if place % 2 == 0 { "[]" } else { &list }, KINDS[place % 4]);
         let texts = ["", "s\\n", "é"].map(|text| format!("\"{text}\""));
         let [scope, version, name] = [0, 1, 2].map(|text| &texts[(place + text) % 3]);
         keys.push(format!("[{list},{scope},{version},{other},{name},{scope},{kind},{other}]"));
