@@ -43,7 +43,7 @@ test: ## the gate: all proofs, wrong code that must be refused, tests
 	@tools/toolchain
 	@tools/gate.py
 
-# Those too that the gate leaves out, many in one check: make edits, or make edits NAME=delta_book. LIST=1 only prints them.
+# Those too that the gate leaves out, many in one check: NAME=delta_book, or NAME=delta_book/EDIT. LIST=1 only prints them.
 edits: ## tries all wrong code: LIST=1 lists it
 	@$(if $(LIST),,tools/toolchain)
 	@tools/edits.py $(if $(LIST),--list) $(NAME)

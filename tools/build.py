@@ -17,7 +17,7 @@ import sys
 import time
 from collections.abc import Collection, Iterable
 
-from tooling.crates import OUT, ROOT, Crate, Digests, read_crates
+from tooling.crates import OUT, ROOT, Crate, Digests, named
 from tooling.files import content
 from tooling.proved import write_proof
 from tooling.prover import Prover, made_by, room_of
@@ -138,11 +138,7 @@ def install(made: str, name: str) -> None:
 
 
 def main(names: list[str]) -> int:
-    known = read_crates()
-    unknown = [name for name in names if name not in known]
-    if unknown:
-        sys.exit(f"crates.txt lists no crate {' '.join(unknown)}")
-    crates = [known[name] for name in names or [*PROGRAMS, LIBRARY]]
+    crates = named(names or [*PROGRAMS, LIBRARY])
     begun = time.monotonic()
     with locked(OUT):
         steps, whole = steps_for(crates, Building())

@@ -1,17 +1,17 @@
 #!/usr/bin/env python3
 """Tries every edit of the crates, those of must-fail/ and those of more-edits/: the prover must refuse each.
 
-    tools/edits.py [CRATE ..]           tries them
-    tools/edits.py --list [CRATE ..]    only prints them: of each crate the file and the function that an edit changes,
-                                        and the mistake that it is named after; * before those that the gate tries
-    tools/edits.py --check [CRATE ..]   only sees whether each can be made of the crates as they are
+    tools/edits.py [NAME ..]           tries them
+    tools/edits.py --list [NAME ..]    only prints them: of each crate the file and the function that an edit changes,
+                                       and the mistake that it is named after; * before those that the gate tries
+    tools/edits.py --check [NAME ..]   only sees whether each can be made of the crates as they are
 
-All crates, or those that are named. What stands below them is proved and built first. The edits of a crate
-are tried over a copy of what a check of the crate as it is has kept. Edits that each change the bodies of other
-functions are tried together, since a proof reads of other functions their contracts alone; such an edit
-counts as refused where its own function is not proved. An edit that changes more than bodies, or that was
-not refused among others, is tried alone. At the end the crate as it is must be proved over the same, which
-shows that this is sound.
+All edits, or those of crates that are named, as delta_book, or one, as delta_book/count_is_off_by_one. What stands
+below them is proved and built first. The edits of a crate are tried over a copy of what a check of the crate as it
+is has kept. Edits that each change the bodies of other functions are tried together, since a proof reads of other
+functions their contracts alone; such an edit counts as refused where its own function is not proved. An edit that
+changes more than bodies, or that was not refused among others, is tried alone. At the end the crate as it is must be
+proved over the same, which shows that this is sound.
 
 The last lines name the edits that were not refused, and those that were refused for no value: since a proof
 names what they take away. The very last one counts. The status is 0 where all were refused. What the prover
@@ -24,9 +24,9 @@ import re
 import shutil
 import sys
 import tempfile
-from collections.abc import Collection, Iterable, Sequence
+from collections.abc import Collection, Sequence
 
-from tooling.crates import OUT, PARTS, ROOT, Crate, read_crates
+from tooling.crates import OUT, PARTS, ROOT, Crate, named
 from tooling.files import content, write
 from tooling.functions import Function, functions_of
 from tooling.prover import Prover
@@ -64,7 +64,7 @@ class Edit:
     """An edit, with the texts of the files that it changes."""
 
     def __init__(self, file: str, folder: str) -> None:
-        self.name = os.path.basename(file).removesuffix(".edit")
+        self.name = name_of(file)
         self.texts: dict[str, str] = {}
         for line in content(file).decode().splitlines():
             key, _, text = line.partition(":")
@@ -121,10 +121,10 @@ def groups_of(edits: list[Edit]) -> list[list[Edit]]:
 class Edits:
     """The edits of one crate, and which of them were not refused."""
 
-    def __init__(self, crate: Crate, prover: Prover) -> None:
+    def __init__(self, crate: Crate, files: list[str], prover: Prover) -> None:
         self.crate = crate
         self.prover = prover
-        self.files = crate.edits()
+        self.files = files
         self.refused = 0
         self.notes: list[str] = []
 
@@ -178,7 +178,7 @@ class Edits:
             try:
                 edits.append(Edit(file, folder))
             except BadEdit as fault:
-                self.note(os.path.basename(file).removesuffix(".edit"), f"bad edit: {fault}")
+                self.note(name_of(file), f"bad edit: {fault}")
         return edits
 
     def note(self, name: str, text: str) -> None:
@@ -256,16 +256,33 @@ def text_of(folder: str, path: str) -> str:
     return content(f"{folder}/{path}").decode()
 
 
-def show_list(crates: Iterable[Crate]) -> None:
-    """Prints the edits of these crates, and how many there are."""
+def asked_for(names: list[str]) -> dict[Crate, list[str]]:
+    """The files of the edits with these names, of whole crates or one by one, by their crates; of all where there are none."""
+    crates = named(dict.fromkeys(name.partition("/")[0] for name in names))
+    edits = {crate: {f"{crate.name}/{name_of(file)}": file for file in crate.edits()} for crate in crates}
+    unknown = [name for name in names if "/" in name and not any(name in files for files in edits.values())]
+    if unknown:
+        sys.exit(f"there is no edit {' '.join(unknown)}: make edits LIST=1 prints all")
+    return {
+        crate: [file for name, file in files.items() if not names or not {name, crate.name}.isdisjoint(names)]
+        for crate, files in edits.items()
+        if files
+    }
+
+
+def name_of(file: str) -> str:
+    """The name of an edit."""
+    return os.path.basename(file).removesuffix(".edit")
+
+
+def show_list(edits: dict[Crate, list[str]]) -> None:
+    """Prints these edits, and how many there are."""
     every, of_gate = 0, 0
-    for crate in crates:
-        files = crate.edits()
+    for crate, files in edits.items():
         gate = [file for file in files if f"/{OF_GATE}/" in file]
         every, of_gate = every + len(files), of_gate + len(gate)
-        if files:
-            print(f"{crate.name}: {len(files)}, the gate tries {len(gate)}")
-            print("\n".join(sorted(f"    {listed(file, crate.folder, file in gate)}" for file in files)))
+        print(f"{crate.name}: {len(files)}, the gate tries {len(gate)}")
+        print("\n".join(sorted(f"    {listed(file, crate.folder, file in gate)}" for file in files)))
     print(f"{every} edits, the gate tries {of_gate}")
 
 
@@ -274,17 +291,17 @@ def listed(file: str, folder: str, is_of_gate: bool) -> str:
     try:
         edit = Edit(file, folder)
     except BadEdit as fault:
-        return f"{os.path.basename(file)}: bad edit: {fault}"
+        return f"{name_of(file)}: bad edit: {fault}"
     functions = {path: [name for at, name in edit.bodies if at == path] for path in edit.texts}
     places = " and ".join(" ".join([path.removeprefix("src/"), *functions[path]]) for path in sorted(functions))
     return f"{places}: {'* ' if is_of_gate else ''}{edit.name.replace('_', ' ')}"
 
 
-def wrong_edits(crates: Iterable[Crate]) -> int:
-    """Prints which edits can't be made, and how many can: how many not."""
+def wrong_edits(edits: dict[Crate, list[str]]) -> int:
+    """Prints which of these edits can't be made, and how many can: how many not."""
     every = wrong = 0
-    for crate in crates:
-        for file in crate.edits():
+    for crate, files in edits.items():
+        for file in files:
             every += 1
             try:
                 Edit(file, crate.folder)
@@ -296,19 +313,14 @@ def wrong_edits(crates: Iterable[Crate]) -> int:
 
 
 def main(words: list[str]) -> int:
-    known = read_crates()
-    names = [it for it in words if it not in (LIST, CHECK)]
-    unknown = [name for name in names if name not in known]
-    if unknown:
-        sys.exit(f"crates.txt lists no crate {' '.join(unknown)}")
-    crates = [known[name] for name in names] or list(known.values())
+    asked = asked_for([it for it in words if it not in (LIST, CHECK)])
     if LIST in words:
-        show_list(crates)
+        show_list(asked)
         return 0
     if CHECK in words:
-        return 1 if wrong_edits(crates) else 0
+        return 1 if wrong_edits(asked) else 0
     building = Building()
-    tried = [Edits(crate, building.prover) for crate in crates if crate.edits()]
+    tried = [Edits(crate, files, building.prover) for crate, files in asked.items()]
     with locked(OUT):
         steps, _ = steps_for([below for edits in tried for below in edits.crate.below], building)
         among = {step.name for step in steps}

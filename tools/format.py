@@ -1,10 +1,11 @@
 #!/usr/bin/env python3
 """Lays out the code of the crates as `rt fmt` does.
 
-    tools/format.py [--check]
+    tools/format.py [--check] [CRATE ..]
 
-Lines of proofs that have more than 100 columns are broken. With --check nothing is changed: the files are named that would
-be, and the lines that have more than 100 columns. The status is 1 where there are any.
+All crates, or those that are named. Lines of proofs that have more than 100 columns are broken. With --check nothing
+is changed: the files are named that would be, and the lines that have more than 100 columns. The status is 1 where
+there are any.
 """
 import os
 import re
@@ -12,10 +13,11 @@ import subprocess
 import sys
 from collections.abc import Iterator
 
-from tooling.crates import ROOT, Crate, read_crates
+from tooling.crates import ROOT, Crate, named
 from tooling.narrow import narrowed
 from tooling.prover import Prover
 
+CHECK = "--check"
 # What has a layout.
 LAID_OUT = (".rt", ".antt")
 # How many columns a line has at most, and what of a line may be wider: a text, an attribute of the prover, an import of
@@ -64,10 +66,9 @@ def narrow(crate: Crate) -> bool:
 
 
 def main(words: list[str]) -> int:
-    if words not in ([], ["--check"]):
-        sys.exit("usage: tools/format.py [--check]")
-    crates = list(read_crates().values())
-    if words:
+    names = [it for it in words if it != CHECK]
+    crates = named(names)
+    if CHECK in words:
         faults = [*lay_out(crates, "--check"), *(place for crate in crates for place in too_wide(crate))]
     else:
         faults = lay_out(crates, "--write")

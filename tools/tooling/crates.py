@@ -4,7 +4,8 @@ from __future__ import annotations
 import hashlib
 import os
 import subprocess
-from collections.abc import Iterator
+import sys
+from collections.abc import Iterable, Iterator
 
 from tooling.files import content
 
@@ -81,6 +82,15 @@ def read_crates() -> dict[str, Crate]:
     for name in lines:
         add(name)
     return crates
+
+
+def named(names: Iterable[str]) -> list[Crate]:
+    """The crates with these names, or all, lowest first, where there are none. A name that no crate has ends the command."""
+    known, names = read_crates(), list(names)
+    unknown = [name for name in names if name not in known]
+    if unknown:
+        sys.exit(f"crates.txt lists no crate {' '.join(unknown)}")
+    return [known[name] for name in names or known]
 
 
 class Digests:
