@@ -9,10 +9,10 @@ use metric_events::span::Span;
 use std::alloc::AllocError;
 
 /// Room for so many spans is made at least, where room is made.
-pub const LEAST_ROOM: usize = 4;
+pub const LEAST_ROOM: usize = 1;
 
 /// Room for so many spans may be kept where there is none: what the first room has.
-pub const KEPT_ROOM: usize = 4;
+pub const KEPT_ROOM: usize = 1;
 
 /// The span of a point that is pending or in flight, and its batch.
 #[derive(Clone, Copy, Drop)]
@@ -97,7 +97,8 @@ pub fn make_room(spans: &mut Vec<BatchSpan>) -> Result<(), AllocError>
 }
 
 /// Gives room back: where no span is left, all that is more than `KEPT_ROOM`; else what is more
-/// than that and than four times what the spans take, unless the allocator makes no block smaller.
+/// than that and at least four times what the spans take, unless the allocator makes no block
+/// smaller.
 pub fn give_back_room(spans: &mut Vec<BatchSpan>)
     ensures items { spans.new.items ≡ spans.old.items }
     ensures len { vec_len spans.new ≡ vec_len spans.old }
@@ -106,7 +107,7 @@ pub fn give_back_room(spans: &mut Vec<BatchSpan>)
 {
     let len = spans.len();
     let spare = spans.capacity() - len;
-    if spare > KEPT_ROOM && spare / 4 > len {
+    if spare > KEPT_ROOM && spare / 4 >= len {
         spans.shrink_to_fit();
     }
 }

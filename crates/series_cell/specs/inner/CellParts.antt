@@ -31,7 +31,7 @@ IsCell c = (qs : List Accepted) × Stands c qs
 abbrev pub AreWords : List ℕ → Type 0
 AreWords row = (k : ℕ) → k < length row → slice_index row k < 2 ^ 64
 
--- where no span is left, no more room is kept than what a few usual posts need
+-- where no span is left, no more room is kept than what a usual post needs
 abbrev pub IsLean : CellView → Type 0
 IsLean c = c.spans ≡ [] → c.spare ≤ KEPT_ROOM
 
