@@ -1,9 +1,10 @@
 -- Rows that are known place by place.
 use Rattle.std.proofs.Common.{◌≡◌, ℕ, ◌+◌, ◌<◌, ◌≤◌, List, [], ◌∷◌, ◌++◌, take, drop, length, refl}
-use Rattle.std.proofs.Common.{ap, sym, ◌∙◌, arith, zero, suc}
+use Rattle.std.proofs.Common.{ap, sym, ◌∙◌, subst, arith, zero, suc}
 use Rattle.std.proofs.lemmas.List.{drop_all, take_all, append-nil}
 use Rattle.std.proofs.Math.ListN.{replicate}
 use Rattle.std.specs.Prelude.{slice_index}
+use Rattle.bucket_lanes.specs.ByPlace.{AreSums, AreDifferences, IsClear}
 use Rattle.metric_events.specs.Rows.{add_rows, zeros}
 use Rattle.metric_events.proofs.Sums.{added_at, zeros_at, length-add_rows, length-zeros}
 
@@ -51,46 +52,25 @@ pub written_back : {X : Type 0} (xs ys : List X) (n : ℕ) → length ys ≡ len
 written_back xs ys n e f =
     rw (drop_all (length ys) xs (omega arith)) (rw (append-nil ys) (take_all n ys (omega arith)))
 
+-- a row taken away from another
+pub taken_row : (all row part rest left : List ℕ) → part ≡ row → all ≡ add_rows row rest
+    → length rest ≡ length all → length left ≡ length all → AreDifferences all part left
+    → left ≡ rest
+taken_row all row part rest left e sum l ll d =
+    rest_row_is all part left rest ll l (sum ∙ ap (λ r. add_rows r rest) (sym e)) d
+
 -- a row moved into another
-pub moved : (dst src d s dst' src' : List ℕ) (m n : ℕ) → d ≡ dst → s ≡ src → length dst ≡ length src
-    → length dst' ≡ length d → length src' ≡ length s
-    → ((k : ℕ) → k < length d → slice_index dst' k ≡ slice_index d k + slice_index s k)
-    → ((k : ℕ) → k < length src' → slice_index src' k ≡ 0) → m ≡ length dst → n ≡ length src
-    → (take m (dst' ++ drop (length dst') dst) ≡ add_rows dst src)
-    × (take n (src' ++ drop (length src') src) ≡ zeros (length src))
-moved dst src d s dst' src' m n ed es l ld ls sums none em en = (
-  written_back dst dst' m (ld ∙ ap length ed) em
-      ∙ (sum_row_is d s dst' ld (omega (arith, ap length ed, ap length es)) sums
-      ∙ (ap (λ r. add_rows r s) ed ∙ ap (add_rows dst) es)),
-  written_back src src' n (ls ∙ ap length es) en
-      ∙ (zero_row_is (length s) src' ls (λ k l. none k (omega arith))
-      ∙ ap (λ r. zeros (length r)) es),
+pub moved : (dst src d s dst' src' : List ℕ) → dst ≡ d → src ≡ s → length s ≡ length d
+    → length dst' ≡ length dst → length src' ≡ length src → AreSums dst src dst' → IsClear src'
+    → (dst' ≡ add_rows d s) × (src' ≡ zeros (length s))
+moved dst src d s dst' src' ed es l ld ls sums none = (
+  sum_row_is dst src dst' ld (omega (arith, ap length ed, ap length es, l)) sums
+      ∙ (ap (λ r. add_rows r src) ed ∙ ap (add_rows d) es),
+  zero_row_is (length s) src' (ls ∙ ap length es)
+      (λ k b. none k (omega (arith, b, ls, ap length es))),
 )
 
--- a row added to another, and taken away from it
-pub added_row : (dst src d s dst' : List ℕ) (m : ℕ) → d ≡ dst → s ≡ src → length src ≡ length dst
-    → length dst' ≡ length d → ((k : ℕ) → k < length d
-    → slice_index dst' k ≡ slice_index d k + slice_index s k) → m ≡ length dst
-    → take m (dst' ++ drop (length dst') dst) ≡ add_rows dst src
-added_row dst src d s dst' m ed es l ld sums em =
-    written_back dst dst' m (ld ∙ ap length ed) em
-    ∙ (sum_row_is d s dst' ld (omega (arith, ap length ed, ap length es)) sums
-    ∙ (ap (λ r. add_rows r s) ed ∙ ap (add_rows dst) es))
-
-pub taken_row : (dst src rest d s dst' : List ℕ) (m : ℕ) → d ≡ dst → s ≡ src
-    → dst ≡ add_rows src rest → length rest ≡ length dst → length dst' ≡ length d
-    → ((k : ℕ) → k < length d → slice_index dst' k + slice_index s k ≡ slice_index d k)
-    → m ≡ length dst → take m (dst' ++ drop (length dst') dst) ≡ rest
-taken_row dst src rest d s dst' m ed es sum l ld sums em =
-    written_back dst dst' m (ld ∙ ap length ed) em
-    ∙ rest_row_is d s dst' rest ld (omega (arith, ap length ed))
-    (ed ∙ (sum ∙ ap (λ r. add_rows r rest) (sym es))) sums
-
--- a row set to 0
-pub cleared_row : (dst d dst' : List ℕ) (m : ℕ) → d ≡ dst → length dst' ≡ length d
-    → ((k : ℕ) → k < length dst' → slice_index dst' k ≡ 0) → m ≡ length dst
-    → take m (dst' ++ drop (length dst') dst) ≡ zeros (length dst)
-cleared_row dst d dst' m ed ld none em =
-    written_back dst dst' m (ld ∙ ap length ed) em
-    ∙ (zero_row_is (length d) dst' ld (λ k l. none k (omega arith))
-    ∙ ap (λ r. zeros (length r)) ed)
+pub differences_are : (all part left total rest : List ℕ) → all ≡ total → left ≡ rest
+    → AreDifferences all part left → AreDifferences total part rest
+differences_are all part left total rest e f d =
+    subst (λ ws. AreDifferences ws part rest) e (subst (λ ws. AreDifferences all part ws) f d)

@@ -8,8 +8,8 @@ use Rattle.series_cell.specs.declared.cell_parts.CellParts.{CellParts}
 pub lent_cell : {k boxed : CellParts} → k ≡ boxed → IsKept boxed → IsCell (view_of k)
 lent_cell e h = subst (λ w. IsCell (view_of w)) (sym e) h.cell
 
-pub lent_words : {k boxed : CellParts} → k ≡ boxed → IsKept boxed → AreWords k.accepted.items
-lent_words e h = subst (λ (w : CellParts). AreWords w.accepted.items) (sym e) h.words
+pub lent_words : {k boxed : CellParts} → k ≡ boxed → IsKept boxed → AreWords k.rows.accepted
+lent_words e h = subst (λ (w : CellParts). AreWords w.rows.accepted) (sym e) h.words
 
 pub lent_view : {k boxed : CellParts} {c : CellView} → k ≡ boxed → view_of boxed ≡ c → view_of k ≡ c
 lent_view e h = ap view_of e ∙ h

@@ -1,4 +1,5 @@
 pub mod ByPlace
+pub mod Block
 pub mod Points
 pub mod Sizes
 pub mod Standing

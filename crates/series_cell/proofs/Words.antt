@@ -49,14 +49,7 @@ words_stored c qs zs h w e = λ k b.
     )
 
 -- rows of different points fit into one
-pub rows_fit : {xs ys ds ss : List ℕ} (zs : List ℕ) → ds ≡ xs → ss ≡ ys
+pub rows_fit : (xs ys zs : List ℕ)
     → ((k : ℕ) → slice_index xs k + slice_index ys k ≤ slice_index zs k) → length xs ≡ length zs
-    → AreWords zs → Fits (2 ^ 64 - 1) ds ss
-rows_fit zs ed es le l h = λ k b. omega (
-  arith,
-  h k (omega (arith, b, ap length ed, l)),
-  le k,
-  ap (λ rs. slice_index rs k) ed,
-  ap
-      (λ rs. slice_index rs k) es,
-)
+    → AreWords zs → Fits (2 ^ 64 - 1) xs ys
+rows_fit xs ys zs le l h = λ k b. omega (arith, h k (omega (arith, b, l)), le k)

@@ -1,1 +1,2 @@
 pub mod CellParts
+pub mod Rows

@@ -19,8 +19,7 @@ use crate::batch_span::{
     make_room, spans_from, spans_to,
 };
 use crate::cell_parts::CellParts;
-use crate::rows::zero_row;
-use bucket_lanes::{add_into, clear, move_into, sub_from};
+use crate::rows::Rows;
 use metric_events::point::Point;
 use metric_events::sender_name::SenderName;
 use metric_events::span::Span;
@@ -30,8 +29,8 @@ use std::marker::Model;
 
 /// The totals of one series: a row of what was accepted, of what is pending (`stored`), in flight,
 /// acknowledged and dropped; and the spans of the points that are in flight or pending, those in
-/// flight first. The rows change by vector operations. All of it is on the heap: a cell is one
-/// word, which a list of cells moves cheaply.
+/// flight first. The rows change by vector operations. All of it is on the heap, the rows in one
+/// block: a cell is one word, which a list of cells moves cheaply.
 #[derive(Drop)]
 pub struct Cell {
     kept: Box<CellParts>,
@@ -65,20 +64,11 @@ impl Cell {
         ensures owner { IfOk result (λ c. c.owner ≡ owner) }
         ensures id { IfOk result (λ c. c.id ≡ id) }
     {
-        let n = id.as_series().row_len();
-        let accepted = zero_row(alloc, n)?;
-        let stored = zero_row(alloc, n)?;
-        let in_flight = zero_row(alloc, n)?;
-        let acknowledged = zero_row(alloc, n)?;
-        let dropped = zero_row(alloc, n)?;
+        let rows = Rows::new(alloc, id.as_series().row_len())?;
         let kept = CellParts {
             owner,
             id,
-            accepted,
-            stored,
-            in_flight,
-            acknowledged,
-            dropped,
+            rows,
             spans: Vec::new(alloc),
             cut: 0,
             flush: 0,
@@ -138,8 +128,7 @@ impl Cell {
         ensures spare { self.new.spare ≤ self.old.spare }
     {
         let kept = self.kept.as_mut();
-        add_into(&mut kept.accepted, point.row());
-        add_into(&mut kept.stored, point.row());
+        kept.rows.add(point.row());
         kept.spans.push_reserved(BatchSpan {
             span: point.span(),
             batch,
@@ -210,8 +199,7 @@ impl Cell {
         let _batch = batch;
         let kept = self.kept.as_mut();
         let at = kept.cut + find_start(spans_from(&kept.spans, kept.cut), point.span().start());
-        sub_from(&mut kept.accepted, point.row());
-        sub_from(&mut kept.stored, point.row());
+        kept.rows.sub(point.row());
         kept.spans.remove(at);
         give_back_room(&mut kept.spans);
     }
@@ -243,7 +231,7 @@ impl Cell {
         ensures spare { self.old.spare ≤ self.new.spare }
     {
         let kept = self.kept.as_mut();
-        move_into(&mut kept.in_flight, &mut kept.stored);
+        kept.rows.lift_off();
         kept.cut = kept.spans.len();
         kept.flush = flush;
     }
@@ -256,7 +244,7 @@ impl Cell {
         ensures spare { self.old.spare ≤ self.new.spare }
     {
         let kept = self.kept.as_mut();
-        move_into(&mut kept.stored, &mut kept.in_flight);
+        kept.rows.set_down();
         kept.cut = 0;
     }
 
@@ -267,7 +255,7 @@ impl Cell {
         ensures same { IsOfSame self.old self.new }
     {
         let kept = self.kept.as_mut();
-        move_into(&mut kept.acknowledged, &mut kept.in_flight);
+        kept.rows.acknowledge();
         kept.landed = kept.landed.max(end_or(spans_to(&kept.spans, kept.cut), 0));
         drop_first(&mut kept.spans, kept.cut);
         give_back_room(&mut kept.spans);
@@ -281,7 +269,7 @@ impl Cell {
         ensures same { IsOfSame self.old self.new }
     {
         let kept = self.kept.as_mut();
-        move_into(&mut kept.dropped, &mut kept.in_flight);
+        kept.rows.discard();
         kept.landed = kept.landed.max(end_or(spans_to(&kept.spans, kept.cut), 0));
         drop_first(&mut kept.spans, kept.cut);
         give_back_room(&mut kept.spans);
@@ -301,9 +289,7 @@ impl Cell {
     {
         let frontier = self.frontier();
         let kept = self.kept.as_mut();
-        kept.accepted.copy_from_slice(kept.stored.as_slice());
-        clear(&mut kept.acknowledged);
-        clear(&mut kept.dropped);
+        kept.rows.carry();
         kept.landed = frontier;
         join_all(&mut kept.spans);
         give_back_room(&mut kept.spans);
@@ -364,35 +350,35 @@ impl Cell {
     pub fn accepted(&self) -> &[u64]
         ensures { result.now ≡ self.now.accepted }
     {
-        self.kept.accepted.as_slice()
+        self.kept.rows.accepted()
     }
 
     /// The sum of the rows of the pending points.
     pub fn stored(&self) -> &[u64]
         ensures { result.now ≡ self.now.stored }
     {
-        self.kept.stored.as_slice()
+        self.kept.rows.stored()
     }
 
     /// The sum of the rows of the points in flight.
     pub fn in_flight(&self) -> &[u64]
         ensures { result.now ≡ self.now.in_flight }
     {
-        self.kept.in_flight.as_slice()
+        self.kept.rows.in_flight()
     }
 
     /// The sum of the rows of the points that the back end has accepted.
     pub fn acknowledged(&self) -> &[u64]
         ensures { result.now ≡ self.now.acknowledged }
     {
-        self.kept.acknowledged.as_slice()
+        self.kept.rows.acknowledged()
     }
 
     /// The sum of the rows of the points that the back end has refused permanently.
     pub fn dropped(&self) -> &[u64]
         ensures { result.now ≡ self.now.dropped }
     {
-        self.kept.dropped.as_slice()
+        self.kept.rows.dropped()
     }
 
     /// The covering span of the pending points.

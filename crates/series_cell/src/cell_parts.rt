@@ -1,4 +1,5 @@
 use crate::batch_span::BatchSpan;
+use crate::rows::Rows;
 use metric_events::sender_name::SenderName;
 use series_id::SharedId;
 
@@ -7,11 +8,7 @@ use series_id::SharedId;
 pub(crate) struct CellParts {
     pub(crate) owner: SenderName,
     pub(crate) id: SharedId,
-    pub(crate) accepted: Vec<u64>,
-    pub(crate) stored: Vec<u64>,
-    pub(crate) in_flight: Vec<u64>,
-    pub(crate) acknowledged: Vec<u64>,
-    pub(crate) dropped: Vec<u64>,
+    pub(crate) rows: Rows,
     pub(crate) spans: Vec<BatchSpan>,
     /// How many of the spans are in flight.
     pub(crate) cut: usize,

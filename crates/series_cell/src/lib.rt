@@ -7,4 +7,5 @@ pub mod batch_span;
 pub mod cell;
 mod cell_parts;
 pub mod laws;
+mod row_block;
 pub mod rows;

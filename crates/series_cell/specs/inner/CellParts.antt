@@ -11,11 +11,11 @@ abbrev pub view_of : CellParts → CellView
 view_of k = record {
   owner = k.owner;
   id = k.id;
-  accepted = k.accepted.items;
-  stored = k.stored.items;
-  in_flight = k.in_flight.items;
-  acknowledged = k.acknowledged.items;
-  dropped = k.dropped.items;
+  accepted = k.rows.accepted;
+  stored = k.rows.stored;
+  in_flight = k.rows.in_flight;
+  acknowledged = k.rows.acknowledged;
+  dropped = k.rows.dropped;
   spans = k.spans.items;
   cut = k.cut;
   flush = k.flush;
@@ -39,5 +39,5 @@ IsLean c = c.spans ≡ [] → c.spare ≤ KEPT_ROOM
 -- has each word of a sum of some of those rows. Room that is not needed is given back.
 pub record IsKept (k : CellParts) : Type 0 where
   pub cell : IsCell (view_of k)
-  pub words : AreWords k.accepted.items
+  pub words : AreWords k.rows.accepted
   pub lean : IsLean (view_of k)

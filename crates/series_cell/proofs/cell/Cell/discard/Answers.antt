@@ -1,43 +1,32 @@
-use Rattle.std.proofs.Common.{sym, ap, ◌∙◌, subst, take, map, max, length, refl}
+use Rattle.std.proofs.Common.{sym, ap, ◌∙◌, subst, take, map, max, refl}
 use Rattle.metric_events.specs.Points.{landed}
 use Rattle.metric_events.specs.Rows.{zeros}
 use Rattle.metric_events.specs.declared.place.Place.TheVariants.{Dropped}
 use Rattle.series_cell.specs.Cells.{CellView, Stands}
 use Rattle.series_cell.specs.inner.CellParts.{view_of}
 use Rattle.series_cell.specs.Spans.{end_of_spans}
-use Rattle.series_cell.proofs.ByPlace.{moved}
 use Rattle.series_cell.proofs.Lent.{lent_cell, lent_words, lent_view}
 use Rattle.series_cell.proofs.Sizes.{sized, within}
 use Rattle.series_cell.proofs.Standing.{stands_dropped}
 use Rattle.series_cell.proofs.Words.{rows_fit}
 use Rattle.series_cell.proofs.cell.Cell.discard.Goals as goal
 
-pub move_into-requires : goal.move_into-requires
-move_into-requires c =
+pub discard-requires : goal.discard-requires
+discard-requires c =
     let own = lent_cell c.as_mut-kept.ensures.value c.self.invariant in
     let s = sized _ own.0 own.1 in
-    record {
-      same = ap length c.deref_mut.ensures.value
-          ∙ (s.dropped ∙ sym (ap length c.deref_mut-2.ensures.value ∙ s.in_flight));
-      fits = rows_fit _ c.deref_mut.ensures.value c.deref_mut-2.ensures.value
-          (λ k. (within _ own.0 k own.1).dropped) (s.dropped ∙ sym s.accepted)
-          (lent_words c.as_mut-kept.ensures.value c.self.invariant);
-    }
+    rows_fit _ _ _ (λ k. (within _ own.0 k own.1).dropped) (s.dropped ∙ sym s.accepted)
+    (lent_words c.as_mut-kept.ensures.value c.self.invariant)
 
 pub invariant_of-self : goal.invariant_of-self
 invariant_of-self c =
     let i = c.as_mut-kept.result.now in
     let own = lent_cell c.as_mut-kept.ensures.value c.self.invariant in
-    let h = own.1 in
-    let s = sized _ own.0 h in
-    let m = moved i.dropped.items i.in_flight.items _ _ _ _ i.dropped.len i.in_flight.len
-    c.deref_mut.ensures.value c.deref_mut-2.ensures.value (s.dropped ∙ sym s.in_flight)
-    c.move_into.auto.dst c.move_into.auto.src c.move_into.ensures.sums
-    c.move_into.ensures.none i.dropped.ok.0 i.in_flight.ok.0 in
-    record {
+    rw c.discard.ensures (record {
       cell = (
         map (landed i.flush Dropped) own.0,
-        stands_dropped _ i.flush own.0 _ _ _ _ _ refl h m.0 (m.1 ∙ ap zeros s.in_flight)
+        stands_dropped _ i.flush own.0 _ _ _ _ _ refl own.1 refl
+            (ap zeros (sized _ own.0 own.1).in_flight)
             (c.give_back_room.ensures.items ∙ c.drop_first.ensures.items)
             (c.max-kept.ensures ∙ ap (λ n. max i.landed n)
             (c.end_or.ensures ∙ ap (end_of_spans 0)
@@ -45,7 +34,7 @@ invariant_of-self c =
       );
       words = lent_words c.as_mut-kept.ensures.value c.self.invariant;
       lean = c.give_back_room.ensures.lean;
-    }
+    })
 
 pub returns-clause-stands : goal.returns-clause-stands
 returns-clause-stands c = λ qs g.
@@ -53,14 +42,10 @@ returns-clause-stands c = λ qs g.
     let is = lent_view c.as_mut-kept.ensures.value c.self.view_is in
     let v : CellView = view_of i in
     let h : Stands v qs = subst (λ (w : CellView). Stands w qs) (sym is) g in
-    let s = sized v qs h in
-    let m = moved i.dropped.items i.in_flight.items _ _ _ _ i.dropped.len i.in_flight.len
-    c.deref_mut.ensures.value c.deref_mut-2.ensures.value (s.dropped ∙ sym s.in_flight)
-    c.move_into.auto.dst c.move_into.auto.src c.move_into.ensures.sums
-    c.move_into.ensures.none i.dropped.ok.0 i.in_flight.ok.0 in
-    stands_dropped v c.args.self.now.flush qs _ _ _ _ _ (sym (ap (λ (w : CellView). w.flush) is)) h
-    m.0 (m.1 ∙ ap zeros s.in_flight)
+    rw c.discard.ensures
+    (stands_dropped v c.args.self.now.flush qs _ _ _ _ _
+    (sym (ap (λ (w : CellView). w.flush) is)) h refl (ap zeros (sized v qs h).in_flight)
     (c.give_back_room.ensures.items ∙ c.drop_first.ensures.items)
     (c.max-kept.ensures ∙ ap (λ n. max i.landed n)
     (c.end_or.ensures
-    ∙ ap (end_of_spans 0) (c.spans_to.ensures ∙ ap (take i.cut) c.deref.ensures.value)))
+    ∙ ap (end_of_spans 0) (c.spans_to.ensures ∙ ap (take i.cut) c.deref.ensures.value))))

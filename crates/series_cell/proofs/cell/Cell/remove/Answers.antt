@@ -12,8 +12,8 @@ use Rattle.series_cell.proofs.Standing.{stands_remove, taken_from, parted, span_
 use Rattle.series_cell.proofs.Words.{words_left}
 use Rattle.series_cell.proofs.cell.Cell.remove.Goals as goal
 
-pub sub_from-requires : goal.sub_from-requires
-sub_from-requires c =
+pub sub-requires : goal.sub-requires
+sub-requires c =
     let i = c.as_mut-kept.result.now in
     let v : CellView = view_of i in
     let g : HasHome v c.args.batch c.args.point.now =
@@ -22,37 +22,18 @@ sub_from-requires c =
     let t = taken_from v c.args.batch c.args.point.now g.0 g.1.0 g.1.1 in
     let s = sized v _ g.1.1 in
     record {
-      same = ap length c.deref_mut.ensures.value
-          ∙ (s.accepted ∙ sym (ap length c.row.ensures.value ∙ t.long));
-      within = λ k l. omega (
+      same = s.accepted ∙ sym (ap length c.row.ensures.value ∙ t.long);
+      accepted = λ k l. omega (
         arith,
-        part_le c.args.point.now.row _ i.accepted.items k t.accepted,
-        ap
-            (λ (r : List ℕ). slice_index r k) c.deref_mut.ensures.value,
+        part_le c.args.point.now.row _ i.rows.accepted k t.accepted,
         ap
             (λ (r : List ℕ). slice_index r k) c.row.ensures.value,
       );
-    }
-
-pub sub_from-requires-2 : goal.sub_from-requires-2
-sub_from-requires-2 c =
-    let i = c.as_mut-kept.result.now in
-    let v : CellView = view_of i in
-    let g : HasHome v c.args.batch c.args.point.now =
-    lent (λ (w : CellView). HasHome w c.args.batch c.args.point.now) c.as_mut-kept.ensures.value
-    c.self.view_is c.requires in
-    let t = taken_from v c.args.batch c.args.point.now g.0 g.1.0 g.1.1 in
-    let s = sized v _ g.1.1 in
-    record {
-      same = ap length c.deref_mut-2.ensures.value
-          ∙ (s.stored ∙ sym (ap length c.row-2.ensures.value ∙ t.long));
-      within = λ k l. omega (
+      stored = λ k l. omega (
         arith,
-        part_le c.args.point.now.row _ i.stored.items k t.stored,
+        part_le c.args.point.now.row _ i.rows.stored k t.stored,
         ap
-            (λ (r : List ℕ). slice_index r k) c.deref_mut-2.ensures.value,
-        ap
-            (λ (r : List ℕ). slice_index r k) c.row-2.ensures.value,
+            (λ (r : List ℕ). slice_index r k) c.row.ensures.value,
       );
     }
 
@@ -83,31 +64,28 @@ invariant_of-self c =
     let h = g.1.1 in
     let t = taken_from v c.args.batch c.args.point.now g.0 g.1.0 h in
     let s = sized v _ h in
-    let left = taken_row i.accepted.items c.args.point.now.row _ _ _ _ i.accepted.len
-    c.deref_mut.ensures.value c.row.ensures.value t.accepted (t.accepted_long ∙ sym s.accepted)
-    c.sub_from.auto.dst c.sub_from.ensures i.accepted.ok.0 in
+    let left = taken_row i.rows.accepted c.args.point.now.row _ _ _ c.row.ensures.value t.accepted
+    (t.accepted_long ∙ sym s.accepted) c.sub.ensures.sizes.0 c.sub.ensures.accepted in
     let at =
     found v _ c.spans_from.result.now c.args.point.now.span.start c.start.result c.find_start.result
     h
     (c.spans_from.ensures ∙ ap (drop i.cut) c.deref.ensures.value)
     (c.start.ensures ∙ ap (λ (t : Interval). t.start) c.span.ensures) c.find_start.ensures.value in
-    record {
+    rw c.sub.ensures.rest (record {
       cell = (
         g.0 ++ g.1.0,
         stands_remove v c.args.batch c.args.point.now g.0 g.1.0 _ _ _ _ h
             left
-            (taken_row i.stored.items c.args.point.now.row _ _ _ _ i.stored.len
-            c.deref_mut-2.ensures.value c.row-2.ensures.value t.stored
-            (t.stored_long ∙ sym s.stored) c.sub_from-2.auto.dst c.sub_from-2.ensures
-            i.stored.ok.0)
+            (taken_row i.rows.stored c.args.point.now.row _ _ _ c.row.ensures.value t.stored
+            (t.stored_long ∙ sym s.stored) c.sub.ensures.sizes.1 c.sub.ensures.stored)
             (c.give_back_room.ensures.items
             ∙ (c.remove.ensures.items ∙ ap (λ n. remove i.spans.items (i.cut + n)) at)),
       );
-      words = words_left i.accepted.items c.args.point.now.row
+      words = words_left i.rows.accepted c.args.point.now.row
           _ _ (lent_words c.as_mut-kept.ensures.value c.self.invariant) t.accepted
           (t.accepted_long ∙ sym s.accepted) left;
       lean = c.give_back_room.ensures.lean;
-    }
+    })
 
 pub returns-clause-stands : goal.returns-clause-stands
 returns-clause-stands c = λ before after k.
@@ -124,12 +102,11 @@ returns-clause-stands c = λ before after k.
     h
     (c.spans_from.ensures ∙ ap (drop i.cut) c.deref.ensures.value)
     (c.start.ensures ∙ ap (λ (t : Interval). t.start) c.span.ensures) c.find_start.ensures.value in
-    stands_remove v c.args.batch c.args.point.now before after _ _ _ _ h
-    (taken_row i.accepted.items c.args.point.now.row _ _ _ _ i.accepted.len
-    c.deref_mut.ensures.value c.row.ensures.value t.accepted (t.accepted_long ∙ sym s.accepted)
-    c.sub_from.auto.dst c.sub_from.ensures i.accepted.ok.0)
-    (taken_row i.stored.items c.args.point.now.row _ _ _ _ i.stored.len c.deref_mut-2.ensures.value
-    c.row-2.ensures.value t.stored (t.stored_long ∙ sym s.stored) c.sub_from-2.auto.dst
-    c.sub_from-2.ensures i.stored.ok.0)
+    rw c.sub.ensures.rest
+    (stands_remove v c.args.batch c.args.point.now before after _ _ _ _ h
+    (taken_row i.rows.accepted c.args.point.now.row _ _ _ c.row.ensures.value t.accepted
+    (t.accepted_long ∙ sym s.accepted) c.sub.ensures.sizes.0 c.sub.ensures.accepted)
+    (taken_row i.rows.stored c.args.point.now.row _ _ _ c.row.ensures.value t.stored
+    (t.stored_long ∙ sym s.stored) c.sub.ensures.sizes.1 c.sub.ensures.stored)
     (c.give_back_room.ensures.items
-    ∙ (c.remove.ensures.items ∙ ap (λ n. remove i.spans.items (i.cut + n)) at))
+    ∙ (c.remove.ensures.items ∙ ap (λ n. remove i.spans.items (i.cut + n)) at)))

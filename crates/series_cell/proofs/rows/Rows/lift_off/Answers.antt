@@ -1,0 +1,17 @@
+use Rattle.std.proofs.Common.{length, ap, ap₂, sym, ◌∙◌, arith}
+use Rattle.metric_events.specs.Rows.{add_rows, zeros}
+use Rattle.series_cell.proofs.Block.{length_row, held, rows_back}
+use Rattle.series_cell.proofs.rows.Rows.lift_off.Goals as goal
+
+pub returns : goal.returns
+returns c =
+    let was = held _ _ _ c.deref_mut.ensures.value c.self.view_is in
+    rows_back _ _ _ _ _ c.deref_mut.ensures.value c.move_row.auto.words c.self.inside.words.ok.0
+    (record {
+      accepted = c.move_row.ensures.rest 0 (omega arith) (omega arith) ∙ was.accepted;
+      stored = c.move_row.ensures.none
+          ∙ ap zeros (sym (length_row 1 _ (omega arith)) ∙ ap length was.stored);
+      in_flight = c.move_row.ensures.sum ∙ ap₂ add_rows was.in_flight was.stored;
+      acknowledged = c.move_row.ensures.rest 3 (omega arith) (omega arith) ∙ was.acknowledged;
+      dropped = c.move_row.ensures.rest 4 (omega arith) (omega arith) ∙ was.dropped;
+    })
