@@ -8,7 +8,6 @@ use delta_book::faults::AdmitFault;
 use ensure::ensure_eq;
 use metric_events::batch::Batch;
 use metric_events::points::Points;
-use series_cell::batch_span::KEPT_ROOM;
 use std::alloc::Global;
 use std::process::Abort;
 use std::test::Fail;
@@ -27,9 +26,9 @@ fn many(alloc: Global, sent_by: usize, start: u64, count: u64, late: bool) -> Re
     Ok(Batch { sender, points })
 }
 
-/// Room for so many points may be left where one or two are: it is given back where it is more than
-/// four times what they take.
-const FEW: usize = 3 * KEPT_ROOM;
+/// Less room is left where one or two points are: it is given back where it is at least four times
+/// what they take.
+const FEW: usize = 8;
 
 /// The first cell has room for few points more.
 fn expect_few(rt: &impl Abort, book: &Book) -> Result<(), Fail> {
