@@ -158,9 +158,9 @@ fn closing(core: &Arc<Core>, by: &Arc<Names>, posts: std::ops::Range<u64>) -> Ve
 fn rounds_are_closed_book_by_book() {
     let core = Core::new(24_000).unwrap();
     let by = named(&names("s", 20)); // of each book some
-    let closed = closing(&core, &by, 1..2_701);
-    assert_eq!(closed, [(2_000, 1), (2_334, 1), (2_667, 1)]);
-    assert!(taken(&core).values().all(|one| *one == (2_700, 27_010)));
+    let closed = closing(&core, &by, 1..3_401);
+    assert_eq!(closed, [(2_500, 1), (2_917, 1), (3_334, 1)]);
+    assert!(taken(&core).values().all(|one| *one == (3_400, 34_010)));
 }
 
 /// A book whose turn was passed over would have twice as much in its journal.
@@ -168,11 +168,11 @@ fn rounds_are_closed_book_by_book() {
 fn while_something_is_in_flight_rounds_wait() {
     let core = Core::new(24_000).unwrap();
     let by = named(&names("s", 20));
-    assert_eq!(closing(&core, &by, 1..2_101), [(2_000, 1)]);
+    assert_eq!(closing(&core, &by, 1..2_601), [(2_500, 1)]);
     let flushed = core.lock().take_all().unwrap();
-    assert_eq!(closing(&core, &by, 2_101..2_701), []);
+    assert_eq!(closing(&core, &by, 2_601..3_401), []);
     core.lock().settle(flushed).unwrap();
-    assert_eq!(closing(&core, &by, 2_701..2_704), [(2_701, 1), (2_702, 1)]);
+    assert_eq!(closing(&core, &by, 3_401..3_404), [(3_401, 1), (3_402, 1)]);
 }
 
 /// A post that was read from a text, with its points by number or without them.
