@@ -152,10 +152,11 @@ impl Names {
             let (words, names) = said(reader, &mut handle, least + more)?;
             drop(handle);
             self.more.store(words.len().saturating_sub(least), Relaxed);
-            self.name_all(names, has_room)?;
-            self.named().split(words, count).ok_or(Refused::NoSuch)
+            self.with_all(names, has_room)?.split(words, count).ok_or(Refused::NoSuch)
         });
-        self.is_closed.fetch_or(points.is_err(), Relaxed);
+        if points.is_err() {
+            self.is_closed.store(true, Relaxed);
+        }
         points.ok()
     }
 
@@ -166,14 +167,21 @@ impl Names {
         }
     }
 
-    /// So many have a request from here on. Others read points between two of them.
-    fn name_all(&self, names: u64, has_room: impl Fn(usize) -> bool) -> Result<(), Refused> {
-        while self.count() < names {
-            let mut handle = self.handle();
-            let next = self.count() + 1;
-            self.name_those_before(next.min(names), &mut handle, &has_room)?;
+    /// All, once so many have a request. Others read points between two of them.
+    fn with_all(
+        &self,
+        names: u64,
+        has_room: impl Fn(usize) -> bool,
+    ) -> Result<RwLockReadGuard<'_, Named>, Refused> {
+        loop {
+            let named = self.named();
+            let count = named.texts.count() as u64;
+            if count >= names {
+                return Ok(named);
+            }
+            drop(named);
+            self.name_those_before(count + 1, &mut self.handle(), &has_room)?;
         }
-        Ok(())
     }
 
     fn name_those_before(

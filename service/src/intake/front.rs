@@ -133,8 +133,8 @@ struct Waiting {
     most_idle: u32,
     look: Pin<Box<Sleep>>,
     stop: Pin<Box<dyn Future<Output = ()> + Send>>,
-    /// It is waited for once: all connections wait by one lock, which is not taken with each request.
-    is_waited_for: bool,
+    /// Both are waited for once, and not with each request: all connections wait for the end by one lock.
+    are_waited_for: bool,
     stopped: watch::Receiver<bool>,
     ending: bool,
     permits: Arc<ConnectionPermits>,
@@ -160,7 +160,7 @@ impl Waiting {
             most_idle: (idle.as_millis() / period.as_millis()) as u32,
             look: Box::pin(tokio::time::sleep(period)),
             stop: Box::pin(async move { stopped.wait_true().await }),
-            is_waited_for: false,
+            are_waited_for: false,
             stopped: stop,
             ending: false,
             permits,
@@ -184,8 +184,7 @@ impl Waiting {
 
     /// Whether the service ends: whoever waits here is woken then.
     fn is_ending(&mut self, context: &mut Context<'_>) -> bool {
-        if !self.ending && (!self.is_waited_for || self.has_stopped()) {
-            self.is_waited_for = true;
+        if !self.ending && (!self.are_waited_for || self.has_stopped()) {
             self.ending = self.stop.as_mut().poll(context).is_ready();
         }
         self.ending
@@ -234,15 +233,18 @@ impl Waiting {
             if self.is_ending(context) && is_idle {
                 return Poll::Ready(Came::Nothing);
             }
-            while self.look.as_mut().poll(context).is_ready() {
-                self.look.as_mut().reset(Instant::now() + self.period);
-                self.looks += 1; // the first of them may have come at once
-                match is_idle {
-                    true if self.looks > self.most_idle() => return Poll::Ready(Came::Nothing),
-                    false if self.looks > LOOKS => return Poll::Ready(Came::TooLate),
-                    _ => {}
+            if !self.are_waited_for || self.look.is_elapsed() {
+                while self.look.as_mut().poll(context).is_ready() {
+                    self.look.as_mut().reset(Instant::now() + self.period);
+                    self.looks += 1; // the first of them may have come at once
+                    match is_idle {
+                        true if self.looks > self.most_idle() => return Poll::Ready(Came::Nothing),
+                        false if self.looks > LOOKS => return Poll::Ready(Came::TooLate),
+                        _ => {}
+                    }
                 }
             }
+            self.are_waited_for = true;
             Poll::Pending
         })
         .await

@@ -226,7 +226,7 @@ impl<'r> Reader<'r> {
             })?,
             false => None,
         };
-        Ok((numbered.map_or(Request::Text(body), Request::Numbered), rounded))
+        Ok((numbered.map_or(Request::Text(body), Request::from), rounded))
     }
 }
 

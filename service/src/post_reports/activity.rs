@@ -4,7 +4,8 @@ use crate::log::{seconds, shown};
 use crate::metrics::reason_of;
 use crate::otlp::Outcome;
 use crate::work::locked;
-use std::collections::{BTreeMap, HashMap};
+use ahash::AHashMap;
+use std::collections::BTreeMap;
 use std::sync::Mutex;
 
 /// So many senders are known. Where there is another one, those that posted last are kept, so many.
@@ -16,7 +17,7 @@ const TEXT: usize = 300;
 
 /// All senders, by name.
 #[derive(Default)]
-pub struct SenderActivity(Mutex<HashMap<String, OfSender>>);
+pub struct SenderActivity(Mutex<AHashMap<String, OfSender>>);
 
 /// Of one sender.
 #[derive(Clone, Debug, Default, PartialEq, Eq)]
@@ -86,7 +87,7 @@ impl SenderActivity {
 }
 
 /// Names come from outside: who posted longest ago is forgotten where there are too many, several at a time.
-fn make_room(all: &mut HashMap<String, OfSender>) {
+fn make_room(all: &mut AHashMap<String, OfSender>) {
     if all.len() < MOST {
         return;
     }

@@ -113,7 +113,7 @@ fn row_of(says: &[u64]) -> [u64; 4] {
 mod tests {
     use super::*;
     use crate::runs::{First, Options};
-    use crate::slot::{Request, Shared};
+    use crate::slot::Shared;
     use std::sync::Arc;
 
     const HOUR: u64 = 3_600_000_000_000;
@@ -194,7 +194,7 @@ mod tests {
         slot.runs.set(Options { first: First::Count, ..Options::default() });
         let runs = sums(10, &[i64::MAX, 5]).replace(r#"Temporality":1"#, r#"Temporality":2"#);
         let by = slot.numbered_text(&runs.into()).unwrap().unwrap();
-        let outcome = slot.request("A".into(), Request::Numbered(by)).await;
+        let outcome = slot.request("A".into(), by.into()).await;
         assert_eq!(outcome.status(), 413, "{outcome:?}");
         let read = slot.core.read("A".into(), sums(10, &[HALF, HALF]).into()).unwrap();
         assert!(matches!(read.post.body, Body::Text(_)));

@@ -33,15 +33,14 @@ const PART_OF_ALL: u64 = 8;
 /// of some bytes.
 const MOST_OF_ONE: usize = 256 << 20;
 
-/// What is posted. It is moved as often as it is boxed otherwise.
-#[allow(clippy::large_enum_variant)]
+/// What is posted. Each future on a post's way has it, so what is large is boxed.
 pub enum Request {
     /// In the book's form.
     Text(Bytes),
     /// In protobuf that the book's reader reads as it came, unless it finds that it can't.
     Plain(Protobuf),
     /// Of other protobuf.
-    Numbered(ByNumber),
+    Numbered(Box<ByNumber>),
 }
 
 /// A body, and how it is read where it is not read as it came.
@@ -99,12 +98,27 @@ impl From<Bytes> for Request {
     }
 }
 
+impl From<ByNumber> for Request {
+    fn from(by: ByNumber) -> Request {
+        Request::Numbered(Box::new(by))
+    }
+}
+
 impl Request {
     pub fn source(&self) -> Source {
         match self {
             Request::Text(text) => Source::Text(text.clone()),
             Request::Plain(plain) => Source::Protobuf(plain.clone()),
             Request::Numbered(points) => points.source.clone(),
+        }
+    }
+
+    /// Of the request as it came.
+    pub fn length(&self) -> usize {
+        match self {
+            Request::Text(text) => text.len(),
+            Request::Plain(plain) => plain.body.len(),
+            Request::Numbered(points) => points.source.length(),
         }
     }
 
@@ -308,7 +322,7 @@ impl Numbers {
         if now.is_some_and(|now| now.may_be_plain()) && is_plain(body, reading) {
             return Some(Request::Plain(Protobuf::new(body, reading)));
         }
-        self.read(core, body, reading).map(Request::Numbered)
+        self.read(core, body, reading).map(Request::from)
     }
 
     /// A plain body with its points by number; none where it is to be read `otherwise`.
@@ -323,7 +337,7 @@ impl Numbers {
     /// A plain body as any other in protobuf.
     pub fn otherwise(&self, core: &Core, plain: Protobuf) -> Result<Request, Refused> {
         match self.read(core, &plain.body, &plain.reading) {
-            Some(points) => Ok(Request::Numbered(points)),
+            Some(points) => Ok(points.into()),
             None => plain.text().map(Request::Text).ok_or(Refused::NotJson),
         }
     }

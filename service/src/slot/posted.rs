@@ -68,7 +68,7 @@ pub fn read(
             None => read(core, numbers, window, sender, numbers.otherwise(core, plain)?),
         },
         Request::Text(body) => read_text(core, numbers, window, sender, body),
-        Request::Numbered(by) => read_numbered(core, numbers, window, sender, by),
+        Request::Numbered(by) => read_numbered(core, numbers, window, sender, *by),
     }
 }
 

@@ -43,12 +43,12 @@ impl Slot {
             Request::Numbered(by) if !by.cumulative.is_empty() => {
                 let series = || Series::numbered(by.names.clone(), by.points.numbers());
                 match self.claim(&sender, by.points.count() as u64, by.source.length(), series).await {
-                    Ok(claim) => self.put_cumulative(sender, by, claim).await,
+                    Ok(claim) => self.put_cumulative(sender, *by, claim).await,
                     Err(over) => return over.into(),
                 }
             }
             request => {
-                let length = request.source().length();
+                let length = request.length();
                 let window = self.clock.window();
                 let mut posted = match request.is_short() {
                     true => read(&self.core, &self.numbers, &window, sender, request),

@@ -5,7 +5,6 @@ use crate::files::test_random::TestRandom;
 use crate::otlp::series::{forwarded, Value};
 use crate::otlp::Outcome;
 use crate::runs::Options;
-use crate::slot::Request;
 use std::collections::BTreeMap;
 
 /// Points begin here, so that they are of runs that began after the folder was made.
@@ -56,7 +55,7 @@ impl Run {
 
     pub async fn cumulative(&self, sender: &str, points: &[Point]) -> Outcome {
         let by = self.slot.numbered_text(&text(points, 2).into()).unwrap().unwrap();
-        self.slot.request(sender.into(), Request::Numbered(by)).await
+        self.slot.request(sender.into(), by.into()).await
     }
 
     /// What it has forwarded.

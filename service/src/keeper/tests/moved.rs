@@ -9,7 +9,7 @@ use crate::files::{Drive, Fault};
 use crate::intake::{Budget, Intake};
 use crate::otlp::series::{forwarded, Value};
 use crate::otlp::{Encoding, Original, Resources};
-use crate::slot::{Place, Request, Slots, MOVED, NO_STORE};
+use crate::slot::{Place, Slots, MOVED, NO_STORE};
 use std::collections::BTreeMap;
 use std::io;
 use std::sync::atomic::AtomicU64;
@@ -136,7 +136,7 @@ impl World {
             OfRun(value) => {
                 let points = [cumulative::point("m", BEGIN, BEGIN + value as u64, value)];
                 let by = run.slot.numbered_text(&text(&points, 2).into()).unwrap().unwrap();
-                let outcome = run.slot.request("A".into(), Request::Numbered(by)).await;
+                let outcome = run.slot.request("A".into(), by.into()).await;
                 assert_eq!(answered(outcome)?.0, 200);
                 self.time = self.time.max(value as u64);
             }

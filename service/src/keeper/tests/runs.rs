@@ -6,7 +6,6 @@ use super::*;
 use crate::files::test_random::TestRandom;
 use crate::otlp::Outcome;
 use crate::runs::{First, Options, Reset};
-use crate::slot::Request;
 use std::collections::BTreeMap;
 
 #[tokio::test(flavor = "multi_thread")]
@@ -212,7 +211,7 @@ fn mixed(deltas: &[Point], all: &[Point]) -> String {
 impl Run {
     async fn mixed(&self, sender: &str, deltas: &[Point], all: &[Point]) -> Outcome {
         let by = self.slot.numbered_text(&mixed(deltas, all).into()).unwrap().unwrap();
-        self.slot.request(sender.into(), Request::Numbered(by)).await
+        self.slot.request(sender.into(), by.into()).await
     }
 }
 

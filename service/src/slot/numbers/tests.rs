@@ -37,7 +37,7 @@ impl Both {
         let slow = self.text(&body).and_then(|text| admitted(&self.slow, &self.numbers, sender, text));
         let by_number = self.numbers.read(&self.fast, &body, &self.reading);
         self.by_number += usize::from(by_number.is_some());
-        let request = by_number.map_or_else(|| self.text(&body), |by| Ok(Request::Numbered(by)));
+        let request = by_number.map_or_else(|| self.text(&body), |by| Ok(by.into()));
         let fast = request.and_then(|request| admitted(&self.fast, &self.numbers, sender, request));
         assert_eq!(fast, slow, "{body:02x?}");
         if let Ok(foreign) = slow {
@@ -277,7 +277,7 @@ fn a_post_asks_for_the_room_that_it_takes_in_the_journal() {
         // Numbers of their own: so the journal says all their names.
         let (core, numbers, own) = (Core::new(1).unwrap(), Numbers::default(), Numbers::default());
         let text = prepare(Encoding::Protobuf, body.clone(), &reading).map(|prepared| prepared.body.into());
-        let by_number = own.read(&core, &body, &reading).map(Request::Numbered);
+        let by_number = own.read(&core, &body, &reading).map(Request::from);
         let requests = [(false, by_number), (true, text.ok())].into_iter();
         let requests = requests.filter_map(|(is_text, request)| Some((is_text, request?)));
         for (is_text, request) in requests {
@@ -307,8 +307,7 @@ fn numbers_begin_anew_and_posts_under_way_keep_theirs() {
         both.post(["A", "B"][number / 7 % 2], body);
         let now = both.numbers.now(&both.fast, &both.reading).unwrap();
         generations.insert(files::Names::generation(&*now.names));
-        let points =
-            under_way.and_then(|by| read(&both.fast, &both.numbers, "C", Request::Numbered(by)).ok());
+        let points = under_way.and_then(|by| read(&both.fast, &both.numbers, "C", by.into()).ok());
         let wanted = read(&both.slow, &both.numbers, "C", both.text(&first).unwrap()).unwrap();
         assert!(points.is_none_or(|read| read.post.foreign == wanted.post.foreign));
         if number % 100 == 99 {
