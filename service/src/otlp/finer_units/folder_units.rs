@@ -33,7 +33,8 @@ impl FinerUnits {
             return Ok(());
         };
         let unkept = units.unkept();
-        outbox.put_beside(&named(&unkept))?;
+        outbox.put_beside(&named(&unkept[0]))?;
+        outbox.leave_beside(&named(&unkept[1]))?;
         units.kept(&unkept);
         Ok(())
     }

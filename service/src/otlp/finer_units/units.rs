@@ -17,8 +17,9 @@
 //! Of several slots each decides by what it has itself, so that a post means the same wherever its slot is: else a repeat
 //! would be of another series, and count twice. Where a slot knows nothing of a name yet, it takes what others here have.
 //!
-//! What a post decides is **pending** until it was taken, and gone where it was refused: others that are under way meanwhile are
-//! read by it, and hold it too.
+//! What a post decides, or puts beside another, is **pending** until it was taken, and gone where it was refused: others that are
+//! under way meanwhile are read by it, and hold it too. What is beside nothing any more then decides, as behind a start; what the
+//! outbox has of it is taken back before another post hangs on that.
 
 mod decided;
 
@@ -57,7 +58,7 @@ pub struct Units {
     /// Of each that is opened another; 0 of those that all slots share.
     pub(super) number: u64,
     names: RwLock<Names>,
-    /// Something is beside others that no outbox has.
+    /// The outbox may have something else of a name.
     has_unkept: AtomicBool,
     /// What is known here of a name that this slot does not know yet.
     of_all: Option<Arc<Units>>,
@@ -70,8 +71,8 @@ pub struct Units {
 struct Names {
     units: HashMap<Box<str>, Known>,
     left: usize,
-    /// Those beside others that the outbox has to have; none where there is no outbox.
-    unkept: Option<BTreeSet<Named>>,
+    /// Names of which the outbox may have something else; none where there is no outbox.
+    unkept: Option<BTreeSet<Box<str>>>,
     /// Those that are pending, and how many posts hold each.
     pending: BTreeMap<Named, usize>,
 }
@@ -81,13 +82,23 @@ struct Names {
 struct Known {
     deciding: Set,
     beside: Set,
+    /// Those that decide, and those that are beside others, if a post is taken that is under way.
     pending: Set,
+    pending_beside: Set,
+    /// Those that the outbox has as beside others.
+    kept: Set,
 }
 
 impl Known {
     /// Whether it is known of a unit whether it decides.
     fn is_noted(self, unit: Unit) -> bool {
         (self.deciding | self.beside) & bit(unit) != 0
+    }
+
+    /// Those of which a start would believe something else, since the outbox has it.
+    fn unkept(self) -> Set {
+        let beside = self.beside | self.pending_beside;
+        beside & !self.kept | (self.deciding | self.pending) & !beside & self.kept
     }
 }
 
@@ -187,20 +198,13 @@ impl Units {
         self.known(metric).is_noted(unit)
     }
 
-    /// Notes one. It is beside a finer one, if that has decided: what is coarser than both may be taken in that, and would be
-    /// taken in this from then on.
+    /// Notes one.
     pub fn note_of_rule(self: &Arc<Units>, metric: &str, unit: Unit, decided: &mut Decided) {
         if !self.has_of_rule(metric, unit) {
-            let mut names = self.write();
-            let known = names.of(metric);
-            match self.coarsest(known, unit) {
-                _ if known.is_noted(unit) => {} // another was here meanwhile
-                Some(finer) if finer != unit => {
-                    names.put_beside(metric, unit);
-                    // With the lock: who finds it noted finds this too.
-                    self.has_unkept.store(names.has_unkept(), SeqCst);
-                }
-                _ => drop(self.hold(names, metric, unit, decided)),
+            let names = self.write();
+            // Else another was here meanwhile.
+            if !names.of(metric).is_noted(unit) {
+                self.hold(names, metric, unit, decided);
             }
         }
         self.of_all.iter().for_each(|of_all| of_all.note_of_rule(metric, unit, decided));
@@ -266,7 +270,9 @@ impl Units {
     pub fn begin(&self, beside: impl IntoIterator<Item = (String, Unit)>) {
         let mut names = self.write();
         for (metric, unit) in beside {
-            names.put_beside(&metric, unit);
+            if let Some(known) = names.with_room(&metric) {
+                known.beside |= bit(unit);
+            }
         }
         names.unkept = Some(BTreeSet::new());
     }
@@ -276,6 +282,7 @@ impl Units {
         let mut left = Vec::new();
         for (metric, known) in self.write().units.iter_mut().filter(|(_, known)| known.beside != 0) {
             let before = std::mem::replace(known, self.settled(*known));
+            known.kept = known.beside;
             left.extend(units_of(before.beside & !known.beside).map(|unit| (metric.clone(), unit)));
         }
         let decide = left.iter().filter(|(metric, unit)| self.has(metric, *unit));
@@ -297,17 +304,35 @@ impl Units {
         self.has_unkept.load(SeqCst)
     }
 
-    pub fn unkept(&self) -> Vec<Named> {
-        self.read().unkept.iter().flatten().cloned().collect()
+    /// What the outbox has to have as beside others, and what no more.
+    pub fn unkept(&self) -> [Vec<Named>; 2] {
+        let (names, mut both) = (self.read(), [Vec::new(), Vec::new()]);
+        for metric in names.unkept.iter().flatten() {
+            let known = names.of(metric);
+            for unit in units_of(known.unkept()) {
+                both[usize::from(known.kept & bit(unit) != 0)].push((metric.clone(), unit));
+            }
+        }
+        both
     }
 
-    /// The outbox has these.
-    pub fn kept(&self, these: &[Named]) {
+    /// The outbox has the first ones, and the others no more.
+    pub fn kept(&self, these: &[Vec<Named>; 2]) {
         let mut names = self.write();
-        if let Some(unkept) = &mut names.unkept {
-            unkept.retain(|one| these.binary_search(one).is_err()); // they came in its order
+        for (metric, unit) in these.iter().flatten() {
+            if let Some(known) = names.units.get_mut(metric) {
+                known.kept ^= bit(*unit);
+            }
         }
-        self.has_unkept.store(names.has_unkept(), SeqCst);
+        // Others may have come meanwhile.
+        let told = names.unkept.as_mut().map(std::mem::take).unwrap_or_default();
+        told.iter().for_each(|metric| self.note_change(&mut names, metric));
+    }
+
+    /// Behind a change of what is known of a name, with the lock: who finds it changed finds this too.
+    fn note_change(&self, names: &mut Names, metric: &str) {
+        names.note_change(metric);
+        self.has_unkept.store(names.unkept.iter().any(|unkept| !unkept.is_empty()), SeqCst);
     }
 }
 
@@ -329,17 +354,16 @@ impl Names {
         })
     }
 
-    fn put_beside(&mut self, metric: &str, unit: Unit) {
-        if let Some(known) = self.with_room(metric) {
-            known.beside |= bit(unit);
+    /// What nothing is known of goes, but where the outbox is being told of it.
+    fn note_change(&mut self, metric: &str) {
+        let known = self.of(metric);
+        let is_told = self.unkept.as_mut().is_some_and(|unkept| {
+            let is_new = known.unkept() != 0 && unkept.insert(metric.into());
+            is_new || unkept.contains(metric)
+        });
+        if known == Known::default() && !is_told && self.units.remove(metric).is_some() {
+            self.left += metric.len() + ENTRY;
         }
-        if let Some(unkept) = &mut self.unkept {
-            unkept.insert((metric.into(), unit));
-        }
-    }
-
-    fn has_unkept(&self) -> bool {
-        self.unkept.as_ref().is_some_and(|unkept| !unkept.is_empty())
     }
 
     /// What is known of a name; none where there is no room for it.

@@ -1,6 +1,6 @@
 //! What posts have decided that are under way.
 
-use super::{bit, Known, Named, Names, Unit, Units, ENTRY};
+use super::{bit, units_of, Known, Named, Names, Unit, Units};
 use std::fmt;
 use std::sync::{Arc, RwLockWriteGuard};
 
@@ -28,7 +28,7 @@ impl Decided {
 
 impl Drop for Pending {
     fn drop(&mut self) {
-        self.units.write().end(&self.named, self.stays);
+        self.units.end(&self.named, self.stays);
     }
 }
 
@@ -45,7 +45,8 @@ impl fmt::Debug for Pending {
 }
 
 impl Units {
-    /// Whether there was room.
+    /// Holds it for a post; whether there was room. It is beside a finer one, if that decides: what is coarser than both may be taken
+    /// in that, and would be taken in this from then on.
     pub(super) fn hold(
         self: &Arc<Units>,
         mut names: RwLockWriteGuard<'_, Names>,
@@ -53,47 +54,63 @@ impl Units {
         unit: Unit,
         decided: &mut Decided,
     ) -> bool {
-        let has_room = names.hold(metric, unit);
-        if has_room {
-            decided.0.push(Pending { units: self.clone(), named: (metric.into(), unit), stays: false });
-        }
-        has_room
-    }
-}
-
-impl Names {
-    /// Puts one that is pending; whether there was room.
-    fn hold(&mut self, metric: &str, unit: Unit) -> bool {
-        let Some(known) = self.with_room(metric) else {
+        let coarsest = self.coarsest(names.of(metric), unit);
+        let Some(known) = names.with_room(metric) else {
             return false;
         };
-        known.pending |= bit(unit);
-        *self.pending.entry((metric.into(), unit)).or_default() += 1;
+        match coarsest.is_none_or(|coarsest| coarsest == unit) {
+            true => known.pending |= bit(unit),
+            false => known.pending_beside |= bit(unit),
+        }
+        *names.pending.entry((metric.into(), unit)).or_default() += 1;
+        self.note_change(&mut names, metric);
+        decided.0.push(Pending { units: self.clone(), named: (metric.into(), unit), stays: false });
         true
     }
 
     /// A post that held it was taken, or not.
-    fn end(&mut self, named: &Named, is_taken: bool) {
-        let (metric, unit) = named;
-        let is_last = match self.pending.get_mut(named) {
+    fn end(&self, named: &Named, is_taken: bool) {
+        let (mut names, (metric, unit)) = (self.write(), named);
+        let is_last = names.is_last(named);
+        if let Some(known) = names.units.get_mut(metric) {
+            known.end(*unit, is_taken, is_last);
+            self.decide_beside_nothing(known);
+        }
+        self.note_change(&mut names, metric);
+    }
+
+    /// As a start would find them.
+    fn decide_beside_nothing(&self, known: &mut Known) {
+        let others = known.deciding | known.pending;
+        let is_alone = |unit: &Unit| others & self.finer[unit.0] == 0;
+        let alone = units_of(known.beside | known.pending_beside).filter(is_alone);
+        let alone = alone.fold(0, |set, unit| set | bit(unit));
+        known.deciding |= known.beside & alone;
+        known.pending |= known.pending_beside & alone;
+        known.beside &= !alone;
+        known.pending_beside &= !alone;
+    }
+}
+
+impl Known {
+    fn end(&mut self, unit: Unit, is_taken: bool, is_last: bool) {
+        let (taken, last) = (if is_taken { bit(unit) } else { 0 }, if is_last { bit(unit) } else { 0 });
+        self.deciding |= taken & self.pending;
+        self.beside |= taken & self.pending_beside;
+        self.pending &= !last;
+        self.pending_beside &= !last;
+    }
+}
+
+impl Names {
+    /// Whether no other post holds it.
+    fn is_last(&mut self, named: &Named) -> bool {
+        match self.pending.get_mut(named) {
             Some(1) | None => self.pending.remove(named).is_some(),
             Some(holding) => {
                 *holding -= 1;
                 false
             }
-        };
-        let Some(known) = self.units.get_mut(metric) else {
-            return;
-        };
-        if is_taken {
-            known.deciding |= bit(*unit);
-        }
-        if is_last {
-            known.pending &= !bit(*unit);
-        }
-        if *known == Known::default() {
-            self.units.remove(metric);
-            self.left += metric.len() + ENTRY;
         }
     }
 }

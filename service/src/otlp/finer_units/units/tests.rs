@@ -146,18 +146,25 @@ impl OnDisk {
 
     fn end(&mut self, place: usize, is_taken: bool) {
         let Post { mut decided, own, unit } = self.under_way.swap_remove(place);
+        self.keep();
         decided.stays(is_taken);
         if is_taken {
-            let unkept = self.units.unkept();
-            self.units.kept(&unkept);
-            self.beside.extend(unkept);
-            assert!(!self.units.has_unkept());
             self.series |= bit(unit);
         }
         if let (Some(own), true) = (own, is_taken) {
             let before = *self.taken.entry(own.0).or_insert(unit);
             assert_eq!(unit, before, "{}", own.name());
         }
+    }
+
+    /// As each post does before it is taken, or refused.
+    fn keep(&mut self) {
+        let unkept = self.units.unkept();
+        self.units.kept(&unkept);
+        let [more, less] = unkept;
+        self.beside.retain(|one| !less.contains(one));
+        self.beside.extend(more);
+        assert!(!self.units.has_unkept());
     }
 
     fn forget(&mut self, unit: Unit) {
@@ -171,8 +178,10 @@ impl OnDisk {
 fn what_rules_bring_between_decides_nothing_behind_a_start_either() {
     let (mut next, count, all) = (drawn(), all().count(), Arc::default());
     let mut beside = 0;
-    for _ in 0..3_000 {
+    for round in 0..3_000 {
         let mut disk = OnDisk::new(&all);
+        // Of a few that are parts of each other more comes to pass.
+        let count = if round % 2 == 0 { count } else { TIMES.len() };
         for _ in 0..90 {
             let unit = Unit(next(count));
             match next(15) {
@@ -203,19 +212,50 @@ fn what_is_beside_nothing_any_more_decides_again() {
     }
 }
 
-/// The outbox may have it already, and a start believes that: who forgot it here could decide otherwise than a start.
+/// The outbox may have it already, and a start believes that: it is told before the unit may decide.
 #[test]
-fn what_a_refused_post_put_beside_another_decides_nothing_until_a_start() {
-    let units = Arc::new(Units::default());
-    units.begin([]);
-    let [mut finer, mut by_rule] = [(); 2].map(|()| Decided::default());
-    assert_eq!(units.decide("a", unit("s"), true, &mut finer).name(), "us");
-    units.note_of_rule("a", unit("ms"), &mut by_rule);
-    drop((finer, by_rule));
-    let is_noted = || (units.has_of_rule("a", unit("ms")), units.has("a", unit("ms")));
-    assert_eq!((is_noted(), units.unkept()), ((true, false), vec![("a".into(), unit("ms"))]));
-    assert_eq!(decide(&units, "a", unit("s"), true, false).name(), "us", "as if it was not there");
-    assert_eq!((units.settle(), is_noted()), (vec![("a".into(), unit("ms"))], (false, false)));
+fn what_a_refused_post_put_beside_another_is_gone() {
+    for is_kept in [false, true] {
+        let units = Arc::new(Units::default());
+        units.begin([]);
+        let [mut finer, mut by_rule, mut again] = [(); 3].map(|()| Decided::default());
+        assert_eq!(units.decide("a", unit("s"), true, &mut finer).name(), "us");
+        units.note_of_rule("a", unit("ms"), &mut by_rule);
+        let ms = vec![("a".into(), unit("ms"))];
+        assert_eq!(units.unkept(), [ms.clone(), vec![]]);
+        if is_kept {
+            units.kept(&units.unkept());
+        }
+        drop((by_rule, finer));
+        assert!(!units.has_of_rule("a", unit("ms")) && units.unkept() == [vec![], vec![]]);
+        units.note_of_rule("a", unit("ms"), &mut again);
+        assert_eq!(units.unkept(), [vec![], if is_kept { ms } else { vec![] }]);
+        units.kept(&units.unkept());
+        again.stays(true);
+        drop(again);
+        assert_eq!(decide(&units, "a", unit("s"), true, false).name(), "ms");
+    }
+}
+
+/// As behind a start, which would find no finer one.
+#[test]
+fn what_was_beside_a_refused_one_decides() {
+    for is_taken in [false, true] {
+        let units = Arc::new(Units::default());
+        units.begin([]);
+        let [mut finer, mut by_rule] = [(); 2].map(|()| Decided::default());
+        units.decide("a", unit("s"), true, &mut finer);
+        units.note_of_rule("a", unit("ms"), &mut by_rule);
+        units.kept(&units.unkept());
+        by_rule.stays(true);
+        // It may be taken before the other one is refused, or behind that.
+        let (first, last) = if is_taken { (by_rule, finer) } else { (finer, by_rule) };
+        drop(first);
+        drop(last);
+        assert!(units.has("a", unit("ms")) && units.has_unkept());
+        assert_eq!(units.unkept(), [vec![], vec![("a".into(), unit("ms"))]]);
+        assert_eq!(decide(&units, "a", unit("s"), true, false).name(), "ms");
+    }
 }
 
 #[test]
