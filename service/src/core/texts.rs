@@ -1,25 +1,32 @@
-//! Requests by number. Series of one post get their numbers one after the other, and have most in common: so each request but the
-//! first of a few is kept as what it has beside the one before it.
+//! Requests by number. Series of one post get their numbers one after the other, and have most in common: so each request is
+//! kept as what it has beside one that came before it.
 
 use crate::files::shared_ends;
+use std::ops::Range;
 
 /// So many are put together, at most, for one that is wanted.
-const TOGETHER: usize = 16;
+const TOGETHER: usize = 4;
+/// One that was put together of more is only taken where that leaves so many bytes less.
+const WORTH: usize = 16;
 
 #[derive(Default)]
 pub(super) struct Texts {
     pieces: Vec<Piece>,
     /// What is between the ends of each, one behind the other.
     bytes: Vec<u8>,
-    last: Vec<u8>,
+    /// The last one behind those of which it was made, each by its number.
+    last: Vec<(u32, Vec<u8>)>,
 }
 
+/// There is no room for 2^32 texts, or bytes of them.
 struct Piece {
-    /// How many bytes it begins with of the one before it, and with how many it ends.
+    /// Which one it has its ends of; itself where it has none.
+    of: u32,
+    /// How many bytes it begins with of that, and with how many it ends.
     begin: u32,
     end: u32,
     /// Where its bytes end.
-    at: usize,
+    at: u32,
 }
 
 impl Texts {
@@ -28,39 +35,63 @@ impl Texts {
     }
 
     pub fn push(&mut self, text: &[u8]) {
-        let (begin, end) = match self.count() % TOGETHER {
-            0 => (0, 0),
-            _ => shared_ends(&self.last, text),
-        };
+        let number = self.count() as u32;
+        let (made_of, (begin, end)) = self.nearest(text);
+        let of = made_of.map_or(number, |place| self.last[place].0);
         self.bytes.extend_from_slice(&text[begin..text.len() - end]);
-        self.pieces.push(Piece {
-            begin: begin as u32, // none is so long
-            end: end as u32,
-            at: self.bytes.len(),
-        });
-        self.last.clear();
-        self.last.extend_from_slice(text);
+        let at = self.bytes.len() as u32;
+        self.pieces.push(Piece { of, begin: begin as u32, end: end as u32, at });
+        self.last.truncate(made_of.map_or(0, |place| place + 1));
+        self.last.push((number, text.to_vec()));
+    }
+
+    /// Of those that the last one is made of, and of itself, the one that leaves least, and what it has in common with this.
+    fn nearest(&self, text: &[u8]) -> (Option<usize>, (usize, usize)) {
+        let mut found = (None, (0, 0));
+        for (place, (_, other)) in self.last.iter().enumerate().take(TOGETHER - 1) {
+            let shared = shared_ends(other, text);
+            if shared.0 + shared.1 >= found.1 .0 + found.1 .1 + WORTH {
+                found = (Some(place), shared);
+            }
+        }
+        found
     }
 
     pub fn get(&self, number: usize) -> Option<Vec<u8>> {
-        let first = number - number % TOGETHER;
-        let pieces = self.pieces.get(first..=number)?;
-        let mut text = Vec::new();
-        for (number, piece) in (first..).zip(pieces) {
-            let replaced = piece.begin as usize..text.len() - piece.end as usize;
-            text.splice(replaced, self.between(number).iter().copied());
-        }
+        let length = self.length(number)?;
+        let mut text = Vec::with_capacity(length);
+        self.put(number, 0..length, &mut text);
         Some(text)
     }
 
+    /// Puts these bytes of one behind others.
+    fn put(&self, number: usize, wanted: Range<usize>, out: &mut Vec<u8>) {
+        let (piece, own) = (&self.pieces[number], self.between(number));
+        let (of, begin) = (piece.of as usize, piece.begin as usize);
+        let end = begin + own.len();
+        if wanted.start < begin {
+            self.put(of, wanted.start..wanted.end.min(begin), out);
+        }
+        let (from, to) = (wanted.start.max(begin), wanted.end.min(end));
+        out.extend_from_slice(own.get(from - begin..to.saturating_sub(begin)).unwrap_or_default());
+        if wanted.end > end {
+            let behind = self.length_of(of) - piece.end as usize;
+            self.put(of, behind + wanted.start.max(end) - end..behind + wanted.end - end, out);
+        }
+    }
+
     pub fn length(&self, number: usize) -> Option<usize> {
-        let piece = self.pieces.get(number)?;
-        Some(piece.begin as usize + self.between(number).len() + piece.end as usize)
+        (number < self.count()).then(|| self.length_of(number))
+    }
+
+    fn length_of(&self, number: usize) -> usize {
+        let piece = &self.pieces[number];
+        piece.begin as usize + self.between(number).len() + piece.end as usize
     }
 
     fn between(&self, number: usize) -> &[u8] {
         let begin = number.checked_sub(1).map_or(0, |before| self.pieces[before].at);
-        &self.bytes[begin..self.pieces[number].at]
+        &self.bytes[begin as usize..self.pieces[number].at as usize]
     }
 }
 
@@ -73,6 +104,8 @@ mod tests {
         let mut all: Vec<Vec<u8>> = (0..100)
             .map(|number| format!("{{\"name\":\"{number}\",\"of\":{}}}", number / 7).into())
             .collect();
+        let long = |number: usize| "x".repeat(40 * (number % 5)) + &"y".repeat(30 * (number / 5 % 7));
+        all.extend((0..100).map(|number| (long(number) + &long(3 * number)).into()));
         all.extend([&b""[..], b"a", b"aa", b"aaa", b"a", b"", b"b"].map(<[u8]>::to_vec));
         let mut texts = Texts::default();
         all.iter().for_each(|text| texts.push(text));
@@ -80,16 +113,23 @@ mod tests {
             assert_eq!(texts.get(number).as_ref(), Some(text), "{number}");
             assert_eq!(texts.length(number), Some(text.len()));
         }
-        assert_eq!((texts.count(), texts.get(all.len()), texts.length(all.len())), (107, None, None));
+        assert_eq!((texts.count(), texts.get(all.len()), texts.length(all.len())), (207, None, None));
     }
 
+    /// Of ten metrics of each of two resources, a hundred series each.
     #[test]
-    fn what_texts_have_in_common_is_kept_once_for_each_sixteen() {
+    fn what_texts_have_in_common_is_kept_once() {
         let mut texts = Texts::default();
-        let common = "x".repeat(1000);
-        for number in 0..1600 {
-            texts.push(format!("{common}{number:04}{common}").as_bytes());
+        for number in 0..2000 {
+            let [resource, metric] = [number / 1000, number / 100].map(|part| part.to_string().repeat(400));
+            texts.push(format!("{resource},{metric},{number:04},{}", "x".repeat(400)).as_bytes());
         }
-        assert!(texts.bytes.len() < 1600 * 4 + 100 * 2000 + 100, "{}", texts.bytes.len());
+        let own = texts.bytes.len();
+        assert!(own < 2000 * 4 + 20 * 1000 + 2 * 2000, "{own}");
+        let made_of = |number: u32| {
+            let before = |number: &u32| Some(texts.pieces[*number as usize].of).filter(|of| of != number);
+            std::iter::successors(Some(number), before).count()
+        };
+        assert_eq!((0..2000).map(made_of).max(), Some(TOGETHER));
     }
 }

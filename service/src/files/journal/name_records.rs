@@ -54,12 +54,20 @@ impl NameReader {
 
 /// How many bytes both begin with, and how many both end with behind these.
 pub fn shared_ends(one: &[u8], other: &[u8]) -> (usize, usize) {
-    let begin = alike(one.iter().zip(other));
+    let steps = one.as_chunks::<STEP>().0.iter().zip(other.as_chunks().0);
+    let begin = alike(steps) * STEP;
+    let begin = begin + alike(one[begin..].iter().zip(&other[begin..]));
     let (one, other) = (&one[begin..], &other[begin..]);
-    (begin, alike(one.iter().rev().zip(other.iter().rev())))
+    let steps = one.as_rchunks::<STEP>().1.iter().rev().zip(other.as_rchunks().1.iter().rev());
+    let end = alike(steps) * STEP;
+    let rest = one[..one.len() - end].iter().rev().zip(other[..other.len() - end].iter().rev());
+    (begin, end + alike(rest))
 }
 
-fn alike<'b>(pairs: impl Iterator<Item = (&'b u8, &'b u8)>) -> usize {
+/// So many bytes are compared at once.
+const STEP: usize = 16;
+
+fn alike<P: PartialEq>(pairs: impl Iterator<Item = (P, P)>) -> usize {
     pairs.take_while(|(one, other)| one == other).count()
 }
 
@@ -103,6 +111,23 @@ mod tests {
         let records = written(&[b"{\"k\":\"one\"}", b"{\"k\":\"two\"}"]);
         assert_eq!(records[0], (NAME, [&[32 + 7], &b"{\"k\":\"one\"}"[..]].concat()));
         assert_eq!(records[1], (NAME_AFTER, [&[32 + 8, 32 + 6, 32 + 2], &b"two"[..]].concat()));
+    }
+
+    /// Of whatever length, as byte by byte.
+    #[test]
+    fn what_two_share_is_counted_once() {
+        let text = |length: usize, other: usize| {
+            (0..length)
+                .map(|place| if place == other { b'.' } else { b'a' + (place % 3) as u8 })
+                .collect::<Vec<_>>()
+        };
+        for (one, other) in (0..70).flat_map(|one| [(one, 7), (one, 33), (64, one), (48, one)]) {
+            let (one, other) = (text(one, 20), text(other, one / 2));
+            let begin = one.iter().zip(&other).take_while(|(one, other)| one == other).count();
+            let ends = one[begin..].iter().rev().zip(other[begin..].iter().rev());
+            let end = ends.take_while(|(one, other)| one == other).count();
+            assert_eq!(shared_ends(&one, &other), (begin, end), "{one:?} {other:?}");
+        }
     }
 
     #[test]
