@@ -13,6 +13,7 @@
 
 mod fields;
 mod identity;
+mod known;
 mod levels;
 mod walk;
 

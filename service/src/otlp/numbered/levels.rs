@@ -1,9 +1,11 @@
 //! What is known by its bytes: resources, in each its scopes, in each its metrics, in a histogram its bounds, and then the
 //! points' attributes, which have the number of their series. Beside them the keys of series, which have numbers too.
 
+use super::known::KnownBytes;
 use crate::otlp::finer_units::{Scale, ShownSeries};
 use ahash::RandomState;
 use std::collections::HashMap;
+use std::hash::BuildHasher;
 use std::sync::Arc;
 
 /// The place of a level.
@@ -25,7 +27,7 @@ const LEVEL: usize = 256;
 
 pub struct Levels {
     /// By bytes a level, or a number. Nobody who posts can make two of them meet: the hash has a key of its own.
-    all: Vec<HashMap<Box<[u8]>, u32, RandomState>>,
+    all: Vec<KnownBytes>,
     hasher: RandomState,
     left: usize,
     /// The levels of resources by whose decisions count in them.
@@ -44,7 +46,7 @@ impl Levels {
     pub fn new(most: usize) -> Levels {
         let hasher = RandomState::new();
         Levels {
-            all: vec![HashMap::with_hasher(hasher.clone()); 2],
+            all: vec![KnownBytes::default(), KnownBytes::default()],
             tops: HashMap::with_hasher(hasher.clone()),
             scales: HashMap::with_hasher(hasher.clone()),
             shown: HashMap::with_hasher(hasher.clone()),
@@ -55,7 +57,7 @@ impl Levels {
 
     #[inline]
     pub fn find(&self, within: Level, bytes: &[u8]) -> Option<u32> {
-        self.all[within as usize].get(bytes).copied()
+        self.all[within as usize].find(self.hasher.hash_one(bytes), bytes)
     }
 
     /// The level of resources where these decisions count.
@@ -91,7 +93,7 @@ impl Levels {
     fn fresh(&mut self, bytes: &[u8]) -> Result<Level, Full> {
         let level = Level::try_from(self.all.len()).map_err(|_| Full)?;
         self.take_room(bytes, LEVEL)?;
-        self.all.push(HashMap::with_hasher(self.hasher.clone()));
+        self.all.push(KnownBytes::default());
         Ok(level)
     }
 
@@ -133,7 +135,10 @@ impl Levels {
 
     /// What these bytes have from now on, or have already, since another has learnt them meanwhile.
     pub fn put(&mut self, within: Level, bytes: &[u8], number: u32) -> u32 {
-        let known = self.all[within as usize].entry(bytes.into());
-        *known.or_insert(number)
+        let (known, hash) = (&mut self.all[within as usize], self.hasher.hash_one(bytes));
+        known.find(hash, bytes).unwrap_or_else(|| {
+            known.put(hash, bytes, number);
+            number
+        })
     }
 }
