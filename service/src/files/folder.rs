@@ -189,7 +189,7 @@ impl Folder {
         Ok((self.journal(number, &outbox, left)?, outbox))
     }
 
-    /// The outbox, and what an earlier run left in the journal, which is as it was.
+    /// The outbox, which is not begun, and what an earlier run left in the journal, which is as it was.
     pub fn begin_slot(&self, number: u16) -> Result<(Outbox, Left), Fault> {
         let folder = self.of_slot(number).join("journal");
         // Side by side: what is only read waits for nothing.
@@ -198,14 +198,15 @@ impl Folder {
                 true => Left::read(&self.disk, &folder),
                 false => Ok(Left::default()),
             });
-            (self.outbox(number), left.join())
+            (self.read_outbox(number), left.join())
         });
         let outbox = outbox?;
         Ok((outbox, left.unwrap_or_else(|panic| std::panic::resume_unwind(panic))?))
     }
 
-    /// The journal, which goes on behind what was left in it.
+    /// The journal, which goes on behind what was left in it; the outbox is begun before.
     pub fn journal(&self, number: u16, outbox: &Outbox, left: Left) -> Result<Journal, Fault> {
+        outbox.begin()?;
         let begun = locked(&self.version).begun.get(&number).copied();
         let journal = Journal::go_on(
             &self.disk,
@@ -225,6 +226,12 @@ impl Folder {
 
     /// The outbox alone, of a slot whose journal has nothing more.
     pub fn outbox(&self, number: u16) -> Result<Outbox, Fault> {
+        let outbox = self.read_outbox(number)?;
+        outbox.begin()?;
+        Ok(outbox)
+    }
+
+    fn read_outbox(&self, number: u16) -> Result<Outbox, Fault> {
         let slot = self.of_slot(number);
         let (journal, outbox) = (slot.join("journal"), slot.join("outbox"));
         if locked(&self.version).begun.contains_key(&number) && !self.has_segments(&outbox)? {
@@ -240,7 +247,7 @@ impl Folder {
             // It counts from 1 again, and an outbox that was there and is gone has used these keys.
             false => self.renew_epoch()?,
         };
-        Outbox::open(&self.disk, &outbox, &epoch, self.free_space.clone())
+        Outbox::read(&self.disk, &outbox, &epoch, self.free_space.clone())
     }
 
     /// Whether an outbox was made there.

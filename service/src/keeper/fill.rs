@@ -27,6 +27,7 @@ pub use prime::Priming;
 use said::{said, Said};
 use std::collections::BTreeSet;
 use std::sync::Arc;
+use std::thread::Builder;
 use std::time::{Duration, Instant};
 
 /// How often it is said how far it is.
@@ -97,7 +98,8 @@ fn replay(
     }
     filling.fresh.quarantine(&held)?;
     filling.fresh.book.note_filled();
-    free_spare_readers();
+    // They have much to give back, and nobody waits for that: where no thread can be had, it is done where nobody posts.
+    let _ = Builder::new().name("readers".into()).spawn(free_spare_readers);
     let stopped = (filling.stops)();
     Ok((!stopped).then_some(filling.fresh.filled))
 }

@@ -3,12 +3,12 @@
 use super::reading::Reading;
 use super::rows;
 use super::state::{Batch, State};
-use super::written::begin;
 use super::{ends, Outbox, ReadEnds, Writer, SEGMENT};
 use crate::files::disk::Disk;
 use crate::files::free_space::FreeSpace;
-use crate::files::records::Reader;
-use crate::files::{locked, nanoseconds, segment, Dropped, Fault};
+use crate::files::records::{Reader, Which};
+use crate::files::segment::{self, Ahead, Segment};
+use crate::files::{locked, nanoseconds, Dropped, Fault};
 use std::path::{Path, PathBuf};
 use std::sync::atomic::AtomicU64;
 use std::sync::{Arc, Mutex};
@@ -32,6 +32,29 @@ impl Outbox {
         read_ends: ReadEnds,
         longest: u64,
     ) -> Result<Outbox, Fault> {
+        let outbox = Outbox::read_with(disk, folder, epoch, free_space, read_ends, longest)?;
+        outbox.begin()?;
+        Ok(outbox)
+    }
+
+    /// The same for who only asks, until it is begun.
+    pub(in crate::files) fn read(
+        disk: &Disk,
+        folder: &Path,
+        epoch: &str,
+        free_space: Arc<FreeSpace>,
+    ) -> Result<Outbox, Fault> {
+        Outbox::read_with(disk, folder, epoch, free_space, ends, SEGMENT)
+    }
+
+    fn read_with(
+        disk: &Disk,
+        folder: &Path,
+        epoch: &str,
+        free_space: Arc<FreeSpace>,
+        read_ends: ReadEnds,
+        longest: u64,
+    ) -> Result<Outbox, Fault> {
         let disk = &disk.of_its_own();
         disk.make_folder(folder)?;
         let numbers = segment::numbers(disk, folder)?;
@@ -47,10 +70,10 @@ impl Outbox {
         }
         // A segment without a request is replaced: starts that end at once would leave one each.
         let number = numbers.last().map_or(1, |last| last + u64::from(has_requests));
-        let segment = begin(disk, folder, number, &state.snapshot())?;
+        let segment = Segment::create(disk, folder, Which::Outbox, number, Ahead::Nothing, None)?;
         // What was read is durable.
         let settled = AtomicU64::new(state.facts.next);
-        let outbox = Outbox {
+        Ok(Outbox {
             disk: disk.clone(),
             folder: folder.into(),
             free_space,
@@ -63,10 +86,19 @@ impl Outbox {
             ended,
             dropped,
             stuck: Mutex::new(None),
-        };
-        outbox.keep_room(&locked(&outbox.writer));
-        outbox.sweep()?;
-        Ok(outbox)
+        })
+    }
+
+    /// Begins its segment, before which nothing can be written.
+    pub(in crate::files) fn begin(&self) -> Result<(), Fault> {
+        let mut writer = locked(&self.writer);
+        let snapshot = locked(&self.state).snapshot();
+        writer.put_snapshot(&self.disk, &self.folder, &snapshot)?;
+        self.keep_room(&writer);
+        writer.segment.order()?;
+        self.delete_taken(&writer)?;
+        writer.failed = false;
+        Ok(())
     }
 }
 

@@ -1,9 +1,11 @@
 //! Where an outbox is written.
 
+use super::snapshot::Snapshot;
 use crate::files::disk::Disk;
 use crate::files::segment::Segment;
 use crate::files::{Fault, Lost};
 use std::io;
+use std::path::Path;
 
 pub struct Writer {
     pub segment: Segment,
@@ -14,14 +16,19 @@ pub struct Writer {
 }
 
 impl Writer {
-    /// Of a segment that has its snapshot alone.
+    /// Of a segment that has no snapshot yet, nor its name. Until it has nothing can be written.
     pub fn new(segment: Segment) -> Writer {
-        Writer { snapshot: segment.at, segment, failed: false }
+        Writer { segment, snapshot: 0, failed: true }
     }
 
-    /// The same in another segment, that has its snapshot alone.
-    pub fn go_on_in(&mut self, segment: Segment) {
-        (self.snapshot, self.segment) = (segment.at, segment);
+    /// The segment begins with this; it has another name until it is whole.
+    pub fn put_snapshot(&mut self, disk: &Disk, folder: &Path, snapshot: &Snapshot) -> Result<(), Fault> {
+        let segment = &mut self.segment;
+        segment.put(&snapshot.records())?;
+        segment.order()?;
+        segment.name()?;
+        self.snapshot = segment.at;
+        disk.order_folder(folder)
     }
 
     /// Whether another segment is due. What follows a snapshot takes as much as that at least: behind a long one each

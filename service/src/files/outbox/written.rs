@@ -3,19 +3,16 @@
 use super::changes::{Change, End, Group};
 use super::keys::Keys;
 use super::rows;
-use super::snapshot::Snapshot;
 use super::state::State;
 use super::table::Table;
 use super::texts::{begin_of, Texts};
 use super::{Outbox, Runs, Writer};
-use crate::files::disk::Disk;
 use crate::files::records::Which;
 use crate::files::segment::{self, Ahead, Segment};
 use crate::files::{locked, seconds, Fault};
 use crate::otlp::series::{Digest, Digests, NotForwarded, SeriesKey};
 use std::collections::HashMap;
 use std::io;
-use std::path::Path;
 use std::time::Instant;
 
 /// Whoever commits a group is who forgets series.
@@ -151,7 +148,9 @@ impl Outbox {
         writer.segment.order()?;
         let number = writer.segment.number + 1;
         let snapshot = locked(&self.state).snapshot();
-        writer.go_on_in(begin(&self.disk, &self.folder, number, &snapshot)?);
+        writer.segment =
+            Segment::create(&self.disk, &self.folder, Which::Outbox, number, Ahead::Nothing, None)?;
+        writer.put_snapshot(&self.disk, &self.folder, &snapshot)?;
         self.keep_room(writer);
         self.delete_taken(writer)
     }
@@ -166,7 +165,7 @@ impl Outbox {
         Ok(())
     }
 
-    fn delete_taken(&self, writer: &Writer) -> Result<(), Fault> {
+    pub(super) fn delete_taken(&self, writer: &Writer) -> Result<(), Fault> {
         let last = writer.segment.number;
         let first = locked(&self.state).front().map_or(last, |front| front.segment.min(last));
         let numbers = segment::numbers(&self.disk, &self.folder)?;
@@ -233,16 +232,6 @@ impl Ends {
         all.sort_unstable_by_key(|end| end.id);
         Some((all, Keys { texts: self.new, digests }))
     }
-}
-
-/// Makes a segment that begins with a snapshot. It has another name until it is whole.
-pub(super) fn begin(disk: &Disk, folder: &Path, number: u64, snapshot: &Snapshot) -> Result<Segment, Fault> {
-    let mut segment = Segment::create(disk, folder, Which::Outbox, number, Ahead::Nothing, None)?;
-    segment.put(&snapshot.records())?;
-    segment.order()?;
-    segment.name()?;
-    disk.order_folder(folder)?;
-    Ok(segment)
 }
 
 /// The outbox is closed, so that the next start can tell a changed record from a torn one everywhere in it. On a drive none
