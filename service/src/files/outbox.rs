@@ -28,7 +28,7 @@ use super::segment::{self, Dropped};
 use super::{locked, Fault};
 use crate::otlp::series::{self, Digest, NotForwarded, SeriesKey};
 use crate::runs::{Run, Since};
-use crate::work::blocking;
+use crate::work::{blocking, made_in_order};
 pub use brought::{Beginning, Waits};
 use changes::Change;
 pub use changes::UnitOfMetric;
@@ -40,7 +40,7 @@ use std::path::PathBuf;
 use std::sync::atomic::{AtomicU64, Ordering::SeqCst};
 use std::sync::{Arc, Mutex};
 use std::time::Duration;
-use texts::Texts;
+use texts::{Texts, PART};
 use tokio::sync::Notify;
 use writer::Writer;
 
@@ -120,9 +120,11 @@ impl Outbox {
         self.each_of(|_| true, |key, series| (key, series)).into_iter().collect()
     }
 
-    /// Shows each key, side by side.
-    pub fn each_key(&self, show: impl Fn(SeriesKey) + Sync) {
-        self.each_of(|_| true, |key, _| show(key));
+    /// Shows all keys side by side, some at a time, which are neighbours.
+    pub fn each_keys(&self, show: impl Fn(Vec<SeriesKey>) + Sync) {
+        let (those, texts) = self.those(|_| true);
+        let ids: Vec<u32> = those.into_iter().map(|(id, _)| id).collect();
+        made_in_order(ids.chunks(PART), |ids| show(texts.of(ids.iter().copied()).collect()), drop);
     }
 
     /// What is made of each that has a run.

@@ -132,9 +132,9 @@ pub fn packed_pieces<P: Send>(
     out
 }
 
-/// Deflated up to a full byte, and more may follow.
+/// Deflated up to a full byte, and more may follow. A start waits for it, and in more time it would be little shorter.
 fn deflated_piece(bytes: &[u8]) -> Vec<u8> {
-    let mut packer = DeflateEncoder::new(Vec::new(), Compression::new(LEVEL));
+    let mut packer = DeflateEncoder::new(Vec::new(), Compression::fast());
     let packed = packer.write_all(bytes).and_then(|()| packer.flush());
     packed.map_or_else(|_| Vec::new(), |()| std::mem::take(packer.get_mut())) // as above
 }

@@ -5,7 +5,7 @@ use super::units::{Named, Unit};
 use super::FinerUnits;
 use crate::files::{Body, Fault, Journal, Outbox, UnitOfMetric};
 use crate::otlp::json::{Document, Value};
-use crate::otlp::series::{metrics, visit, Around, Profile};
+use crate::otlp::series::{metrics, visit, Around, Profile, SeriesKey};
 use crate::work::in_order;
 use bytes::Bytes;
 
@@ -41,7 +41,7 @@ impl FinerUnits {
 
     fn know_series_of(&self, outbox: &Outbox, journal: &Journal) -> Result<(), Fault> {
         // Side by side: what is known of a metric is a set of units.
-        outbox.each_key(|key| self.know_series(&key.0));
+        outbox.each_keys(|keys| self.know_keys(&keys));
         in_order(
             |requests: &mut Vec<Bytes>| self.know_requests(requests),
             |_| Ok(()),
@@ -57,14 +57,23 @@ impl FinerUnits {
         )
     }
 
-    pub(super) fn know_series(&self, key: &str) {
-        let Ok(document) = Document::parse(key.as_bytes()) else {
-            return;
-        };
-        let mut parts = document.root().elements().into_iter().flatten().skip(4);
-        if let (Some(name), Some(unit)) = (parts.next(), parts.next()) {
-            self.know_unit(name, unit);
+    /// Most have the metric of the one before.
+    pub(super) fn know_keys(&self, keys: &[SeriesKey]) {
+        let mut known = None;
+        for SeriesKey(key) in keys {
+            if !known.is_some_and(|known| key.starts_with(known)) {
+                known = self.know_series(key);
+            }
         }
+    }
+
+    /// How the keys of its metric's series begin.
+    pub(super) fn know_series<'k>(&self, key: &'k str) -> Option<&'k str> {
+        let document = Document::parse(key.as_bytes()).ok()?;
+        let mut parts = document.root().elements()?.skip(4);
+        let (name, unit) = (parts.next()?, parts.next()?);
+        self.know_unit(name, unit);
+        key.get(..=unit.range().end) // with the comma
     }
 
     /// Where all metrics of one are known, another point of theirs says nothing.

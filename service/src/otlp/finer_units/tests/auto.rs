@@ -1,6 +1,7 @@
 //! Metrics of known units without a rule.
 
 use super::*;
+use crate::otlp::series::SeriesKey;
 use crate::otlp::taken_of_test;
 
 fn auto(choices: &[&str]) -> Reading {
@@ -182,6 +183,18 @@ fn what_a_folder_knows_decides() {
         [unit("a", "s", WHOLE), unit("b", "s", DOUBLE), unit("c", "s", DOUBLE), unit("d", "s", WHOLE)],
         ["us", "s", "ms", "s"]
     );
+}
+
+/// Also of those of which most is as in the key before.
+#[test]
+fn what_each_key_says_is_known() {
+    let reading = auto(&[]);
+    let keys = [("a", "ms"), ("a", "ms"), ("ab", "ms"), ("a", "us"), ("b", "ms"), ("c", "ms"), ("c", "s")];
+    let key = |(name, unit)| SeriesKey(format!(r#"[[],"","",[],"{name}","{unit}","sum",[["k",1]]]"#).into());
+    reading.finer_units.know_keys(&keys.map(key));
+    let units = ["a", "ab", "b", "c", "d"].map(|name| taken(&reading, &[sum(name, "s", &[DOUBLE])]).0);
+    assert_eq!(units, ["ms", "ms", "ms", "s", "us"]);
+    assert_eq!(taken(&reading, &[sum("a", "us", &[WHOLE])]).0, "us");
 }
 
 /// A point that is taken says what one before it that is foreign did not.
