@@ -18,7 +18,7 @@ pub(super) struct Texts {
     last: Vec<(u32, Vec<u8>)>,
 }
 
-/// There is no room for 2^32 texts, or bytes of them.
+/// There is no room for 2^32 texts, and none is so long.
 struct Piece {
     /// Which one it has its ends of; itself where it has none.
     of: u32,
@@ -26,7 +26,7 @@ struct Piece {
     begin: u32,
     end: u32,
     /// Where its bytes end.
-    at: u32,
+    at: usize,
 }
 
 impl Texts {
@@ -39,7 +39,7 @@ impl Texts {
         let (made_of, (begin, end)) = self.nearest(text);
         let of = made_of.map_or(number, |place| self.last[place].0);
         self.bytes.extend_from_slice(&text[begin..text.len() - end]);
-        let at = self.bytes.len() as u32;
+        let at = self.bytes.len();
         self.pieces.push(Piece { of, begin: begin as u32, end: end as u32, at });
         self.last.truncate(made_of.map_or(0, |place| place + 1));
         self.last.push((number, text.to_vec()));
@@ -91,7 +91,7 @@ impl Texts {
 
     fn between(&self, number: usize) -> &[u8] {
         let begin = number.checked_sub(1).map_or(0, |before| self.pieces[before].at);
-        &self.bytes[begin as usize..self.pieces[number].at as usize]
+        &self.bytes[begin..self.pieces[number].at]
     }
 }
 

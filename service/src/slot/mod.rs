@@ -70,7 +70,7 @@ pub struct Slot {
     /// None where it reads as all others here, and keeps nothing of that.
     reading: Option<Arc<Reading>>,
     /// Who has the outbox know what was read.
-    keeping: tokio::sync::Mutex<()>,
+    keeping: Arc<tokio::sync::Mutex<()>>,
 }
 
 /// What all slots of a process share.
@@ -150,7 +150,7 @@ impl Slot {
             landed: Notify::new(),
             told: disk_stall::Stall::default(),
             shares: shared.shares.clone(),
-            keeping: tokio::sync::Mutex::default(),
+            keeping: Arc::default(),
         })
     }
 

@@ -80,12 +80,16 @@ impl Slot {
 
     /// The outbox has it before the journal may have the post: else a start would read the next ones otherwise.
     async fn keep(&self, reading: Arc<Reading>) -> Result<(), Lost> {
-        let _turn = self.keeping.lock().await;
-        let outbox = self.outbox.clone();
-        match reading.finer_units.has_unkept() {
-            true => blocking(move || reading.finer_units.keep(&outbox).map_err(|why| outbox.fail(why))).await,
-            false => Ok(()), // another has done it
+        let turn = self.keeping.clone().lock_owned().await;
+        if !reading.finer_units.has_unkept() {
+            return Ok(()); // another has done it
         }
+        let outbox = self.outbox.clone();
+        blocking(move || {
+            let _turn = turn; // also where its sender goes away meanwhile
+            reading.finer_units.keep(&outbox).map_err(|why| outbox.fail(why))
+        })
+        .await
     }
 
     /// Reads what is not read in place.

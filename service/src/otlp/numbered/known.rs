@@ -16,7 +16,7 @@ pub struct KnownBytes {
     whole: u32,
 }
 
-/// There is no room for 2^32 of them, or bytes.
+/// There is no room for 2^32 of them (`Levels::new`), or bytes.
 struct Known {
     hash: u32,
     number: u32,

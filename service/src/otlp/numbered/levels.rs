@@ -43,6 +43,7 @@ pub struct Levels {
 pub struct Full;
 
 impl Levels {
+    /// They take about so many bytes at most, and no more than `KnownBytes` has places for.
     pub fn new(most: usize) -> Levels {
         let hasher = RandomState::new();
         Levels {
@@ -51,7 +52,7 @@ impl Levels {
             scales: HashMap::with_hasher(hasher.clone()),
             shown: HashMap::with_hasher(hasher.clone()),
             hasher,
-            left: most,
+            left: most.min(u32::MAX as usize),
         }
     }
 
