@@ -5,7 +5,7 @@
 /// but no more than a quarter of what a book has room for. And after so many points, since a round keeps them.
 const LEAST_POSTS: usize = 8_000;
 const MOST_POSTS: usize = 16_000;
-const SERIES_FOR_A_POST: usize = 2;
+const SERIES_FOR_A_POST: usize = 5;
 const LEAST_POINTS: usize = 50_000;
 const POINTS_FOR_A_SERIES: usize = 20;
 /// A post takes two places of a book's journal, and so does what is taken of it and ended: there are so many, and some more.

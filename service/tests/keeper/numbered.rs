@@ -43,7 +43,7 @@ pub fn points(series: &[(String, u64, u64, i64)]) -> Bytes {
 
 pub async fn post_by_number(run: &Run, sender: &str, body: Bytes, reading: &Arc<Reading>) -> Outcome {
     let numbered = run.slot.numbered(&body, reading).expect("it has sums alone");
-    run.slot.request(sender.into(), totxegun::slot::Request::Numbered(numbered)).await
+    run.slot.request(sender.into(), numbered.into()).await
 }
 
 /// What is known of what was taken.

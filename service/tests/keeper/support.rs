@@ -107,7 +107,7 @@ impl Run {
         let is_second = self.posts.fetch_add(1, Ordering::Relaxed) % 2 == 1;
         let by_number = in_protobuf(&body).filter(|_| is_second);
         let by_number = by_number.map(|body| self.slot.numbered(&body, &self.reading).unwrap());
-        let request = by_number.map_or(Request::Text(body), Request::Numbered);
+        let request = by_number.map_or(Request::Text(body), Request::from);
         self.slot.request(sender.into(), request).await
     }
 

@@ -2,13 +2,13 @@
 //! one that is kept whole.
 
 use crate::files::shared_ends;
+use hashbrown::raw::RawTable;
 
 /// Who asks has the hash, by a key that nobody who posts knows.
 #[derive(Default)]
 pub struct KnownBytes {
-    /// Where what has a hash is among all, and one more; 0 where a place is free, as half of them are. A place that is taken is
-    /// followed by the next one.
-    places: Vec<u32>,
+    /// Where each is among all, by its hash.
+    places: RawTable<u32>,
     all: Vec<Known>,
     /// Their own bytes, one behind the other.
     own: Vec<u8>,
@@ -16,73 +16,53 @@ pub struct KnownBytes {
     whole: u32,
 }
 
-/// There is no room for 2^32 of them (`Levels::new`), or bytes.
+/// There is no room for 2^32 of them, and none is so long.
 struct Known {
-    hash: u32,
+    hash: u64,
     number: u32,
     /// Which one it has its ends of, which is kept whole: itself where it is.
     of: u32,
     begin: u32,
     end: u32,
     /// Where its own bytes end.
-    at: u32,
+    at: usize,
 }
 
 impl KnownBytes {
     #[inline]
     pub fn find(&self, hash: u64, bytes: &[u8]) -> Option<u32> {
-        let mut place = hash as usize;
-        loop {
-            let number = *self.places.get(place & self.places.len().wrapping_sub(1))?;
-            let found = number.checked_sub(1)? as usize;
-            if self.all[found].hash == hash as u32 && self.is(found, bytes) {
-                return Some(self.all[found].number);
-            }
-            place = place.wrapping_add(1);
-        }
+        let place = self.places.get(hash, |place| self.is(*place, bytes))?;
+        Some(self.all[*place as usize].number)
     }
 
-    fn is(&self, place: usize, bytes: &[u8]) -> bool {
-        let (known, own) = (&self.all[place], self.own(place));
-        if known.of as usize == place {
+    fn is(&self, place: u32, bytes: &[u8]) -> bool {
+        let (known, own) = (&self.all[place as usize], self.own(place));
+        if known.of == place {
             return own == bytes;
         }
-        let whole = self.own(known.of as usize);
+        let whole = self.own(known.of);
         let (begin, end) = (&whole[..known.begin as usize], &whole[whole.len() - known.end as usize..]);
         let rest = bytes.strip_prefix(begin).and_then(|rest| rest.strip_suffix(end));
         rest.is_some_and(|rest| rest == own)
     }
 
-    fn own(&self, place: usize) -> &[u8] {
-        let begin = place.checked_sub(1).map_or(0, |before| self.all[before].at);
-        &self.own[begin as usize..self.all[place].at as usize]
+    fn own(&self, place: u32) -> &[u8] {
+        let begin = place.checked_sub(1).map_or(0, |before| self.all[before as usize].at);
+        &self.own[begin..self.all[place as usize].at]
     }
 
     /// Puts what is not there yet.
     pub fn put(&mut self, hash: u64, bytes: &[u8], number: u32) {
-        let (hash, place) = (hash as u32, self.all.len() as u32);
-        let whole = if self.all.is_empty() { &[] } else { self.own(self.whole as usize) };
+        let place = self.all.len() as u32;
+        let whole = if place == 0 { &[] } else { self.own(self.whole) };
         let (mut begin, mut end) = shared_ends(whole, bytes);
         if 2 * (begin + end) < bytes.len() {
             (begin, end, self.whole) = (0, 0, place);
         }
         self.own.extend_from_slice(&bytes[begin..bytes.len() - end]);
-        let at = self.own.len() as u32;
-        self.all.push(Known { hash, number, of: self.whole, begin: begin as u32, end: end as u32, at });
-        if 2 * self.all.len() > self.places.len() {
-            self.places = vec![0; (2 * self.places.len()).max(4)];
-            (0..=place).for_each(|place| self.enter(place));
-        } else {
-            self.enter(place);
-        }
-    }
-
-    fn enter(&mut self, place: u32) {
-        let (mask, mut at) = (self.places.len() - 1, self.all[place as usize].hash as usize);
-        while self.places[at & mask] != 0 {
-            at += 1;
-        }
-        self.places[at & mask] = place + 1;
+        let (begin, end, at) = (begin as u32, end as u32, self.own.len());
+        self.all.push(Known { hash, number, of: self.whole, begin, end, at });
+        self.places.insert(hash, place, |place| self.all[*place as usize].hash);
     }
 }
 

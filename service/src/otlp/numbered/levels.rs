@@ -43,7 +43,6 @@ pub struct Levels {
 pub struct Full;
 
 impl Levels {
-    /// They take about so many bytes at most, and no more than `KnownBytes` has places for.
     pub fn new(most: usize) -> Levels {
         let hasher = RandomState::new();
         Levels {
@@ -52,7 +51,7 @@ impl Levels {
             scales: HashMap::with_hasher(hasher.clone()),
             shown: HashMap::with_hasher(hasher.clone()),
             hasher,
-            left: most.min(u32::MAX as usize),
+            left: most,
         }
     }
 
