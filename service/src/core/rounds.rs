@@ -3,7 +3,7 @@
 
 /// Rounds are closed after so many posts, more where there are many series, since it takes some microseconds for each;
 /// but no more than a quarter of what a book has room for. And after so many points, since a round keeps them.
-const LEAST_POSTS: usize = 8_000;
+const LEAST_POSTS: usize = 4_000;
 const MOST_POSTS: usize = 16_000;
 const SERIES_FOR_A_POST: usize = 5;
 const LEAST_POINTS: usize = 50_000;
@@ -174,19 +174,19 @@ mod tests {
     #[test]
     fn no_post_waits_for_two_books() {
         let mut rounds = Rounds::new(3);
-        let first = behind(&mut rounds, 12_000, true);
-        assert_eq!(first, [(8_000, 0), (9_334, 1), (10_667, 2)]);
+        let first = behind(&mut rounds, 6_000, true);
+        assert_eq!(first, [(4_000, 0), (4_667, 1), (5_334, 2)]);
         assert_eq!((rounds.closed(), rounds.closed()), (3, 0));
         // It counts from the post at which it was begun.
         let next = behind(&mut rounds, 22_000, true);
-        assert_eq!(next, [(12_000, 0), (14_667, 1), (17_334, 2)]);
+        assert_eq!(next, [(14_000, 0), (16_667, 1), (19_334, 2)]);
     }
 
     #[test]
     fn where_none_can_be_closed_it_is_tried_again_soon() {
         let mut rounds = Rounds::new(2);
-        let tries = behind(&mut rounds, 11_000, false);
-        let wanted = [(8_000, 0), (10_000, 1), (10_001, 0), (10_126, 1), (10_501, 0), (10_626, 1)];
+        let tries = behind(&mut rounds, 5_700, false);
+        let wanted = [(4_000, 0), (5_000, 1), (5_001, 0), (5_126, 1), (5_501, 0), (5_626, 1)];
         assert_eq!(tries, wanted);
         assert_eq!(rounds.closed(), 0);
     }
@@ -196,7 +196,7 @@ mod tests {
     fn what_is_not_closed_yet_has_entries() {
         let mut rounds = Rounds::new(3);
         assert!(!rounds.have_entries());
-        assert_eq!(behind(&mut rounds, 8_000, true), [(8_000, 0)]);
+        assert_eq!(behind(&mut rounds, 4_000, true), [(4_000, 0)]);
         assert!(rounds.have_entries());
         assert_eq!(rounds.being_closed(), Some(1), "it may be closed at once");
     }

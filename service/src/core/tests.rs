@@ -121,7 +121,7 @@ fn more_posts_than_a_journal_has_entries_are_taken() {
     for number in 1..=40_000 {
         assert_eq!(post(&core, "A", &points(&a, number * 10, 1)), Ok(0), "{number}");
     }
-    assert!(core.lock().rounds_closed() >= 4);
+    assert!(core.lock().rounds_closed() >= 9);
     assert_eq!(taken(&core), [("a0".into(), (40_000, 400_010))].into());
 }
 
