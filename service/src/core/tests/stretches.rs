@@ -198,7 +198,7 @@ fn a_post_of_several_hours_is_whole_also_without_memory() {
     let core = Core::new(1).unwrap();
     let by = named(&names("s", 3));
     put(&core, &by, "A", of(&[(0, HOUR / 2, 1), (1, HOUR / 2, 1)])).unwrap();
-    let lump = of(&[(0, 2 * HOUR, 1), (1, 3 * HOUR, 1), (2, 4 * HOUR, 1)]);
+    let lump = of(&[(0, 2 * HOUR, 1), (1, 3 * HOUR, 1), (2, 4 * HOUR, 1), (0, 5 * HOUR, 1)]);
     let mut half = 0;
     blocks_until(|blocks, refuses_all| {
         let mut read = core.read_points("A".into(), lump.clone(), by.clone(), 0).unwrap();
@@ -219,7 +219,7 @@ fn a_post_of_several_hours_is_whole_also_without_memory() {
     });
     assert!(half > 0);
     let sums = sums(group(&core));
-    assert!(sums.len() == 5 && sums.values().all(|sum| *sum == 1), "{sums:?}");
+    assert!(sums.len() == 6 && sums.values().all(|sum| *sum == 1), "{sums:?}");
 }
 
 /// Whatever comes, in whatever order: each hour has its own sum.
