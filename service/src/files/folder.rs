@@ -226,9 +226,7 @@ impl Folder {
 
     /// The outbox alone, of a slot whose journal has nothing more.
     pub fn outbox(&self, number: u16) -> Result<Outbox, Fault> {
-        let outbox = self.read_outbox(number)?;
-        outbox.begin()?;
-        Ok(outbox)
+        self.read_outbox(number)?.begun()
     }
 
     fn read_outbox(&self, number: u16) -> Result<Outbox, Fault> {

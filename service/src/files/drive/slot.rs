@@ -21,7 +21,7 @@ pub fn open(drive: Arc<dyn Drive>, epoch: &str) -> Result<(Journal, Outbox, Dead
         return Err(Fault::Damaged { path: outbox.into(), at: 0, what: LOST_OUTBOX.into() });
     }
     let free_space = Arc::new(FreeSpace::endless());
-    let outbox = Outbox::open(&disk, outbox, epoch, free_space.clone())?;
+    let outbox = Outbox::read(&disk, outbox, epoch, free_space.clone())?.begun()?;
     outbox.is_delivered_to(delivered)?;
     let reach = outbox.journal();
     let expected = Expected {

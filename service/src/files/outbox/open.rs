@@ -15,29 +15,7 @@ use std::sync::{Arc, Mutex};
 use tokio::sync::Notify;
 
 impl Outbox {
-    pub(in crate::files) fn open(
-        disk: &Disk,
-        folder: &Path,
-        epoch: &str,
-        free_space: Arc<FreeSpace>,
-    ) -> Result<Outbox, Fault> {
-        Outbox::open_with(disk, folder, epoch, free_space, ends, SEGMENT)
-    }
-
-    pub(super) fn open_with(
-        disk: &Disk,
-        folder: &Path,
-        epoch: &str,
-        free_space: Arc<FreeSpace>,
-        read_ends: ReadEnds,
-        longest: u64,
-    ) -> Result<Outbox, Fault> {
-        let outbox = Outbox::read_with(disk, folder, epoch, free_space, read_ends, longest)?;
-        outbox.begin()?;
-        Ok(outbox)
-    }
-
-    /// The same for who only asks, until it is begun.
+    /// For who only asks, until it is begun.
     pub(in crate::files) fn read(
         disk: &Disk,
         folder: &Path,
@@ -47,7 +25,7 @@ impl Outbox {
         Outbox::read_with(disk, folder, epoch, free_space, ends, SEGMENT)
     }
 
-    fn read_with(
+    pub(super) fn read_with(
         disk: &Disk,
         folder: &Path,
         epoch: &str,
@@ -87,6 +65,11 @@ impl Outbox {
             dropped,
             stuck: Mutex::new(None),
         })
+    }
+
+    pub(in crate::files) fn begun(self) -> Result<Outbox, Fault> {
+        self.begin()?;
+        Ok(self)
     }
 
     /// Begins its segment, before which nothing can be written.

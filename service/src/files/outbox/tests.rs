@@ -40,7 +40,7 @@ fn unit_of(metric: &str, unit: &str) -> UnitOfMetric {
 
 fn open_on(disk: &Disk, path: &Path, epoch: &str, longest: u64) -> Result<Outbox, Fault> {
     let free_space = Arc::new(FreeSpace::new(Path::new("/"))?);
-    Outbox::open_with(disk, path, epoch, free_space, read_ends, longest)
+    Outbox::read_with(disk, path, epoch, free_space, read_ends, longest)?.begun()
 }
 
 fn open(path: &Path) -> Outbox {

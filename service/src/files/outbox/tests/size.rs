@@ -29,8 +29,9 @@ fn request_ends(body: &[u8]) -> Result<Vec<(SeriesKey, u64)>, NotForwarded> {
 fn it_is_at_most_a_fifth_of_what_is_forwarded() {
     let folder = tempfile::tempdir().unwrap();
     let free_space = Arc::new(FreeSpace::new(folder.path()).unwrap());
-    let outbox =
-        Outbox::open_with(&Disk::default(), folder.path(), "e", free_space, request_ends, SEGMENT).unwrap();
+    let disk = Disk::default();
+    let outbox = Outbox::read_with(&disk, folder.path(), "e", free_space, request_ends, SEGMENT);
+    let outbox = outbox.and_then(Outbox::begun).unwrap();
     let mut forwarded = 0;
     for round in 0..5 {
         let body = request(1000, 1_700_000_000_000_000_000 + round * 10_000_000_000);
@@ -48,7 +49,8 @@ fn room_for_the_next_snapshot_is_kept_back() {
     let folder = tempfile::tempdir().unwrap();
     let open = || {
         let free_space = Arc::new(FreeSpace::with(|| Ok((66 << 20, 1 << 30, 1000))).unwrap());
-        Outbox::open_with(&Disk::default(), folder.path(), "e", free_space, read_ends, u64::MAX).unwrap()
+        let read = Outbox::read_with(&Disk::default(), folder.path(), "e", free_space, read_ends, u64::MAX);
+        read.and_then(Outbox::begun).unwrap()
     };
     let outbox = open();
     assert!(outbox.free_space.is_left());
