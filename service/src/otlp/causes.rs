@@ -2,7 +2,6 @@
 
 use super::series::{visit_body, Profile, Seen, What};
 use super::{Off, OffClock};
-use crate::runs::{self, Turned};
 use std::collections::BTreeMap;
 use std::fmt;
 
@@ -83,18 +82,6 @@ impl Causes {
         causes
     }
 
-    /// Of cumulative points that are sound, and were not taken.
-    pub fn of_runs(turned: &Turned) -> Causes {
-        let of = |refused: &runs::Refused| match refused {
-            runs::Refused::EarlierRun => Cause::EarlierRun,
-            runs::Refused::WentDown => Cause::WentDown,
-            runs::Refused::Delta => Cause::Mixed,
-            runs::Refused::TooLarge => Cause::Leap,
-            runs::Refused::Forgotten => Cause::Forgotten,
-        };
-        turned.by.iter().map(|(refused, points)| (of(refused), *points)).collect()
-    }
-
     /// As they are shown.
     pub(super) fn read(text: &str) -> Option<Causes> {
         let of = |part: &str| {
@@ -116,7 +103,7 @@ impl Causes {
         self.iter().chain(others.iter()).collect()
     }
 
-    fn add(&mut self, cause: Cause, points: u64) {
+    pub fn add(&mut self, cause: Cause, points: u64) {
         *self.0.entry(cause).or_default() += points;
     }
 

@@ -2,7 +2,6 @@
 
 use super::*;
 use crate::otlp::{Clock, OffClock};
-use crate::runs::{Refused, Turned};
 use std::time::Duration;
 
 /// Answers as it was told.
@@ -271,12 +270,12 @@ async fn so_many_strangers_are_told_of() {
 /// Cumulative points that are refused by name count, beside foreign ones and alone.
 #[tokio::test]
 async fn what_is_refused_of_runs_is_counted() {
-    let turned = Turned { by: [(Refused::WentDown, 2)].into() };
+    let turned: Causes = [(Cause::WentDown, 2)].into_iter().collect();
     for (gauges, metrics) in [(0, ""), (3, GAUGES)] {
         let outcome = Outcome::Taken {
             rejected: 2 + gauges,
             off: OffClock::default(),
-            known: Causes::of_runs(&turned),
+            known: turned.clone(),
             message: None,
         };
         let reported = reported(outcome, None, ReportOptions::default());

@@ -1,11 +1,11 @@
 //! The points that the book is asked to take of a post.
 
-use super::{added_by, Added, Entry, Kind, Locked, Names, Points};
-use super::{Refused, Run, Runs, SeriesPlace};
+use super::{added_by, Entry, Kind, Locked, Names, Points, Run, Runs, SeriesPlace};
 use crate::core;
 use crate::files::OfRun;
 use crate::otlp::series::Digest;
-use std::collections::{BTreeMap, HashMap};
+use crate::otlp::{Cause, Causes};
+use std::collections::HashMap;
 use std::sync::Arc;
 
 /// Of a post. Unless it is kept all is as it was before.
@@ -16,8 +16,11 @@ pub struct Draft<'r> {
     pub points: Points,
     /// The places of the points that are not sound, ascending.
     unsound: Vec<u32>,
-    pub turned: Turned,
-    pub noted: Vec<Noted>,
+    /// Sound points that are not taken.
+    pub turned: Causes,
+    /// First points from which alone their series count, what these have from before is left out: each by the number of its
+    /// series, and its first word.
+    pub noted: Vec<(u64, u64)>,
     /// Points that add nothing, since they are no later than their runs: each by its place in the post, and its series.
     pub late: Vec<(u32, Digest)>,
     /// Of the series of each point that was made, in their order, how many words its run had; none where there was none.
@@ -48,20 +51,6 @@ struct Ended {
     seen_words: usize,
 }
 
-/// Sound points that are not taken.
-#[derive(Clone, Debug, Default, PartialEq, Eq)]
-pub struct Turned {
-    pub by: BTreeMap<Refused, u64>,
-}
-
-/// A first point from which alone its series counts: what it has from before is left out.
-#[derive(Clone, Debug, PartialEq, Eq)]
-pub struct Noted {
-    /// Of its series.
-    pub number: u64,
-    pub run: Run,
-}
-
 /// Points some of which are cumulative, by their places.
 #[derive(Clone, Copy)]
 pub struct Posted<'p> {
@@ -83,7 +72,7 @@ impl Runs {
             runs,
             points: Points::with_room(points.words().len(), points.count()),
             unsound: Vec::new(),
-            turned: Turned::default(),
+            turned: Causes::default(),
             noted: Vec::new(),
             late: Vec::new(),
             before: Vec::with_capacity(cumulative),
@@ -136,7 +125,7 @@ impl Draft<'_> {
             }
             let added = added_by(options, self.runs.since, kind, None, frontier.max(deltas), run);
             if let Err(refused) = added {
-                return self.turned.count_one(refused);
+                return self.turned.add(refused, 1);
             }
         }
         let Some(found) = self.runs.find(names, number, frontier) else {
@@ -159,12 +148,12 @@ impl Draft<'_> {
             Ok(None) => {
                 let digest = series.digest;
                 match self.is_of_another(&found, run) {
-                    true => self.turned.count_one(Refused::EarlierRun),
+                    true => self.turned.add(Cause::EarlierRun, 1),
                     false => self.late.push((place, digest)),
                 }
             }
             Ok(Some(entry)) => self.take(found, number, entry, run),
-            Err(refused) => self.turned.count_one(refused),
+            Err(refused) => self.turned.add(refused, 1),
         }
     }
 
@@ -200,8 +189,8 @@ impl Draft<'_> {
         }
         let place = self.runs.place(found, number);
         let series = &self.runs.series[place as usize];
-        if let Entry::Noted(run) = &entry {
-            self.noted.push(Noted { number, run: run.clone() });
+        if let OfRun::Noted { words, .. } = &entry.of_run {
+            self.noted.push((number, words[0]));
         }
         if let Some(run) = &series.run {
             self.was.extend([run.start, run.time]);
@@ -210,8 +199,10 @@ impl Draft<'_> {
         let words = series.run.as_ref().map(|run| run.words.len());
         self.before.push((place, words));
         self.runs.come_to(place, run, &entry);
-        self.made.push((self.points.count() as u32, place));
-        entry.put(&mut self.points, number);
+        let at = self.points.count() as u32;
+        self.made.push((at, place));
+        self.points.push(number, entry.from, entry.time, entry.words);
+        self.points.put_run(at, entry.of_run);
     }
 
     /// The book has refused this point, since the series ends there in it: it has delta points too, which came before this post.
@@ -285,16 +276,6 @@ fn counts_alike(one: &[u64], other: &[u64]) -> bool {
     }
 }
 
-impl Turned {
-    fn count_one(&mut self, refused: Refused) {
-        *self.by.entry(refused).or_default() += 1;
-    }
-
-    pub fn count(&self) -> u64 {
-        self.by.values().sum()
-    }
-}
-
 impl Run {
     fn set(&mut self, start: u64, time: u64, words: &[u64]) {
         (self.start, self.time) = (start, time);
@@ -316,39 +297,5 @@ impl Run {
                 }
                 _ => false,
             }
-    }
-}
-
-impl Entry {
-    /// By what the journal says of a point.
-    pub fn of(of_run: &OfRun, point: &[u64]) -> Entry {
-        let added = || Added { from: point[1], time: point[2], words: point[3..].to_vec() };
-        match of_run {
-            OfRun::More => Entry::More(added()),
-            OfRun::Began(start) => Entry::Counted { start: *start, added: added() },
-            OfRun::Noted { start, words } => {
-                Entry::Noted(Run { start: *start, time: point[2], words: words.clone() })
-            }
-        }
-    }
-
-    /// Behind points as what the book is asked to take: of what is only noted a zero, by which the series is its sender's.
-    fn put(self, points: &mut Points, number: u64) {
-        let (of_run, added) = match self {
-            Entry::More(added) => (OfRun::More, added),
-            Entry::Counted { start, added } => (OfRun::Began(start), added),
-            Entry::Noted(Run { start, time, words }) => {
-                let mut zeros = vec![0; words.len()];
-                if let [_, has_sum, _, ..] = &mut zeros[..] {
-                    *has_sum = words[1];
-                }
-                let from = time - 1; // a sound point ends behind 1
-                let words_of_run = OfRun::Noted { start, words };
-                (words_of_run, Added { from, time, words: zeros })
-            }
-        };
-        let at = points.count() as u32;
-        points.push(number, added.from, added.time, added.words);
-        points.put_run(at, of_run);
     }
 }

@@ -3,6 +3,8 @@
 //! A *run* is what a series counts from one start on. Of each series the last point that was taken is kept: so what its next
 //! point adds is the difference, or, of a run that began later, all of it.
 
+use crate::files::OfRun;
+use crate::otlp::Cause;
 use serde::{Deserialize, Serialize};
 
 /// The last point that was taken of a series.
@@ -16,38 +18,14 @@ pub struct Run {
     pub words: Vec<u64>,
 }
 
-/// What a point adds, beside the words that it says.
+/// What a point adds over (from, time], which the book gets, and what it says of its run: that goes on, with what it has more;
+/// or it began after the time before, or anew, with all of it; or only from here on it counts.
 #[derive(Clone, Debug, PartialEq, Eq)]
-pub enum Entry {
-    /// The run goes on: what it has more, over (time before, time].
-    More(Added),
-    /// A run that began after the time before, or anew: all of it.
-    Counted { start: u64, added: Added },
-    /// Only from here on it counts.
-    Noted(Run),
-}
-
-/// What the book gets of a point.
-#[derive(Clone, Debug, PartialEq, Eq)]
-pub struct Added {
+pub struct Entry {
+    pub of_run: OfRun,
     pub from: u64,
     pub time: u64,
     pub words: Vec<u64>,
-}
-
-/// Why a point is not taken, although it is sound.
-#[derive(Clone, Copy, Debug, PartialEq, Eq, PartialOrd, Ord, Hash)]
-pub enum Refused {
-    /// It is of a run that began before the last point of another.
-    EarlierRun,
-    /// A word is less than it was, and the start is the same.
-    WentDown,
-    /// The series has delta points too.
-    Delta,
-    /// What it adds is over the limit of a point.
-    TooLarge,
-    /// It is from before a series was forgotten that may have been its own: it may have been counted.
-    Forgotten,
 }
 
 /// Which first points count from their start.
@@ -110,21 +88,23 @@ impl Since {
     }
 }
 
-/// What a point adds to a series of which `known` was taken last: nothing of one that is no later than that.
+/// What a sound point adds to a series of which `known` was taken last: nothing of one that is no later than that. Or why it is
+/// not taken.
 pub fn entry(
     options: Options,
     since: Since,
     kind: Kind,
     known: Option<&Run>,
     point: &Run,
-) -> Result<Option<Entry>, Refused> {
+) -> Result<Option<Entry>, Cause> {
     let Some(known) = known else {
         if point.time <= since.forgotten {
-            return Err(Refused::Forgotten);
+            // From before a series was forgotten that may have been its own: it may have been counted.
+            return Err(Cause::Forgotten);
         }
         return Ok(Some(match since.counts(options.first, point.start) && !is_instant(point) {
             true => counted(point, point.start),
-            false => Entry::Noted(point.clone()),
+            false => noted(point),
         }));
     };
     if point.time <= known.time {
@@ -134,8 +114,8 @@ pub fn entry(
         return of_run(options, kind, known, point).map(Some);
     }
     match (point.start >= known.time, is_instant(point)) {
-        (false, _) => Err(Refused::EarlierRun),
-        (true, true) => Ok(Some(Entry::Noted(point.clone()))),
+        (false, _) => Err(Cause::EarlierRun),
+        (true, true) => Ok(Some(noted(point))),
         (true, false) => Ok(Some(counted(point, point.start))),
     }
 }
@@ -147,22 +127,32 @@ fn is_instant(point: &Run) -> bool {
 }
 
 fn counted(point: &Run, from: u64) -> Entry {
-    let (time, words) = (point.time, point.words.clone());
-    Entry::Counted { start: point.start, added: Added { from, time, words } }
+    let (of_run, words) = (OfRun::Began(point.start), point.words.clone());
+    Entry { of_run, from, time: point.time, words }
+}
+
+/// The book gets a zero, by which the series is its sender's.
+fn noted(point: &Run) -> Entry {
+    let mut zeros = vec![0; point.words.len()];
+    if let [_, has_sum, _, ..] = &mut zeros[..] {
+        *has_sum = point.words[1];
+    }
+    let of_run = OfRun::Noted { start: point.start, words: point.words.clone() };
+    let from = point.time - 1; // a sound point ends behind 1
+    Entry { of_run, from, time: point.time, words: zeros }
 }
 
 /// A later point of the same start.
-fn of_run(options: Options, kind: Kind, known: &Run, point: &Run) -> Result<Entry, Refused> {
+fn of_run(options: Options, kind: Kind, known: &Run, point: &Run) -> Result<Entry, Cause> {
     if kind != Kind::Sum && goes_down(&known.words, &point.words) {
         // Without a start nothing else could say that a run began anew.
         return match options.reset == Reset::Count || point.start == 0 {
             true => Ok(counted(point, known.time)),
-            false => Err(Refused::WentDown),
+            false => Err(Cause::WentDown),
         };
     }
-    let words = difference(kind, &known.words, &point.words).ok_or(Refused::TooLarge)?;
-    let (from, time) = (known.time, point.time);
-    Ok(Entry::More(Added { from, time, words }))
+    let words = difference(kind, &known.words, &point.words).ok_or(Cause::Leap)?;
+    Ok(Entry { of_run: OfRun::More, from: known.time, time: point.time, words })
 }
 
 /// Of what only goes up. A histogram's sum counts where both have one.
@@ -213,36 +203,24 @@ fn sum(kind: Kind, before: &[u64], added: &[u64]) -> Vec<u64> {
 impl Entry {
     /// What is kept of a series behind this. An entry that is in it already changes nothing, so that a start may find both.
     pub fn after(&self, kind: Kind, known: Option<&Run>) -> Option<Run> {
-        if known.is_some_and(|known| known.time >= self.time()) {
+        if known.is_some_and(|known| known.time >= self.time) {
             return known.cloned();
         }
-        match self {
-            Entry::Noted(run) => Some(run.clone()),
-            Entry::Counted { start, added } => {
-                Some(Run { start: *start, time: added.time, words: added.words.clone() })
-            }
-            Entry::More(added) => known.map(|known| Run {
-                start: known.start,
-                time: added.time,
-                words: sum(kind, &known.words, &added.words),
-            }),
-        }
+        let (start, words) = match &self.of_run {
+            OfRun::Noted { start, words } => (*start, words.clone()),
+            OfRun::Began(start) => (*start, self.words.clone()),
+            OfRun::More => (known?.start, sum(kind, &known?.words, &self.words)),
+        };
+        Some(Run { start, time: self.time, words })
     }
 
     /// The same, in the place of a run, of the point that it was made of: without adding up what comes to that again.
     pub fn put_after(&self, kind: Kind, point: &Run, run: &mut Run) {
         (run.start, run.time) = (point.start, point.time);
         run.words.clone_from(&point.words);
-        if let (Kind::Histogram, Entry::More(added), [_, has, sum, ..]) = (kind, self, &mut run.words[..]) {
-            *has = added.words[1];
+        if let (Kind::Histogram, OfRun::More, [_, has, sum, ..]) = (kind, &self.of_run, &mut run.words[..]) {
+            *has = self.words[1];
             *sum *= *has;
-        }
-    }
-
-    pub fn time(&self) -> u64 {
-        match self {
-            Entry::Noted(run) => run.time,
-            Entry::Counted { added, .. } | Entry::More(added) => added.time,
         }
     }
 }

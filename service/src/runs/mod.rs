@@ -11,14 +11,15 @@
 mod draft;
 mod law;
 
-pub use draft::{Draft, Noted, Posted, Turned};
-pub use law::{Entry, First, Kind, Options, Refused, Reset, Run, Since};
+pub use draft::{Draft, Posted};
+pub use law::{Entry, First, Kind, Options, Reset, Run, Since};
 
 use crate::core::Names;
-use crate::files::{self, Outbox, Points};
+use crate::files::{self, OfRun, Outbox, Points};
 use crate::otlp::series::{self, Digest, SeriesKey};
+use crate::otlp::Cause;
 use crate::work::locked;
-use law::{entry, Added};
+use law::entry;
 use std::collections::HashMap;
 use std::sync::atomic::{AtomicUsize, Ordering::Relaxed};
 use std::sync::{Arc, Mutex, MutexGuard, OnceLock};
@@ -115,8 +116,9 @@ impl State {
             let place = found.map(|found| self.place(found, point[0]));
             let Some(place) = place else { continue }; // each name that was written is that of a series
             let series = &mut self.series[place as usize];
-            let after = Entry::of(of_run, point).after(series.kind, series.run.as_deref());
-            series.run = after.map(Arc::new);
+            let (of_run, words) = (of_run.clone(), point[3..].to_vec());
+            let entry = Entry { of_run, from: point[1], time: point[2], words };
+            series.run = entry.after(series.kind, series.run.as_deref()).map(Arc::new);
             self.note_change(place);
         }
     }
@@ -255,15 +257,14 @@ fn added_by(
     known: Option<&Run>,
     frontier: u64,
     point: &Run,
-) -> Result<Option<Entry>, Refused> {
+) -> Result<Option<Entry>, Cause> {
     let found = entry(options, since, kind, known, point)?;
-    let begins = found.as_ref().map_or(u64::MAX, |entry| match (entry, known) {
-        (Entry::Noted(run), None) => run.start.min(run.time - 1),
-        (Entry::Noted(run), Some(_)) => run.time - 1,
-        (Entry::Counted { added, .. } | Entry::More(added), _) => added.from,
+    let begins = found.as_ref().map_or(u64::MAX, |entry| match (&entry.of_run, known) {
+        (OfRun::Noted { start, .. }, None) => entry.from.min(*start),
+        _ => entry.from,
     });
     match begins < frontier {
-        true => Err(Refused::Delta),
+        true => Err(Cause::Mixed),
         false => Ok(found),
     }
 }

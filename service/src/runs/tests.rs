@@ -9,19 +9,17 @@ fn run(start: u64, time: u64, words: &[u64]) -> Run {
     Run { start, time, words }
 }
 
-fn more(from: u64, time: u64, words: &[u64]) -> Result<Option<Entry>, Refused> {
-    let words = words.to_vec();
-    Ok(Some(Entry::More(Added { from, time, words })))
+fn more(from: u64, time: u64, words: &[u64]) -> Result<Option<Entry>, Cause> {
+    Ok(Some(Entry { of_run: OfRun::More, from, time, words: words.to_vec() }))
 }
 
-fn counted(start: u64, from: u64, time: u64, words: &[u64]) -> Result<Option<Entry>, Refused> {
-    let words = words.to_vec();
-    let added = Added { from, time, words };
-    Ok(Some(Entry::Counted { start, added }))
+fn counted(start: u64, from: u64, time: u64, words: &[u64]) -> Result<Option<Entry>, Cause> {
+    Ok(Some(Entry { of_run: OfRun::Began(start), from, time, words: words.to_vec() }))
 }
 
-fn noted(start: u64, time: u64, words: &[u64]) -> Result<Option<Entry>, Refused> {
-    Ok(Some(Entry::Noted(run(start, time, words))))
+fn noted(start: u64, time: u64, words: &[u64]) -> Result<Option<Entry>, Cause> {
+    let of_run = OfRun::Noted { start, words: words.to_vec() };
+    Ok(Some(Entry { of_run, from: time - 1, time, words: vec![0; words.len()] }))
 }
 
 const SINCE: Since = Since { made: 100, forgotten: 50 };
@@ -52,7 +50,7 @@ fn a_first_point_counts_from_its_start_as_it_was_told() {
         assert_eq!(first(option, start, 200), wanted, "{option:?} {start}");
     }
     // Late, of a series that may have been counted and forgotten since.
-    assert_eq!(first(First::Auto, 40, 50), Err(Refused::Forgotten));
+    assert_eq!(first(First::Auto, 40, 50), Err(Cause::Forgotten));
     assert_eq!(first(First::Auto, 40, 51), noted(40, 51, &[7]));
 }
 
@@ -71,20 +69,20 @@ fn a_later_point_adds_what_its_run_has_more_or_all_of_a_new_run() {
     // Also with less than it was: it is another run. Where this one began nobody knows.
     assert_eq!(refuse(210, 210, 3), noted(210, 210, &[3]));
     for start in [0, 109, 111, 199] {
-        assert_eq!(refuse(start, 210, 9), Err(Refused::EarlierRun), "{start}");
+        assert_eq!(refuse(start, 210, 9), Err(Cause::EarlierRun), "{start}");
     }
     // The same point again, an older one, whatever it says.
     for (start, time) in [(110, 200), (110, 199), (150, 200), (0, 1)] {
         assert_eq!(refuse(start, time, 9), Ok(None), "{start} {time}");
     }
-    assert_eq!(refuse(110, 210, 6), Err(Refused::WentDown));
+    assert_eq!(refuse(110, 210, 6), Err(Cause::WentDown));
     let reset = next(Reset::Count, Kind::Monotonic, 110, 210, 6);
     assert_eq!(reset, counted(110, 200, 210, &[6]));
     let down = next(Reset::Refuse, Kind::Sum, 110, 210, -6);
     assert_eq!(down, more(200, 210, &[-13i64 as u64]));
     // Over 63 bits.
     let lowest = next(Reset::Refuse, Kind::Sum, 110, 210, i64::MIN + 1);
-    assert_eq!(lowest, Err(Refused::TooLarge));
+    assert_eq!(lowest, Err(Cause::Leap));
 }
 
 /// Nothing else could say that a counter began anew.
@@ -113,7 +111,7 @@ fn a_histogram_has_a_sum_more_where_both_points_have_one() {
     let came = next(&[3, 0, 0, 1, 2], &[5, 1, 70, 2, 3]);
     assert_eq!(came, (more(200, 210, &[2, 0, 0, 1, 1]), Some(vec![5, 0, 0, 2, 3])));
     for now in [[2, 1, 30, 0, 2], [4, 1, 29, 2, 2], [4, 1, 40, 0, 4]] {
-        assert_eq!(next(&[3, 1, 30, 1, 2], &now).0, Err(Refused::WentDown), "{now:?}");
+        assert_eq!(next(&[3, 1, 30, 1, 2], &now).0, Err(Cause::WentDown), "{now:?}");
     }
 }
 
@@ -175,10 +173,7 @@ fn what_was_added_is_the_sum_of_the_last_values_of_the_runs() {
                 };
                 let Some(entry) = entry else { continue };
                 plain.take(start, time, value);
-                added += match &entry {
-                    Entry::More(added) | Entry::Counted { added, .. } => i128::from(added.words[0] as i64),
-                    Entry::Noted(_) => 0,
-                };
+                added += i128::from(entry.words[0] as i64);
                 let mut put = kept.clone().unwrap_or_default();
                 entry.put_after(kind, &point, &mut put);
                 kept = entry.after(kind, kept.as_ref());
@@ -244,7 +239,7 @@ fn a_series_is_looked_up_once_however_many_of_its_points_are_not_taken() {
     };
     let draft = drafted(posted);
     assert_eq!((draft.foreign(), draft.turned.count(), draft.points.count()), (50, 50, 2));
-    assert_eq!(draft.turned.by, [(Refused::Delta, 50)].into());
+    assert_eq!(draft.turned, [(Cause::Mixed, 50)].into_iter().collect());
     assert_eq!(asked.get(), 2, "until one is taken, and then");
     drop(draft);
     // And for the posts after it not again.
@@ -274,9 +269,10 @@ fn of_two_points_over_one_time_in_a_post_the_second_is_refused_by_name() {
         let cumulative: Vec<u32> = (0..points.count() as u32).collect();
         let posted = Posted { points: &points, cumulative: &cumulative, names: &names };
         let draft = runs.draft(posted, |_| 0);
-        let (late, refused) = (draft.late.len(), draft.turned.by.get(&Refused::EarlierRun).copied());
+        let (late, refused) = (draft.late.len(), draft.turned.count());
+        assert!(draft.turned.iter().all(|(cause, _)| cause == Cause::EarlierRun));
         draft.keep();
-        (late, refused.unwrap_or(0))
+        (late, refused)
     };
     assert_eq!(taken(&[(10, 20, 5)]), (0, 0));
     assert_eq!(taken(&[(10, 30, 9), (10, 30, 9)]), (1, 0), "twice the same");

@@ -10,7 +10,7 @@ use crate::log::shown;
 use crate::otlp::series::{self, Digest};
 use crate::otlp::{Outcome, Window};
 use crate::post_reports::SERIES_SHOWN;
-use crate::runs::{self, Draft, Noted};
+use crate::runs::{self, Draft};
 use crate::shares::Claim;
 use crate::work::{blocking, Readers};
 use std::collections::{HashMap, HashSet};
@@ -219,8 +219,8 @@ impl Slot {
         let noted = std::mem::take(&mut draft.noted);
         draft.keep();
         self.metrics.noted_runs.inc_by(noted.len() as u64);
-        if let Some(Noted { number, run }) = noted.first() {
-            let (sender, value, series_count) = (making.sender.as_str(), run.words[0] as i64, noted.len());
+        if let Some((number, word)) = noted.first() {
+            let (sender, value, series_count) = (making.sender.as_str(), *word as i64, noted.len());
             let key = series::only(&making.by.names.text(*number));
             let series = key.map_or_else(String::new, |key| shown(&key.0, SERIES_SHOWN));
             tracing::info!(

@@ -10,7 +10,6 @@ use super::MOVED;
 use crate::core::Refused;
 use crate::files::{Journal, Lost, Ticket};
 use crate::otlp::{Causes, OffClock, Outcome};
-use crate::runs::Turned;
 
 /// What may be said once the journal is durable up to a place.
 #[must_use = "a sender waits for it"]
@@ -36,11 +35,11 @@ impl Journalled {
 
     /// The same of a post of which so many points are outside the profile, and others off by their clock or were not taken
     /// for these reasons.
-    pub fn without(mut self, foreign: u64, off: OffClock, turned: &Turned) -> Journalled {
+    pub fn without(mut self, foreign: u64, off: OffClock, turned: &Causes) -> Journalled {
         self.outcome = Outcome::Taken {
             rejected: foreign + off.points() + turned.count(),
             off,
-            known: Causes::of_runs(turned),
+            known: turned.clone(),
             message: None,
         };
         self
