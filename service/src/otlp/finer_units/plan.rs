@@ -127,7 +127,7 @@ fn plan<'r>(
         }
         None => units.decided(&name, unit)?,
     };
-    Some(match units.rule(unit, wanted) {
+    Some(match unit.rule(wanted) {
         // In a unit that is as fine as that of doubles, these are rounded.
         Some(rule) if unit.of_doubles() == unit => Taken::In(rule),
         Some(rule) if wanted != unit => Taken::In(rule),

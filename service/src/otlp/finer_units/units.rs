@@ -27,7 +27,7 @@ use super::{Rule, BYTES, PARTS, TIMES};
 pub use decided::Decided;
 use std::collections::{BTreeMap, BTreeSet, HashMap};
 use std::sync::atomic::{AtomicBool, AtomicU64, Ordering::Relaxed, Ordering::SeqCst};
-use std::sync::{Arc, PoisonError, RwLock, RwLockReadGuard, RwLockWriteGuard};
+use std::sync::{Arc, LazyLock, PoisonError, RwLock, RwLockReadGuard, RwLockWriteGuard};
 
 /// Units of which each is a whole part of all before it, and the one in which doubles are taken.
 const CHAINS: [(&[&str], &str); 4] = [
@@ -53,7 +53,19 @@ type Set = u32;
 /// The last number that a slot's got.
 static LAST: AtomicU64 = AtomicU64::new(0);
 
+/// By the place of a unit those that it may be taken in.
+static FINER: LazyLock<Vec<Set>> =
+    LazyLock::new(|| (0..all().count()).map(|place| Unit(place).finer()).collect());
+
+/// By the place of a unit, and then of the one that it is taken in.
+static RULES: LazyLock<Vec<Vec<Option<Rule>>>> = LazyLock::new(|| {
+    let rule = |from: &str, to: &str| format!("{from}={to}").parse().ok();
+    let row = |from| all().map(|(to, _)| rule(from, to)).collect();
+    all().map(|(from, _)| row(from)).collect()
+});
+
 /// In which known units there are series, by the name of their metric.
+#[derive(Default)]
 pub struct Units {
     /// Of each that is opened another; 0 of those that all slots share.
     pub(super) number: u64,
@@ -62,15 +74,13 @@ pub struct Units {
     has_unkept: AtomicBool,
     /// What is known here of a name that this slot does not know yet.
     of_all: Option<Arc<Units>>,
-    /// By the place of the unit, and then of the one that it is taken in.
-    rules: Arc<Vec<Vec<Option<Rule>>>>,
-    /// Those that it may be taken in.
-    finer: Vec<Set>,
 }
 
+#[derive(Default)]
 struct Names {
     units: HashMap<Box<str>, Known>,
-    left: usize,
+    /// Of memory.
+    taken: usize,
     /// Names of which the outbox may have something else; none where there is no outbox.
     unkept: Option<BTreeSet<Box<str>>>,
     /// Those that are pending, and how many posts hold each.
@@ -100,11 +110,13 @@ impl Known {
         let beside = self.beside | self.pending_beside;
         beside & !self.kept | (self.deciding | self.pending) & !beside & self.kept
     }
-}
 
-impl Default for Names {
-    fn default() -> Names {
-        Names { units: HashMap::new(), left: MOST, unkept: None, pending: BTreeMap::new() }
+    /// Of those that decide, or would, the coarsest that a unit is made of.
+    fn coarsest(self, unit: Unit) -> Option<Unit> {
+        match (self.deciding | self.pending) & FINER[unit.0] {
+            0 => None,
+            both => Some(Unit(both.trailing_zeros() as usize)),
+        }
     }
 }
 
@@ -128,6 +140,11 @@ impl Unit {
         Unit(self.0.max(wanted.0))
     }
 
+    /// How it is taken in another, which is a part of it.
+    pub fn rule(self, to: Unit) -> Option<&'static Rule> {
+        RULES[self.0][to.0].as_ref()
+    }
+
     /// Those that it may be taken in, itself too.
     fn finer(self) -> Set {
         let behind = |(chain, _): &(&[&'static str], &str)| {
@@ -143,38 +160,10 @@ fn all() -> impl Iterator<Item = (&'static str, u64)> {
     TIMES.into_iter().chain(BYTES).chain(PARTS)
 }
 
-impl Default for Units {
-    fn default() -> Units {
-        let rule = |from: &str, to: &str| format!("{from}={to}").parse().ok();
-        let row = |from| all().map(|(to, _)| rule(from, to)).collect();
-        let rules: Vec<Vec<Option<Rule>>> = all().map(|(from, _)| row(from)).collect();
-        Units {
-            number: 0,
-            names: RwLock::default(),
-            has_unkept: AtomicBool::new(false),
-            of_all: None,
-            finer: (0..all().count()).map(|place| Unit(place).finer()).collect(),
-            rules: Arc::new(rules),
-        }
-    }
-}
-
 impl Units {
     /// Of one of several slots, which knows nothing yet.
     pub fn of_slot(of_all: Arc<Units>) -> Units {
-        Units {
-            number: 1 + LAST.fetch_add(1, Relaxed),
-            names: RwLock::default(),
-            has_unkept: AtomicBool::new(false),
-            rules: of_all.rules.clone(),
-            finer: of_all.finer.clone(),
-            of_all: Some(of_all),
-        }
-    }
-
-    /// How the one unit is taken in the other, which is a part of it.
-    pub fn rule(&self, from: Unit, to: Unit) -> Option<&Rule> {
-        self.rules[from.0][to.0].as_ref()
+        Units { number: 1 + LAST.fetch_add(1, Relaxed), of_all: Some(of_all), ..Units::default() }
     }
 
     /// Whether such a series was noted.
@@ -186,7 +175,9 @@ impl Units {
     pub fn note(&self, metric: &str, unit: Unit) {
         let known = self.known(metric);
         if known.deciding & bit(unit) == 0 {
-            self.write().put(metric, unit);
+            if let Some(known) = self.write().with_room(metric) {
+                known.deciding |= bit(unit);
+            }
         }
         if known.beside & bit(unit) == 0 {
             self.of_all.iter().for_each(|of_all| of_all.note(metric, unit));
@@ -213,7 +204,7 @@ impl Units {
     /// In which unit a metric of this one is taken, where that is decided, and nothing pending may change it.
     pub fn decided(&self, metric: &str, unit: Unit) -> Option<Unit> {
         let known = self.known(metric);
-        self.coarsest(known, unit).filter(|found| known.deciding & bit(*found) != 0)
+        known.coarsest(unit).filter(|found| known.deciding & bit(*found) != 0)
     }
 
     /// The same, where a post may decide it now. Where there is no room for more names it is the metric's own.
@@ -232,18 +223,10 @@ impl Units {
         let names = self.write();
         let known = names.of(metric);
         let own = if has_doubles { unit.of_doubles() } else { unit };
-        let found = self.coarsest(known, unit).or(elsewhere).unwrap_or(own);
+        let found = known.coarsest(unit).or(elsewhere).unwrap_or(own);
         match known.deciding & bit(found) != 0 || self.hold(names, metric, found, decided) {
             true => found,
             false => unit,
-        }
-    }
-
-    /// Of those that decide, or would, the coarsest that a unit is made of.
-    fn coarsest(&self, known: Known, unit: Unit) -> Option<Unit> {
-        match (known.deciding | known.pending) & self.finer[unit.0] {
-            0 => None,
-            both => Some(Unit(both.trailing_zeros() as usize)),
         }
     }
 
@@ -277,26 +260,21 @@ impl Units {
         names.unkept = Some(BTreeSet::new());
     }
 
-    /// Behind them: those that are beside nothing any more, and are as others from now on.
+    /// Behind them, which were noted as if all of them decided: those that are beside nothing any more, and are as others from
+    /// now on.
     pub fn settle(&self) -> Vec<Named> {
         let mut left = Vec::new();
         for (metric, known) in self.write().units.iter_mut().filter(|(_, known)| known.beside != 0) {
-            let before = std::mem::replace(known, self.settled(*known));
+            let before = known.beside;
+            known.beside &= known.deciding;
+            known.deciding &= !before;
+            known.decide_beside_nothing();
             known.kept = known.beside;
-            left.extend(units_of(before.beside & !known.beside).map(|unit| (metric.clone(), unit)));
+            left.extend(units_of(before & !known.beside).map(|unit| (metric.clone(), unit)));
         }
         let decide = left.iter().filter(|(metric, unit)| self.has(metric, *unit));
         decide.for_each(|(metric, unit)| self.note(metric, *unit)); // also for others here
         left
-    }
-
-    /// Of a name whose series were noted as if all of them decided.
-    fn settled(&self, known: Known) -> Known {
-        let both = known.deciding & known.beside;
-        let others = known.deciding & !known.beside;
-        let is_beside = |unit: &Unit| others & self.finer[unit.0] != 0;
-        let beside = units_of(both).filter(is_beside).fold(0, |set, unit| set | bit(unit));
-        Known { deciding: known.deciding & !beside, beside, ..known }
     }
 
     /// Whether a post may hang on what no outbox has.
@@ -345,15 +323,6 @@ impl Names {
         self.units.get(metric).copied().unwrap_or_default()
     }
 
-    /// Whether there was room.
-    fn put(&mut self, metric: &str, unit: Unit) -> bool {
-        let known = self.with_room(metric);
-        known.is_some_and(|known| {
-            known.deciding |= bit(unit);
-            true
-        })
-    }
-
     /// What nothing is known of goes, but where the outbox is being told of it.
     fn note_change(&mut self, metric: &str) {
         let known = self.of(metric);
@@ -362,14 +331,15 @@ impl Names {
             is_new || unkept.contains(metric)
         });
         if known == Known::default() && !is_told && self.units.remove(metric).is_some() {
-            self.left += metric.len() + ENTRY;
+            self.taken -= metric.len() + ENTRY;
         }
     }
 
     /// What is known of a name; none where there is no room for it.
     fn with_room(&mut self, metric: &str) -> Option<&mut Known> {
         if !self.units.contains_key(metric) {
-            self.left = self.left.checked_sub(metric.len() + ENTRY)?;
+            let taken = self.taken + metric.len() + ENTRY;
+            self.taken = (taken <= MOST).then_some(taken)?;
             self.units.insert(metric.into(), Known::default());
         }
         self.units.get_mut(metric)

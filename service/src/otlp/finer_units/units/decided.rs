@@ -1,6 +1,6 @@
 //! What posts have decided that are under way.
 
-use super::{bit, units_of, Known, Named, Names, Unit, Units};
+use super::{bit, units_of, Known, Named, Names, Unit, Units, FINER};
 use std::fmt;
 use std::sync::{Arc, RwLockWriteGuard};
 
@@ -54,7 +54,7 @@ impl Units {
         unit: Unit,
         decided: &mut Decided,
     ) -> bool {
-        let coarsest = self.coarsest(names.of(metric), unit);
+        let coarsest = names.of(metric).coarsest(unit);
         let Some(known) = names.with_room(metric) else {
             return false;
         };
@@ -74,21 +74,9 @@ impl Units {
         let is_last = names.is_last(named);
         if let Some(known) = names.units.get_mut(metric) {
             known.end(*unit, is_taken, is_last);
-            self.decide_beside_nothing(known);
+            known.decide_beside_nothing();
         }
         self.note_change(&mut names, metric);
-    }
-
-    /// As a start would find them.
-    fn decide_beside_nothing(&self, known: &mut Known) {
-        let others = known.deciding | known.pending;
-        let is_alone = |unit: &Unit| others & self.finer[unit.0] == 0;
-        let alone = units_of(known.beside | known.pending_beside).filter(is_alone);
-        let alone = alone.fold(0, |set, unit| set | bit(unit));
-        known.deciding |= known.beside & alone;
-        known.pending |= known.pending_beside & alone;
-        known.beside &= !alone;
-        known.pending_beside &= !alone;
     }
 }
 
@@ -99,6 +87,18 @@ impl Known {
         self.beside |= taken & self.pending_beside;
         self.pending &= !last;
         self.pending_beside &= !last;
+    }
+
+    /// As a start finds them.
+    pub(super) fn decide_beside_nothing(&mut self) {
+        let others = self.deciding | self.pending;
+        let is_alone = |unit: &Unit| others & FINER[unit.0] == 0;
+        let alone = units_of(self.beside | self.pending_beside).filter(is_alone);
+        let alone = alone.fold(0, |set, unit| set | bit(unit));
+        self.deciding |= self.beside & alone;
+        self.pending |= self.pending_beside & alone;
+        self.beside &= !alone;
+        self.pending_beside &= !alone;
     }
 }
 

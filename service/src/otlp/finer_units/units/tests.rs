@@ -53,7 +53,7 @@ fn what_was_refused_decides_nothing() {
     units.note_of_rule("a", unit("min"), &mut by_rule);
     drop(by_rule);
     assert!([&all, &units].into_iter().all(|units| units.read().units.is_empty()));
-    assert_eq!([all.read().left, units.read().left], [MOST; 2]);
+    assert_eq!([all.read().taken, units.read().taken], [0; 2]);
     // Who comes while one is under way hangs on it.
     let [mut one, mut other] = [(); 2].map(|()| Decided::default());
     let held = [(true, &mut one), (false, &mut other)]
@@ -67,7 +67,7 @@ fn what_was_refused_decides_nothing() {
     assert!(units.read().pending.is_empty() && all.read().pending.is_empty());
 }
 
-/// What a start begins with; the rules are made once.
+/// What a start begins with.
 fn fresh(all: &Arc<Units>) -> Arc<Units> {
     Arc::new(Units { of_all: None, ..Units::of_slot(all.clone()) })
 }
@@ -283,7 +283,7 @@ fn a_slot_decides_by_what_it_has_and_else_as_the_others_here() {
 #[test]
 fn there_is_a_bound_for_names() {
     let units = Arc::new(Units::default());
-    units.write().left = 2 * (ENTRY + 1);
+    units.write().taken = MOST - 2 * (ENTRY + 1);
     let decide = |metric| decide(&units, metric, unit("s"), true, true).name();
     assert_eq!(["a", "b", "c", "a", "c"].map(decide), ["us", "us", "s", "us", "s"]);
 }
