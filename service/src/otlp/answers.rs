@@ -31,7 +31,7 @@ pub(super) fn causes(text: &str) -> Option<Causes> {
 pub fn partial_success(answer: &[u8]) -> Option<ExportMetricsPartialSuccess> {
     let document = Document::parse(answer).ok()?;
     let partial = document.root().either(["partialSuccess", "partial_success"])?;
-    partial.members()?;
+    drop(partial.members()?);
     let rejected = partial.either(["rejectedDataPoints", "rejected_data_points"]).and_then(mapped_whole);
     let why = partial.either(["errorMessage", "error_message"]).and_then(Value::text);
     Some(ExportMetricsPartialSuccess {

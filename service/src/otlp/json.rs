@@ -143,22 +143,37 @@ impl<'d> Value<'d> {
         &raw[1..raw.len() - 1]
     }
 
+    /// What is in a container: in an object each name is ahead of its value.
+    fn parts(self) -> impl Iterator<Item = Value<'d>> + Clone {
+        let (mut index, end) = (self.index + 1, self.entry().next);
+        std::iter::from_fn(move || {
+            let part = (index < end).then(|| self.at(index))?;
+            index = part.entry().next;
+            Some(part)
+        })
+    }
+
     /// The elements of an array.
-    pub fn elements(self) -> Option<Elements<'d>> {
-        (self.kind() == Kind::Array).then(|| Elements { of: self, index: self.index + 1 })
+    pub fn elements(self) -> Option<impl Iterator<Item = Value<'d>> + Clone> {
+        (self.kind() == Kind::Array).then(|| self.parts())
     }
 
     /// The names and values of an object, in order; a name may be there more than once.
-    pub fn members(self) -> Option<Members<'d>> {
-        (self.kind() == Kind::Object).then(|| Members { of: self, index: self.index + 1 })
+    pub fn members(self) -> Option<impl Iterator<Item = (Cow<'d, str>, Value<'d>)>> {
+        Some(self.written_members()?.map(|(name, value)| (parser::unescaped(name), value)))
+    }
+
+    /// The same, each name as it is written.
+    fn written_members(self) -> Option<impl Iterator<Item = (&'d str, Value<'d>)>> {
+        let mut parts = (self.kind() == Kind::Object).then(|| self.parts())?;
+        Some(std::iter::from_fn(move || Some((parts.next()?.inside(), parts.next()?))))
     }
 
     /// The values of these names, each its last one; `null` is absent. `None` of what is no object.
     pub fn named<const N: usize>(self, names: [&str; N]) -> Option<[Option<Value<'d>>; N]> {
         let mut found = [None; N];
         let place_of = |name: &str| names.iter().position(|wanted| *wanted == name);
-        let mut members = self.members()?;
-        while let Some((name, value)) = members.next_written() {
+        for (name, value) in self.written_members()? {
             // As a rule it has no escapes.
             if let Some(place) = place_of(name).or_else(|| place_of(&parser::unescaped(name))) {
                 found[place] = if value.is_null() { None } else { Some(value) };
@@ -181,53 +196,6 @@ impl<'d> Value<'d> {
     /// The elements of the array that has this name; none where there is no such one.
     pub fn list(self, name: &str) -> impl Iterator<Item = Value<'d>> {
         self.member(name).and_then(Value::elements).into_iter().flatten()
-    }
-}
-
-#[derive(Clone)]
-pub struct Elements<'d> {
-    of: Value<'d>,
-    index: u32,
-}
-
-impl<'d> Iterator for Elements<'d> {
-    type Item = Value<'d>;
-
-    fn next(&mut self) -> Option<Value<'d>> {
-        if self.index >= self.of.entry().next {
-            return None;
-        }
-        let value = self.of.at(self.index);
-        self.index = value.entry().next;
-        Some(value)
-    }
-}
-
-#[derive(Clone)]
-pub struct Members<'d> {
-    of: Value<'d>,
-    index: u32,
-}
-
-impl<'d> Members<'d> {
-    /// The next one, its name as it is written.
-    fn next_written(&mut self) -> Option<(&'d str, Value<'d>)> {
-        if self.index >= self.of.entry().next {
-            return None;
-        }
-        let name = self.of.at(self.index);
-        let value = self.of.at(self.index + 1);
-        self.index = value.entry().next;
-        Some((name.inside(), value))
-    }
-}
-
-impl<'d> Iterator for Members<'d> {
-    type Item = (Cow<'d, str>, Value<'d>);
-
-    fn next(&mut self) -> Option<(Cow<'d, str>, Value<'d>)> {
-        let (name, value) = self.next_written()?;
-        Some((parser::unescaped(name), value))
     }
 }
 

@@ -154,7 +154,7 @@ impl Resources {
             _ => return Some(Vec::new()),
         };
         let found = elements.map(|element| {
-            element.members()?;
+            drop(element.members()?);
             Some((self.of_element(element), element.range()))
         });
         found.collect()

@@ -3,7 +3,7 @@
 
 use super::identity::VALUES;
 use super::{ForwardedPoint, NotForwarded, SeriesKey, Value};
-use crate::otlp::json::{Document, Elements, Value as Json};
+use crate::otlp::json::{Document, Value as Json};
 use crate::otlp::messages::{
     Any, AnyValue, ArrayValue, Data, ExportMetricsServiceRequest, Histogram, HistogramDataPoint,
     InstrumentationScope, KeyValue, Metric, Number, NumberDataPoint, Resource, ResourceMetrics, ScopeMetrics,
@@ -65,7 +65,7 @@ fn list<'d>(object: Json<'d>, name: &str) -> ReadResult<Json<'d>> {
     list.elements().map(|_| list).ok_or_else(|| missing(name))
 }
 
-fn elements<'d>(object: Json<'d>, name: &str) -> ReadResult<Elements<'d>> {
+fn elements<'d>(object: Json<'d>, name: &str) -> ReadResult<impl Iterator<Item = Json<'d>>> {
     member(object, name)?.elements().ok_or_else(|| missing(name))
 }
 

@@ -5,7 +5,7 @@ use super::point::{histogram_point, sum_kind, sum_point, Put, Temporality};
 use super::why::{What, Why};
 use super::SeriesKey;
 use crate::otlp::exponential::why_not;
-use crate::otlp::json::{write_text, Document, Elements, Value};
+use crate::otlp::json::{write_text, Document, Value};
 use ahash::RandomState;
 use std::collections::HashSet;
 use std::hash::BuildHasher;
@@ -131,8 +131,8 @@ fn objects(found: Option<Value<'_>>) -> Option<impl Iterator<Item = Value<'_>>> 
         None => None,
         Some(list) => Some(list.elements()?),
     };
-    let sound = |elements: &Elements<'_>| elements.clone().all(|element| element.members().is_some());
-    elements.iter().all(sound).then(|| elements.into_iter().flatten())
+    let elements = elements.into_iter().flatten();
+    elements.clone().all(|element| element.members().is_some()).then_some(elements)
 }
 
 /// The members of an object that may be absent; `None` where the whole request is refused for it.
