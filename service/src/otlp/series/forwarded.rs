@@ -48,7 +48,7 @@ fn missing(what: &str) -> NotForwarded {
     NotForwarded(format!("{what} is missing or of another form"))
 }
 
-fn parsed(body: &[u8]) -> ReadResult<Document<'_>> {
+pub(super) fn parsed(body: &[u8]) -> ReadResult<Document<'_>> {
     Document::parse(body).map_err(|error| NotForwarded(error.to_string()))
 }
 

@@ -2,6 +2,8 @@
 
 mod zeros;
 
+pub(crate) use zeros::{KINDS, VALUES};
+
 use super::*;
 use crate::otlp::messages::{Data, ExportMetricsServiceRequest, Number};
 use crate::otlp::tests::posted;

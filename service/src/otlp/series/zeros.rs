@@ -1,7 +1,7 @@
 //! Points of value zero, which tell a fresh book whom each series belongs to and where its points begin: in protobuf, which the
 //! book reads sooner than JSON. One by itself, which names a series, is JSON.
 
-use super::forwarded::attributes_in;
+use super::forwarded::{attributes_in, parsed};
 use super::{kind_of, parts_in, Kind, NotForwarded, SeriesKey};
 use crate::otlp::json::{Document, Value as Json};
 use crate::otlp::messages::{
@@ -49,7 +49,7 @@ pub fn zeros(series: impl IntoIterator<Item = (SeriesKey, u64)>) -> Result<Vec<V
     let mut bodies = Vec::new();
     let mut body = Body::default();
     for (key, frontier) in series {
-        let document = document(&key)?;
+        let document = parsed(key.0.as_bytes())?;
         let zero = Zero::of(&document, frontier)?;
         let point = zero.point();
         if !body.is_empty() && body.length() + key.0.len() + point.len() + AROUND > MOST {
@@ -65,11 +65,7 @@ pub fn zeros(series: impl IntoIterator<Item = (SeriesKey, u64)>) -> Result<Vec<V
 
 /// A request of one point, of value zero, in the book's form.
 pub fn request_of(key: &SeriesKey, end: u64) -> Result<String, NotForwarded> {
-    Ok(Zero::of(&document(key)?, end)?.request())
-}
-
-fn document(key: &SeriesKey) -> Result<Document<'_>, NotForwarded> {
-    Document::parse(key.0.as_bytes()).map_err(|error| NotForwarded(error.to_string()))
+    Ok(Zero::of(&parsed(key.0.as_bytes())?, end)?.request())
 }
 
 impl Body {
@@ -228,20 +224,3 @@ fn double(bound: i64) -> f64 {
         false => f64::NAN,
     }
 }
-
-/// Values of attributes, as keys have them.
-#[cfg(test)]
-pub const VALUES: [&str; 9] = [
-    r#"{}"#,
-    r#"{"stringValue":""}"#,
-    r#"{"stringValue":"\"\\\b\u0001é\n😀"}"#,
-    r#"{"boolValue":false}"#,
-    r#"{"boolValue":true}"#,
-    r#"{"intValue":"0"}"#,
-    r#"{"intValue":"-9223372036854775808"}"#,
-    r#"{"arrayValue":{"values":[]}}"#,
-    r#"{"arrayValue":{"values":[{},{"stringValue":"a"},{"boolValue":false},{"intValue":"-1"}]}}"#,
-];
-/// The same of kinds.
-#[cfg(test)]
-pub const KINDS: [&str; 4] = [r#""sum""#, r#""monotonic""#, "[]", "[-9007199254740992,0,9007199254740992]"];

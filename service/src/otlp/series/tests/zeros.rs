@@ -4,6 +4,21 @@ use super::*;
 use crate::otlp::tests::Posted;
 use crate::otlp::{prepare, Encoding, Reading};
 
+/// Values of attributes, as keys have them.
+pub const VALUES: [&str; 9] = [
+    r#"{}"#,
+    r#"{"stringValue":""}"#,
+    r#"{"stringValue":"\"\\\b\u0001é\n😀"}"#,
+    r#"{"boolValue":false}"#,
+    r#"{"boolValue":true}"#,
+    r#"{"intValue":"0"}"#,
+    r#"{"intValue":"-9223372036854775808"}"#,
+    r#"{"arrayValue":{"values":[]}}"#,
+    r#"{"arrayValue":{"values":[{},{"stringValue":"a"},{"boolValue":false},{"intValue":"-1"}]}}"#,
+];
+/// The same of kinds.
+pub const KINDS: [&str; 4] = [r#""sum""#, r#""monotonic""#, "[]", "[-9007199254740992,0,9007199254740992]"];
+
 /// What a body has points of.
 fn found(body: &[u8]) -> Posted {
     let prepared = prepare(Encoding::Protobuf, body.to_vec().into(), &Reading::default()).unwrap();
