@@ -80,7 +80,7 @@ fn found(body: Vec<u8>, reading: &Reading, clock: &Clock) -> anyhow::Result<Expl
     let name = if sender == otlp::NO_NAME { "SENDER" } else { &sender };
     let (body, named) = otlp::with_instance(name, encoding, body.into(), reading).map_err(refused)?;
     let prepared = otlp::prepare(encoding, body, reading).map_err(refused)?;
-    let points = otlp::explained(&prepared.body, reading.profile(), clock.window())
+    let points = otlp::explained(&prepared.body, reading.profile, clock.window())
         .context("refused with 400: wrong shape")?;
     let foreign = points.iter().filter(|point| point.foreign.is_some()).count();
     Ok(Explanation {

@@ -2,7 +2,7 @@
 
 use super::values::{time_or, MayBeNone};
 use crate::core::Across;
-use crate::otlp::{Bounds, Choice, Clock, Cumulative, FinerUnits, Reading, INSTANCE};
+use crate::otlp::{Bounds, Choice, Clock, FinerUnits, Profile, Reading, INSTANCE};
 use anyhow::{anyhow, bail};
 use clap::builder::NonEmptyStringValueParser;
 use clap::Args;
@@ -33,7 +33,7 @@ pub(super) struct OfReading {
     most_behind: MayBeNone,
     /// Takes cumulative sums and histograms, as SDKs send them by default: deltas are made of them
     #[arg(long, env = "TOTXEGUN_CUMULATIVE", value_name = "WHETHER", default_value = "on", value_enum)]
-    cumulative: Cumulative,
+    cumulative: Profile,
     /// Gives a resource that has no service.instance.id its sender's name as one, so that two processes that don't name themselves have series of their own
     #[arg(long, env = "TOTXEGUN_INSTANCE_FROM_SENDER")]
     instance_from_sender: bool,
@@ -55,13 +55,16 @@ impl OfReading {
             Choice::Rule(rule) => rule.to_string(),
         };
         let whole: Vec<String> = self.whole.iter().map(choice).collect();
+        let cumulative = match self.cumulative {
+            Profile::AlsoCumulative => "On",
+            Profile::Deltas => "Off",
+        };
         format!(
-            "whole={} drop-attribute={} sender-from={} cumulative={:?} never-across={across:?} instance-from-sender={} \
+            "whole={} drop-attribute={} sender-from={} cumulative={cumulative} never-across={across:?} instance-from-sender={} \
              exponential={:?}",
             whole.join(","),
             self.drop_attributes.join(","),
             self.sender_from.as_deref().unwrap_or_default(),
-            self.cumulative,
             self.instance_from_sender,
             self.exponential
         )
@@ -72,16 +75,14 @@ impl OfReading {
             bail!("--instance-from-sender gives what --drop-attribute {INSTANCE} takes away: leave one of them out");
         }
         let finer_units = FinerUnits::of(self.whole).map_err(|why| anyhow!(why))?;
-        let reading = Reading {
+        Ok(Reading {
             dropped: self.drop_attributes,
-            finer_units,
+            finer_units: finer_units.with_profile(self.cumulative),
             sender_from: self.sender_from,
-            cumulative: self.cumulative,
+            profile: self.cumulative,
             instance_from_sender: self.instance_from_sender,
             exponential: self.exponential,
-        };
-        let profile = reading.profile();
-        Ok(Reading { finer_units: reading.finer_units.with_profile(profile), ..reading })
+        })
     }
 }
 

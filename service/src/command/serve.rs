@@ -297,7 +297,7 @@ impl Options {
             report_options: ReportOptions {
                 log_foreign: self.log_foreign as usize,
                 expected: self.expect_foreign,
-                profile: reading.profile(),
+                profile: reading.profile,
             },
             pass,
             reading,

@@ -5,7 +5,7 @@ use super::refusal::Refusal;
 use super::{body, Hold, Taker, MOST};
 use crate::core;
 use crate::metrics::Metrics;
-use crate::otlp::{self, Cumulative, Encoding, Original, Outcome, Part, Prepared, Reading, Rounded, Split};
+use crate::otlp::{self, Encoding, Original, Outcome, Part, Prepared, Profile, Reading, Rounded, Split};
 use crate::slot::{Request, Slots, Way};
 use bytes::Bytes;
 use std::sync::Arc;
@@ -219,7 +219,7 @@ impl<'r> Reader<'r> {
         };
         let Prepared { body, rounded, is_cumulative } =
             otlp::prepare_with(self.encoding, body, reading, room)?;
-        let numbered = match is_cumulative && reading.cumulative == Cumulative::On {
+        let numbered = match is_cumulative && reading.profile == Profile::AlsoCumulative {
             true => taker.numbered_text(&body).map_err(|refused| match refused {
                 core::Refused::LongSeries => Refusal::LongSeries,
                 _ => Refusal::NoMemory,

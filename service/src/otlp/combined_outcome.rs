@@ -100,7 +100,7 @@ impl Whole<'_> {
             let body = prepared.map(|prepared| prepared.body).unwrap_or_default();
             let points = Document::parse(&body)
                 .ok()
-                .and_then(|document| points_by_resource(&document, self.reading.profile()));
+                .and_then(|document| points_by_resource(&document, self.reading.profile));
             let points = points.unwrap_or_default().into_iter().chain(std::iter::repeat(0));
             for (resource, points) in part.resources.iter().zip(points) {
                 all[*resource as usize] = Some(points);

@@ -109,36 +109,18 @@ pub struct Reading {
     pub finer_units: FinerUnits,
     /// The resource attribute that names a sender who does not name itself.
     pub sender_from: Option<String>,
-    /// What becomes of cumulative points.
-    pub cumulative: Cumulative,
+    /// Which points are taken.
+    pub profile: Profile,
     /// A resource without a `service.instance.id` gets its sender's name as one.
     pub instance_from_sender: bool,
     /// The buckets in which exponential histograms are taken; none where they are not.
     pub exponential: Option<Bounds>,
 }
 
-/// What becomes of cumulative points.
-#[derive(Clone, Copy, Debug, Default, PartialEq, Eq, clap::ValueEnum)]
-pub enum Cumulative {
-    /// Deltas are made of them
-    On,
-    /// They are not taken
-    #[default]
-    Off,
-}
-
 impl Reading {
     /// The same for a slot of several.
     pub fn of_slot(&self) -> Reading {
         Reading { finer_units: self.finer_units.of_slot(), ..self.clone() }
-    }
-
-    /// Which points are taken.
-    pub fn profile(&self) -> Profile {
-        match self.cumulative {
-            Cumulative::On => Profile::AlsoCumulative,
-            Cumulative::Off => Profile::Deltas,
-        }
     }
 }
 

@@ -113,7 +113,7 @@ impl Parts {
             most_series: settings.most_series as u64,
             of_each: settings.of_each,
             tokens: settings.door.tokens(),
-            profile: settings.reading.profile(),
+            profile: settings.reading.profile,
             owned: Box::new(units.clone()),
         });
         let of_operators = Limits { connections: OPERATORS, ..limits(settings) };

@@ -225,7 +225,7 @@ impl Taker for WithoutRoom {
 #[tokio::test]
 async fn what_has_too_long_series_is_told_so() {
     let budget = Budget::new(64 << 20);
-    let reading = Arc::new(Reading { cumulative: Cumulative::On, ..Reading::default() });
+    let reading = Arc::new(Reading { profile: Profile::AlsoCumulative, ..Reading::default() });
     let (slots, metrics) = (Slots::one(Arc::new(WithoutRoom)), Arc::new(Metrics::new().unwrap()));
     let intake = Intake::of(slots, Arc::new(()), reading, budget.clone(), metrics);
     let metric = r#"{"name":"m","sum":{"aggregationTemporality":2,"dataPoints":[]}}"#;

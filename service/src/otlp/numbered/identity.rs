@@ -7,7 +7,7 @@ use crate::otlp::finer_units::{rewritten, scale_of, shown_of, Scale, Scaled};
 use crate::otlp::from_protobuf;
 use crate::otlp::output::{self, Output};
 use crate::otlp::wire::{field, Fields, Payload};
-use crate::otlp::{Cumulative, Reading};
+use crate::otlp::{Profile, Reading};
 use bytes::Bytes;
 use std::cell::Cell;
 use std::sync::atomic::{AtomicBool, Ordering::Relaxed};
@@ -80,7 +80,7 @@ impl Learner<'_> {
 
     /// Whether deltas are made of a metric's points.
     fn makes_deltas(&self, path: &Path<'_>) -> bool {
-        let is_wanted = self.reading.cumulative == Cumulative::On;
+        let is_wanted = self.reading.profile == Profile::AlsoCumulative;
         is_wanted && path.head.is_some_and(|head| temporality(head.tail) == output::CUMULATIVE)
     }
 

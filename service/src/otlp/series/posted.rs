@@ -30,14 +30,16 @@ pub struct SeenMetric<'d> {
     pub is_monotonic: bool,
 }
 
-/// Which points are of the profile.
-#[derive(Clone, Copy, Debug, Default, PartialEq, Eq)]
+/// Which points are of the profile. As an option it is what becomes of cumulative ones.
+#[derive(Clone, Copy, Debug, Default, PartialEq, Eq, clap::ValueEnum)]
 pub enum Profile {
+    /// Also what deltas can be made of.
+    #[value(name = "on", help = "Deltas are made of them")]
+    AlsoCumulative,
     /// Those that the book takes.
     #[default]
+    #[value(name = "off", help = "They are not taken")]
     Deltas,
-    /// Also what deltas can be made of.
-    AlsoCumulative,
 }
 
 impl Seen<'_, '_> {

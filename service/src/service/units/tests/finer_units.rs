@@ -2,7 +2,7 @@
 
 use super::*;
 use crate::files::drive::{self, lost, memory::Step, memory::Store, Drive};
-use crate::otlp::{Cumulative, FinerUnits};
+use crate::otlp::{FinerUnits, Profile};
 use crate::service::OfStore;
 use crate::slot::Phase;
 use crate::store::postgres::{address, Copies};
@@ -14,8 +14,8 @@ const AHEAD: u64 = 4_000_000_000_000_000_000;
 
 fn finer(settings: Settings, choices: &[&str]) -> Settings {
     let choices = choices.iter().map(|choice| choice.parse().unwrap());
-    let reading = Reading { cumulative: Cumulative::On, ..Reading::default() };
-    let finer_units = FinerUnits::of(choices).unwrap().with_profile(reading.profile());
+    let reading = Reading { profile: Profile::AlsoCumulative, ..Reading::default() };
+    let finer_units = FinerUnits::of(choices).unwrap().with_profile(reading.profile);
     Settings { reading: Reading { finer_units, ..reading }, ..settings }
 }
 
