@@ -18,7 +18,7 @@ use crate::intake::head::{Head, Packing};
 use crate::intake::refusal::{Refusal, Turned, DEADLINE};
 use crate::intake::sender::sender;
 use crate::intake::{Intake, Taker};
-use crate::otlp::{Encoding, Outcome};
+use crate::otlp::{Encoding, Outcome, Refused};
 use hyper::body::HttpBody;
 use hyper::header::{HeaderMap, HeaderName, CONTENT_TYPE};
 use hyper::http::request::Parts;
@@ -88,7 +88,7 @@ async fn take<T: Taker>(intake: &Arc<Intake<T>>, mut head: Head, body: &mut Body
         Err(refusal) => intake.refused(&head.sender, &refusal),
         Ok(message) if message.is_packed && head.packing == Packing::Plain => {
             let why = "the message is packed, and grpc-encoding does not say how";
-            intake.refused(&head.sender, &Refusal::Unreadable(why.into()))
+            intake.refused(&head.sender, &Refused::Unreadable(why.into()).into())
         }
         Ok(message) => {
             if !message.is_packed {

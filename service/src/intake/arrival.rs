@@ -5,7 +5,7 @@
 //! that those that began have room, and who is slow gives way. Nobody waits for room, so no two wait for each other. Who is
 //! alone is refused for none of that: one that has over a quarter here would take over all once it is read (`post`).
 
-use super::refusal::Refusal;
+use super::refusal::{Full, Refusal};
 use super::weight::Hold;
 use crate::work::Readers;
 use std::future::{pending, Future};
@@ -72,19 +72,19 @@ impl<'h> Arrival<'h> {
     }
 
     fn stays(&mut self) -> Result<(), Refusal> {
-        let (budget, bytes) = (self.hold.budget(), memory_of(self.received));
+        let (budget, bytes) = (&self.hold.budget, memory_of(self.received));
         let eighths = |count: usize| budget.most() / 8 * count;
         let is_long = self.received > Readers::SHORT;
-        if budget.arriving().bytes() > eighths(SHORT_OF_ROOM) {
+        if budget.arriving.bytes() > eighths(SHORT_OF_ROOM) {
             if is_long && self.taken <= memory_of(Readers::SHORT) {
-                return Err(Refusal::TooManyBytes);
+                return Err(Full::Now.into());
             }
             if self.is_slow() {
                 return Err(Refusal::Slow);
             }
         }
         let most = if is_long { MOST_WITH_LONG } else { MOST };
-        budget.arriving().change(self.taken, bytes, eighths(most))?;
+        budget.arriving.change(self.taken, bytes, eighths(most))?;
         self.taken = bytes;
         Ok(())
     }
@@ -97,7 +97,7 @@ impl<'h> Arrival<'h> {
 
 impl Drop for Arrival<'_> {
     fn drop(&mut self) {
-        self.hold.budget().arriving().give_back(self.taken);
+        self.hold.budget.arriving.give_back(self.taken);
     }
 }
 
@@ -151,7 +151,7 @@ mod tests {
         here.has(2 * SHORT).unwrap();
         assert!(here.next(ready(())).await.is_ok(), "it is not waited for");
         drop(arrivals);
-        assert_eq!(budget.arriving().bytes(), 0);
+        assert_eq!(budget.arriving.bytes(), 0);
         assert_eq!(budget.used(), memory_of(10 * SHORT + 2));
         drop(holds);
         let mut alone = budget.hold();

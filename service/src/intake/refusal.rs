@@ -1,5 +1,6 @@
 //! Why the intake answers a request itself, before the book is asked.
 
+pub use super::weight::Full;
 use super::wire::{HEADERS, READ_AHEAD};
 use super::MOST;
 use crate::core;
@@ -47,16 +48,13 @@ pub enum Refusal {
     BadGzip,
     #[error("body too long: over {MOST} bytes, packed or unpacked: post fewer points at a time")]
     TooLong,
-    /// It would be refused again, since all posts together may not have what it takes to read it.
-    #[error("body too long for the memory that posts may take: --most-bytes")]
-    TooLongForMemory,
+    /// All posts together may not have the memory that it takes to read it.
+    #[error(transparent)]
+    Full(#[from] Full),
     /// As the book refuses it.
     #[error("{}", core::Refused::LongSeries)]
     LongSeries,
-    /// It can be sent again: what others sent takes all memory that posts may have.
-    #[error("too many bytes in flight")]
-    TooManyBytes,
-    /// The same of a body that has its memory for longer than others that wait.
+    /// It can be sent again: it has its memory for longer than others that wait.
     #[error("too many bytes in flight: this body came too slowly: post fewer points at a time")]
     Slow,
     /// It can be sent again: the book has no memory to name its series.
@@ -65,8 +63,8 @@ pub enum Refusal {
     /// Nothing is taken here now.
     #[error("{0}")]
     Unavailable(&'static str),
-    #[error("{0}")]
-    Unreadable(String),
+    #[error(transparent)]
+    Unreadable(#[from] Refused),
 }
 
 /// A refusal, and whose request it is, as far as that is known.
@@ -92,11 +90,11 @@ impl Refusal {
             Refusal::ContentType | Refusal::ContentEncoding => 415,
             Refusal::NoLength => 411,
             Refusal::BadSender | Refusal::Malformed | Refusal::BadGzip | Refusal::Unreadable(_) => 400,
-            Refusal::TooLong | Refusal::TooLongForMemory | Refusal::LongSeries => 413,
+            Refusal::TooLong | Refusal::Full(Full::Ever) | Refusal::LongSeries => 413,
             Refusal::HeadTooLong => 431,
             Refusal::Deadline => DEADLINE,
             Refusal::Late
-            | Refusal::TooManyBytes
+            | Refusal::Full(Full::Now)
             | Refusal::Slow
             | Refusal::NoMemory
             | Refusal::Unavailable(_) => 503,
@@ -106,23 +104,6 @@ impl Refusal {
     /// Whether more of the body may come: it is read and thrown away, so that the sender can read its answer.
     pub fn leaves_a_body(&self) -> bool {
         !matches!(self, Refusal::Late | Refusal::Deadline | Refusal::Malformed | Refusal::HeadTooLong)
-    }
-}
-
-impl From<super::weight::Full> for Refusal {
-    fn from(full: super::weight::Full) -> Refusal {
-        match full {
-            super::weight::Full::Now => Refusal::TooManyBytes,
-            super::weight::Full::Ever => Refusal::TooLongForMemory,
-        }
-    }
-}
-
-impl From<Refused> for Refusal {
-    fn from(refused: Refused) -> Refusal {
-        match refused {
-            Refused::Unreadable(why) => Refusal::Unreadable(why),
-        }
     }
 }
 

@@ -9,11 +9,13 @@ use std::sync::Arc;
 pub(super) struct Taken(AtomicUsize);
 
 /// Why there is no room.
-#[derive(Debug, PartialEq, Eq)]
+#[derive(Debug, PartialEq, Eq, thiserror::Error)]
 pub enum Full {
-    /// Others have taken it, and give it back.
+    /// Others have taken it, and give it back: so the same can be sent again.
+    #[error("too many bytes in flight")]
     Now,
-    /// There is never so much.
+    /// There is never so much: the same would be refused again.
+    #[error("body too long for the memory that posts may take: --most-bytes")]
     Ever,
 }
 
@@ -46,7 +48,7 @@ pub struct Budget {
     most: usize,
     used: Taken,
     /// Of it by bodies that are waited for.
-    arriving: Taken,
+    pub(super) arriving: Taken,
 }
 
 impl Budget {
@@ -62,10 +64,6 @@ impl Budget {
         self.used.bytes()
     }
 
-    pub(super) fn arriving(&self) -> &Taken {
-        &self.arriving
-    }
-
     /// A part of the budget, of no bytes yet.
     pub fn hold(self: &Arc<Self>) -> Hold {
         Hold { budget: self.clone(), bytes: 0 }
@@ -74,7 +72,7 @@ impl Budget {
 
 /// What one post takes; given back when it is dropped.
 pub struct Hold {
-    budget: Arc<Budget>,
+    pub(super) budget: Arc<Budget>,
     bytes: usize,
 }
 
@@ -84,10 +82,6 @@ impl Hold {
         self.budget.used.change(self.bytes, bytes, self.budget.most)?;
         self.bytes = bytes;
         Ok(())
-    }
-
-    pub(super) fn budget(&self) -> &Budget {
-        &self.budget
     }
 }
 

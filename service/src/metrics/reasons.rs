@@ -176,7 +176,7 @@ mod tests {
     use crate::cluster::forward;
     use crate::core::Refused;
     use crate::identity::Stranger;
-    use crate::intake::refusal::Refusal;
+    use crate::intake::refusal::{Full, Refusal};
     use crate::slot::{MOVED, NO_ANSWER, NO_OWNER, NO_ROOM, NO_STORE};
 
     fn said(message: impl ToString) -> Option<&'static str> {
@@ -212,7 +212,7 @@ mod tests {
             Refusal::HeadTooLong,
             Refusal::BadGzip,
             Refusal::TooLong,
-            Refusal::TooManyBytes,
+            Refusal::Full(Full::Now),
         ];
         let of_slot = [NO_ANSWER, NO_STORE, NO_OWNER, NO_ROOM, MOVED, "recovering", "stopping"];
         let of_others = [forward::BROKEN, forward::MOVED];
@@ -235,8 +235,9 @@ mod tests {
         assert_eq!(said(Refused::BadSender), said(Refusal::BadSender));
         let as_token = Stranger::TokenAsName { name: "full".into() };
         assert_eq!((said(other("full")), said(as_token)), (Some(OTHER_NAME), Some(OTHER_NAME)));
-        assert_eq!(said(Refusal::TooLongForMemory), said(Refusal::TooLong));
-        assert_eq!(said(Refusal::Unreadable("resourceMetrics is twice".into())), Some(UNREADABLE));
+        assert_eq!(said(Refusal::Full(Full::Ever)), said(Refusal::TooLong));
+        let unreadable = crate::otlp::Refused::Unreadable("resourceMetrics is twice".into());
+        assert_eq!(said(Refusal::from(unreadable)), Some(UNREADABLE));
         assert_eq!(said("fuller"), Some(UNREADABLE));
         assert_eq!(of(&Outcome::taken(5)), None);
     }

@@ -90,14 +90,10 @@ impl Encoding {
 /// Why a request is not given to the book. Its text is the answer's message.
 #[derive(Debug, thiserror::Error)]
 pub enum Refused {
+    #[error(transparent)]
+    NotJson(#[from] json::NotJson),
     #[error("{0}")]
     Unreadable(String),
-}
-
-impl From<json::NotJson> for Refused {
-    fn from(error: json::NotJson) -> Refused {
-        Refused::Unreadable(error.to_string())
-    }
 }
 
 /// How requests are read, beside what they say themselves.
