@@ -56,7 +56,7 @@ async fn answer<T: Taker>(intake: Arc<Intake<T>>, who: &Who, request: Request<Bo
     if outcome.status() != DEADLINE && !body.is_end_stream() {
         message::throw_away(&mut body).await;
     }
-    intake.ended(&outcome);
+    intake.metrics.post_ended(&outcome);
     reply::response(&outcome).await
 }
 
@@ -83,7 +83,7 @@ fn call(parts: &Parts, who: &Who) -> Result<Head, Turned> {
 }
 
 async fn take<T: Taker>(intake: &Arc<Intake<T>>, mut head: Head, body: &mut Body) -> Outcome {
-    let mut hold = intake.hold();
+    let mut hold = intake.budget.hold();
     match message::receive(body, &mut hold).await {
         Err(refusal) => intake.refused(&head.sender, &refusal),
         Ok(message) if message.is_packed && head.packing == Packing::Plain => {

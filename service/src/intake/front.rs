@@ -1,7 +1,7 @@
 //! A connection of a sender over HTTP: it serves many requests one after another, and is closed where it is slow or idle. All
 //! else of HTTP is hyper's, with which a post takes more processor time.
 
-use super::connections::{ConnectionPermits, Protocol, Shared, Transport};
+use super::connections::{ConnectionPermits, Limits, Protocol, Shared, Transport};
 use super::head::{self, Connection};
 use super::refusal::Refusal;
 use super::wire::Wire;
@@ -30,13 +30,14 @@ impl Protocol for Http {
     const OVER_TLS: tls::Protocol = tls::Protocol::Http;
 
     async fn connection<S: Transport, T: Taker>(stream: S, shared: Arc<Shared<T>>, who: Who) {
-        let (mut wire, mut waiting) = (Wire::new(stream), Waiting::new(&shared));
+        let mut waiting = Waiting::new(&shared.limits, shared.stop.clone(), shared.permits.clone());
+        let mut wire = Wire::new(stream);
         let intake = &shared.intake;
         while let Some(asked) = next(&mut wire, &mut waiting, &who).await {
             let goes_on = match asked {
                 Ok(asked) => served(&mut wire, intake, asked, &mut waiting).await,
                 Err(refusal) => {
-                    intake.ended(&intake.refused(NO_NAME, &refusal));
+                    intake.metrics.post_ended(&intake.refused(NO_NAME, &refusal));
                     refused(&mut wire, &refusal, &mut waiting).await;
                     false
                 }
@@ -44,7 +45,7 @@ impl Protocol for Http {
             if !goes_on {
                 break;
             }
-            waiting.begins();
+            waiting.looks = 0; // a next request may come
         }
         wire.end().await;
     }
@@ -141,23 +142,13 @@ struct Waiting {
 }
 
 impl Waiting {
-    fn new<T>(shared: &Shared<T>) -> Waiting {
-        let limits = &shared.limits;
-        Waiting::of(limits.head, limits.idle, shared.stop.clone(), shared.permits.clone())
-    }
-
-    fn of(
-        head: Duration,
-        idle: Duration,
-        stop: watch::Receiver<bool>,
-        permits: Arc<ConnectionPermits>,
-    ) -> Waiting {
-        let period = (head / LOOKS).max(Duration::from_millis(1));
+    fn new(limits: &Limits, stop: watch::Receiver<bool>, permits: Arc<ConnectionPermits>) -> Waiting {
+        let period = (limits.head / LOOKS).max(Duration::from_millis(1));
         let mut stopped = stop.clone();
         Waiting {
             period,
             looks: 0,
-            most_idle: (idle.as_millis() / period.as_millis()) as u32,
+            most_idle: (limits.idle.as_millis() / period.as_millis()) as u32,
             look: Box::pin(tokio::time::sleep(period)),
             stop: Box::pin(async move { stopped.wait_true().await }),
             are_waited_for: false,
@@ -165,11 +156,6 @@ impl Waiting {
             ending: false,
             permits,
         }
-    }
-
-    /// A next request may come.
-    fn begins(&mut self) {
-        self.looks = 0;
     }
 
     /// Whether a next request may come after an answer.
@@ -281,7 +267,8 @@ mod tests {
             let _ = stream.try_write(&[0; 64 << 10]); // until all buffers are full
         }
         let (_going, stop) = watch::channel(false);
-        let mut waiting = Waiting::of(short, short, stop, ConnectionPermits::new(1));
+        let limits = Limits { connections: 1, head: short, idle: short };
+        let mut waiting = Waiting::new(&limits, stop, ConnectionPermits::new(1));
         let mut wire = Wire::new(stream);
         let refused = refused(&mut wire, &Refusal::Malformed, &mut waiting);
         assert!(tokio::time::timeout(400 * short, refused).await.is_ok());

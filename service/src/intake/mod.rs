@@ -106,8 +106,9 @@ pub struct Intake<T> {
     slots: Arc<Slots<T>>,
     hears: Arc<dyn Hears>,
     reading: Arc<Reading>,
-    budget: Arc<Budget>,
-    metrics: Arc<Metrics>,
+    /// The memory that all posts may take.
+    pub(crate) budget: Arc<Budget>,
+    pub(crate) metrics: Arc<Metrics>,
     readers: Readers,
     patience: Duration,
 }
@@ -187,11 +188,6 @@ impl<T: Taker> Intake<T> {
         self.readers.read_long(read).await
     }
 
-    /// A part of the memory that all posts may take.
-    pub(crate) fn hold(&self) -> Hold {
-        self.budget.hold()
-    }
-
     /// Takes a body that came another way.
     pub(crate) async fn put(&self, head: Head, packed: Bytes, hold: Hold) -> Outcome {
         let sender = head.sender.clone();
@@ -199,11 +195,6 @@ impl<T: Taker> Intake<T> {
             Ok(post) => self.take(post).await,
             Err(refusal) => self.refused(&sender, &refusal),
         }
-    }
-
-    /// Counts an answer.
-    pub(crate) fn ended(&self, outcome: &Outcome) {
-        self.metrics.post_ended(outcome);
     }
 
     /// The memory is held until the post is answered: a connection looks for its sender only then.

@@ -328,7 +328,7 @@ async fn without_beats_a_post_is_turned_away_at_the_door() {
             encoding: Encoding::Json,
             packing: crate::intake::head::Packing::Plain,
         };
-        intake.put(head, Bytes::from_static(b"{\"resourceMetrics\":[]}"), intake.hold())
+        intake.put(head, Bytes::from_static(b"{\"resourceMetrics\":[]}"), intake.budget.hold())
     };
     let began = Instant::now();
     assert_eq!(post().await, unavailable(NO_STORE));
