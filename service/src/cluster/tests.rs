@@ -177,7 +177,7 @@ async fn start(ledger: &Arc<Ledger>, name: &'static str) -> Node {
     let limits = Limits { connections: 200, head: Duration::from_secs(5), idle: Duration::from_secs(60) };
     let (serves, served) = watch::channel(false);
     let internal = Internal::new(cluster.clone(), here.clone(), secret, here);
-    tokio::spawn(serve(listener, limits, internal, served));
+    tokio::spawn(serve(Arc::new(listener), limits, internal, served));
     let terms = Of(ledger.store.clone(), name, address);
     let beats = Beats::new(cluster.clone(), 0, Arc::new(terms), slots).each(BEAT);
     let (stop, stopped) = watch::channel(false);

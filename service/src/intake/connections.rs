@@ -117,9 +117,10 @@ impl ConnectionPermits {
     }
 }
 
-/// Accepts until `stop` is true or its sender is gone: the connections that are open then.
+/// Accepts until `stop` is true or its sender is gone: the connections that are open then. Several may accept at one listener: who
+/// comes is accepted by one of them.
 async fn accept<L: Listener>(
-    listener: L,
+    listener: Arc<L>,
     permits: Arc<ConnectionPermits>,
     mut stop: watch::Receiver<bool>,
     begin: impl Fn(&mut JoinSet<()>, L::Stream, Held),
@@ -129,7 +130,7 @@ async fn accept<L: Listener>(
         tokio::select! {
             _ = stop.wait_true() => break,
             Some(_) = open.join_next(), if !open.is_empty() => {}
-            (stream, held) = permits.accepted(&listener) => begin(&mut open, stream, held),
+            (stream, held) = permits.accepted(&*listener) => begin(&mut open, stream, held),
         }
     }
     open
@@ -187,7 +188,7 @@ impl<T: Taker> Shared<T> {
 /// Serves senders, with each connection on one of the threads, until `stop` is true or its sender is gone: then nothing
 /// more is accepted, requests that are under way are answered, and it returns after the last of them.
 pub async fn spread<P: Protocol, T: Taker>(
-    listener: impl Listener<Stream = TcpStream>,
+    listener: Arc<impl Listener<Stream = TcpStream>>,
     shared: Arc<Shared<T>>,
     threads: Arc<Threads>,
 ) {
@@ -246,7 +247,7 @@ async fn over_tls<P: Protocol, T: Taker>(
 
 /// Serves operators, on the runtime that it is called on, with the same end; but who is not answered soon then is not waited for.
 pub async fn serve<L: Listener, H: Handler>(
-    listener: L,
+    listener: Arc<L>,
     limits: Limits,
     handler: Arc<H>,
     stop: watch::Receiver<bool>,
@@ -267,7 +268,7 @@ pub async fn serve<L: Listener, H: Handler>(
 
 /// The same over TLS, where there is some: each connection begins with a handshake, which has its place too.
 pub async fn serve_over<H: Handler>(
-    listener: TcpListener,
+    listener: Arc<TcpListener>,
     tls: Option<Arc<Tls>>,
     limits: Limits,
     handler: Arc<H>,

@@ -5,7 +5,6 @@ use std::future::Future;
 use std::io::{ErrorKind, Result};
 use std::os::unix::fs::{FileTypeExt, PermissionsExt};
 use std::path::Path;
-use std::sync::Arc;
 use std::time::Duration;
 use tokio::io::{AsyncRead, AsyncWrite};
 use tokio::net::{TcpListener, TcpStream, UnixListener, UnixStream};
@@ -54,23 +53,6 @@ pub trait Listener: Send + Sync + 'static {
 
     /// As people write it. Port 0 is any free one.
     fn shown(&self) -> String;
-}
-
-/// One that several accept at: who comes is accepted by one of them.
-impl<L: Listener> Listener for Arc<L> {
-    type Stream = L::Stream;
-
-    async fn accepted(&self) -> Result<L::Stream> {
-        L::accepted(self).await
-    }
-
-    fn user(stream: &L::Stream) -> Option<User> {
-        L::user(stream)
-    }
-
-    fn shown(&self) -> String {
-        L::shown(self)
-    }
 }
 
 impl Listener for TcpListener {

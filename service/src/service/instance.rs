@@ -105,7 +105,7 @@ impl Joining {
         let internal = Internal::new(self.cluster.clone(), intake.clone(), self.secret, desk);
         let of_peers = Limits { connections: PEERS, ..limits(settings) };
         let Peers { listener, tls } = self.peers;
-        let peer = tokio::spawn(serve_over(listener, tls, of_peers, internal, peer_stopped));
+        let peer = tokio::spawn(serve_over(Arc::new(listener), tls, of_peers, internal, peer_stopped));
         let instance = Arc::new(Instance { units, store: self.store.clone(), open: Mutex::default() });
         let beats_in = |database| {
             let member = Member::new(&self.store, database, &of.instance, &of.peer);

@@ -119,7 +119,7 @@ impl Served {
         let (stop, stopped) = watch::channel(false);
         let threads = Arc::new(Threads::new(2).unwrap());
         let shared = Shared::new(limits, door, Arc::new(intake), stopped);
-        let task = tokio::spawn(spread::<Http, _>(listener, shared, threads));
+        let task = tokio::spawn(spread::<Http, _>(Arc::new(listener), shared, threads));
         Served { address, kept, budget, metrics, stop, task }
     }
 

@@ -25,7 +25,7 @@ async fn served(connections: usize, length: usize) -> Served {
     let address = listener.local_addr().unwrap();
     let limits = Limits { connections, head: Duration::from_secs(4), idle: Duration::from_secs(600) };
     let (stop, stopped) = watch::channel(false);
-    let serving = tokio::spawn(serve(listener, limits, Arc::new(Long(length)), stopped));
+    let serving = tokio::spawn(serve(Arc::new(listener), limits, Arc::new(Long(length)), stopped));
     Served { address, stop, serving }
 }
 

@@ -13,7 +13,7 @@ async fn over_tls(tls: Arc<Tls>) -> (u16, Arc<Slots>, tokio::sync::watch::Sender
     let (_, slots, internal) = internal(Slots::default(), Whose::Here { term: 5 });
     let limits = Limits { connections: 10, head: Duration::from_secs(5), idle: Duration::from_secs(60) };
     let (stop, stopped) = tokio::sync::watch::channel(false);
-    tokio::spawn(serve_over(listener, Some(tls), limits, internal, stopped));
+    tokio::spawn(serve_over(Arc::new(listener), Some(tls), limits, internal, stopped));
     (port, slots, stop)
 }
 
