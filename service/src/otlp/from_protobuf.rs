@@ -6,7 +6,7 @@
 
 use super::output::Output;
 use super::schema::{exponential_histogram, Field, Kind, Message, Wire, EXEMPLAR, KEY_VALUE, REQUEST};
-use super::wire::{numbers, Fields, Malformed, Payload};
+use super::wire::{fixed64s, numbers, Fields, Malformed, Payload};
 use super::{Reading, Refused};
 
 /// Messages may be nested as deep as protobuf's own readers allow.
@@ -220,9 +220,11 @@ impl<'a, 'r> Writer<'a, 'r> {
             Kind::Whole(Wire::Sint32) => self.out.whole_number(signed(found.last.bits())),
             Kind::Whole(Wire::Int64 | Wire::Sfixed64) => self.out.whole_number(found.last.bits() as i64),
             Kind::Double | Kind::Fraction => self.out.double(f64::from_bits(found.last.bits())),
-            Kind::Wholes => self.list(found, number, |out, bits| out.whole_number(bits)),
-            Kind::Numbers => self.numbers(found, number),
-            Kind::Doubles => self.list(found, number, |out, bits| out.double(f64::from_bits(bits))),
+            Kind::Wholes => self.list(found, number, fixed64s, |out, bits| out.whole_number(bits)),
+            Kind::Numbers => {
+                self.list(found, number, |packed| numbers(packed).flatten(), Output::whole_number)
+            }
+            Kind::Doubles => self.list(found, number, fixed64s, |out, bits| out.double(f64::from_bits(bits))),
             Kind::Bytes => self.out.push("\"\""),
             Kind::Exponential => {
                 let inner = exponential_histogram(self.out.exponential());
@@ -302,36 +304,24 @@ impl<'a, 'r> Writer<'a, 'r> {
         Ok(())
     }
 
-    /// A list of 8 bytes each, packed or not.
-    fn list(&mut self, found: FoundField<'a>, number: u8, each: impl Fn(&mut Output<'_>, u64)) {
+    /// A list of numbers: `unpacked` has those of one that is packed.
+    fn list<N: Iterator<Item = u64>>(
+        &mut self,
+        found: FoundField<'a>,
+        number: u8,
+        unpacked: impl Fn(&'a [u8]) -> N,
+        each: impl Fn(&mut Output<'r>, u64),
+    ) {
         self.out.text.push(b'[');
         let inside = self.out.text.len();
+        let put = |out: &mut Output<'r>, bits| {
+            out.separate(inside);
+            each(out, bits);
+        };
         for payload in found.all(number) {
-            let one;
-            let all = match payload {
-                Payload::Bytes(packed) => packed.as_chunks().0,
-                other => {
-                    one = [other.bits().to_le_bytes()];
-                    &one
-                }
-            };
-            for bits in all {
-                self.out.separate(inside);
-                each(&mut self.out, u64::from_le_bytes(*bits));
-            }
-        }
-        self.out.text.push(b']');
-    }
-
-    /// A list of numbers of any length, packed or not.
-    fn numbers(&mut self, found: FoundField<'a>, number: u8) {
-        self.out.text.push(b'[');
-        let inside = self.out.text.len();
-        for payload in found.all(number) {
-            let one = matches!(payload, Payload::Varint(_)).then(|| payload.bits());
-            for bits in numbers(payload.bytes()).flatten().chain(one) {
-                self.out.separate(inside);
-                self.out.whole_number(bits);
+            match payload {
+                Payload::Bytes(packed) => unpacked(packed).for_each(|bits| put(&mut self.out, bits)),
+                one => put(&mut self.out, one.bits()),
             }
         }
         self.out.text.push(b']');

@@ -46,6 +46,11 @@ impl<'a> Payload<'a> {
     }
 }
 
+/// Numbers of 8 bytes each, packed.
+pub fn fixed64s(packed: &[u8]) -> impl Iterator<Item = u64> + '_ {
+    packed.as_chunks().0.iter().map(|bits| u64::from_le_bytes(*bits))
+}
+
 /// Numbers of any length, packed.
 pub fn numbers(packed: &[u8]) -> impl Iterator<Item = Result<u64, Malformed>> + '_ {
     let mut fields = Fields::of(packed);
@@ -123,12 +128,6 @@ impl<'a> Fields<'a> {
         let behind = self.rest.strip_prefix(bytes);
         self.rest = behind.unwrap_or(self.rest);
         behind.is_some()
-    }
-
-    #[inline(always)]
-    fn field(&mut self) -> Result<(u32, Payload<'a>), Malformed> {
-        let key = self.key()?;
-        Ok((key >> 3, self.payload(key)?))
     }
 
     /// A field's number and wire type.
@@ -275,7 +274,7 @@ impl<'a> Iterator for Fields<'a> {
         if self.rest.is_empty() {
             return None;
         }
-        let field = self.field();
+        let field = self.key().and_then(|key| Ok((key >> 3, self.payload(key)?)));
         if field.is_err() {
             self.rest = &[];
         }
