@@ -156,9 +156,9 @@ pub fn prepare_with<E: From<Refused>>(
         Some(bounds) if written.is_exponential => {
             let more = exponential::most_more(&written.text, bounds).map_err(Refused::from)?;
             room(more)?;
-            let view = exponential::viewed(&written.text, bounds).map_err(Refused::from)?;
-            written.text = view.text.into_bytes();
-            view.unfit
+            let (text, unfit) = exponential::viewed(&written.text, bounds).map_err(Refused::from)?;
+            written.text = text.into_bytes();
+            unfit
         }
         _ => None,
     };

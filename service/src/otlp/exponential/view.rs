@@ -15,13 +15,6 @@ const KEPT: [&str; 6] = ["startTimeUnixNano", "timeUnixNano", "count", "sum", "f
 /// A point that is not taken has nothing but its attributes, and why in this member.
 const WHY_NOT: &str = "exponential";
 
-/// A request with the view.
-pub struct View {
-    pub text: String,
-    /// Why the first point that stays foreign does.
-    pub unfit: Option<String>,
-}
-
 /// How many bytes the view of a text may have more. A count has up to 20 digits.
 pub fn most_more(text: &[u8], bounds: &Bounds) -> Result<usize, NotJson> {
     let document = Document::parse(text)?;
@@ -29,16 +22,15 @@ pub fn most_more(text: &[u8], bounds: &Bounds) -> Result<usize, NotJson> {
     Ok(points * (bounds.written().len() + 21 * (bounds.0.len() + 1)))
 }
 
-/// The text is one that `otlp` has written.
-pub fn viewed(text: &[u8], bounds: &Bounds) -> Result<View, NotJson> {
+/// A request with the view, and why the first point that stays foreign does. The text is one that `otlp` has written.
+pub fn viewed(text: &[u8], bounds: &Bounds) -> Result<(String, Option<String>), NotJson> {
     let document = Document::parse(text)?;
     let mut viewing =
         Viewing { edited: Edited::of(document.text()), bounds, explicit: bounds.written(), unfit: None };
     for (metric, data) in exponential(&document) {
         viewing.metric(metric, data);
     }
-    let Viewing { edited, unfit, .. } = viewing;
-    Ok(View { text: edited.finished(), unfit })
+    Ok((viewing.edited.finished(), viewing.unfit))
 }
 
 /// Of a histogram's point that is foreign, why its view is not taken.
@@ -109,15 +101,16 @@ impl Viewing<'_, '_> {
 }
 
 /// Why a point has no view.
-#[derive(Debug, PartialEq)]
+#[derive(Debug, PartialEq, thiserror::Error)]
 pub enum WhyNot {
+    #[error("{0} can't be read")]
     Unreadable(&'static str),
+    #[error("the scale is none from {COARSEST} to {FINEST}")]
     Scale,
-    /// A bound is within a bucket that has values.
-    Within {
-        bucket: Bucket,
-        bound: f64,
-    },
+    /// Of a bucket that has values.
+    #[error("the {bucket} has the bound {bound} within")]
+    Within { bucket: Bucket, bound: f64 },
+    #[error("the counts are together over 2^64")]
     TooMany,
 }
 
@@ -132,21 +125,12 @@ pub enum Bucket {
     Negative { scale: i32, index: i64 },
 }
 
-impl fmt::Display for WhyNot {
+impl fmt::Display for Bucket {
     fn fmt(&self, out: &mut fmt::Formatter<'_>) -> fmt::Result {
         match self {
-            WhyNot::Unreadable(field) => write!(out, "{field} can't be read"),
-            WhyNot::Scale => write!(out, "the scale is none from {COARSEST} to {FINEST}"),
-            WhyNot::TooMany => write!(out, "the counts are together over 2^64"),
-            WhyNot::Within { bucket, bound } => match bucket {
-                Bucket::Zero { .. } => write!(out, "the zero bucket has the bound {bound} within"),
-                Bucket::Positive { scale, index } => {
-                    write!(out, "the bucket {index} of scale {scale} has the bound {bound} within")
-                }
-                Bucket::Negative { scale, index } => {
-                    write!(out, "the negative bucket {index} of scale {scale} has the bound {bound} within")
-                }
-            },
+            Bucket::Zero { .. } => write!(out, "zero bucket"),
+            Bucket::Positive { scale, index } => write!(out, "bucket {index} of scale {scale}"),
+            Bucket::Negative { scale, index } => write!(out, "negative bucket {index} of scale {scale}"),
         }
     }
 }
