@@ -1,9 +1,8 @@
 //! A request as it is written for the book, of whichever encoding it came in.
 
-use super::json::Document;
+use super::json::{Document, Value};
 use super::number::whole_double;
 use super::Reading;
-use std::borrow::Cow;
 
 /// The longest attribute list that a series may have, as it is written. Each series is kept, told to fresh books and
 /// delivered with all that identifies it: a resource of megabytes that thousands of points share would be gigabytes, and a
@@ -128,13 +127,7 @@ impl<'r> Output<'r> {
         let Ok(document) = Document::parse(element) else {
             return false;
         };
-        let Some([key]) = document.root().named(["key"]) else {
-            return false;
-        };
-        let key = match key {
-            None => Some(Cow::Borrowed("")),
-            Some(key) => key.text(),
-        };
+        let key = document.root().named(["key"]).and_then(|[key]| key.map_or(Some("".into()), Value::text));
         key.is_some_and(|key| self.reading.dropped.iter().any(|dropped| *dropped == key))
     }
 }
