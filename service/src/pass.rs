@@ -75,11 +75,13 @@ impl Pass {
 
     /// Whether it hands on to this address, HOST:PORT.
     pub fn is_to(&self, address: &str) -> bool {
-        self.receiver.is_at(address)
+        self.receiver.url.authority().is_some_and(|own| own.as_str() == address)
     }
 
+    /// Without what may be a password.
     pub fn url(&self) -> String {
-        self.receiver.url()
+        let url = self.receiver.url.to_string();
+        url.split('?').next().unwrap_or_default().to_string()
     }
 
     /// Waits for nothing.

@@ -26,7 +26,7 @@ const SHOWN: usize = 300;
 pub struct BadReceiver(String);
 
 pub(super) struct Receiver {
-    url: Uri,
+    pub url: Uri,
     client: Client<HttpConnector>,
 }
 
@@ -48,16 +48,6 @@ impl Receiver {
             url: url.parse().map_err(|error| bad(&error))?,
             client: Client::builder().pool_idle_timeout(IDLE).build(http),
         })
-    }
-
-    pub fn is_at(&self, address: &str) -> bool {
-        self.url.authority().is_some_and(|own| own.as_str() == address)
-    }
-
-    /// Without what may be a password.
-    pub fn url(&self) -> String {
-        let url = self.url.to_string();
-        url.split('?').next().unwrap_or_default().to_string()
     }
 
     pub async fn send(&self, outside: Outside) -> Said {
