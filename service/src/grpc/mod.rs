@@ -70,14 +70,14 @@ fn is_grpc(headers: &HeaderMap) -> bool {
 /// The head of a call that may have a message. Whether this is packed is said by its frame.
 fn call(parts: &Parts, who: &Who) -> Result<Head, Turned> {
     if parts.uri.path() != METHOD || parts.method != Method::POST {
-        return Err(Turned::new(who.unnamed(), Refusal::NoSuchMethod));
+        return Err(Turned { sender: who.unnamed(), refusal: Refusal::NoSuchMethod });
     }
     let of = |name: &str| parts.headers.get_all(name).iter().map(|value| value.as_bytes());
     let sender = sender(who, of("authorization"), of("x-sender"))?;
     let packing = match parts.headers.get(&ENCODING).map(|value| value.as_bytes()) {
         None | Some(b"identity") => Packing::Plain,
         Some(b"gzip") => Packing::Gzip,
-        Some(_) => return Err(Turned::new(sender, Refusal::ContentEncoding)),
+        Some(_) => return Err(Turned { sender, refusal: Refusal::ContentEncoding }),
     };
     Ok(Head { sender, encoding: Encoding::Protobuf, packing })
 }

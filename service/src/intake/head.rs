@@ -82,10 +82,10 @@ impl Head {
     /// Looks at a head in order: the path, the method, the sender, the content.
     fn read(request: &Request, who: &Who) -> Result<Head, Turned> {
         if !request.path.is_some_and(is_of_metrics) {
-            return Err(Turned::new(who.unnamed(), Refusal::NoSuchPath));
+            return Err(Turned { sender: who.unnamed(), refusal: Refusal::NoSuchPath });
         }
         if request.method != Some("POST") {
-            return Err(Turned::new(who.unnamed(), Refusal::WrongMethod));
+            return Err(Turned { sender: who.unnamed(), refusal: Refusal::WrongMethod });
         }
         let of = |name| named(request.headers, name);
         let sender = sender(who, of("authorization"), of("x-sender"))?;

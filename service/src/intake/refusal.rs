@@ -74,13 +74,6 @@ pub struct Turned {
     pub refusal: Refusal,
 }
 
-impl Turned {
-    pub fn new(sender: impl Into<String>, refusal: impl Into<Refusal>) -> Turned {
-        let (sender, refusal) = (sender.into(), refusal.into());
-        Turned { sender, refusal }
-    }
-}
-
 impl Refusal {
     pub fn status(&self) -> u16 {
         match self {

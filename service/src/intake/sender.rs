@@ -11,8 +11,8 @@ pub fn sender<'h>(
     mut names: impl Iterator<Item = &'h [u8]>,
 ) -> Result<String, Turned> {
     let proved = who.proved(authorization);
-    let proved = proved.map_err(|stranger| Turned::new(who.unnamed(), stranger))?;
-    let of_proved = |refusal| Turned::new(proved.known(), refusal);
+    let proved = proved.map_err(|stranger| Turned { sender: who.unnamed(), refusal: stranger.into() })?;
+    let of_proved = |refusal| Turned { sender: proved.known().into(), refusal };
     let own = match (names.next(), names.next()) {
         (None, _) => None,
         (Some(name), None) => Some(legal(name).ok_or_else(|| of_proved(Refusal::BadSender))?),
