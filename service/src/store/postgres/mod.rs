@@ -28,7 +28,6 @@ pub(super) use schema::random;
 pub use schema::{Cluster, MOST_SLOTS};
 pub use state::{Standing, State};
 
-use crate::cluster::terms::{Instance, Refused, Row};
 use crate::files::drive::Lost;
 use crate::postgres::identity;
 use drive::{on_this_thread, Together, Writer};
@@ -236,60 +235,6 @@ impl PostgresStore {
         let files = self.runtime.wait(writer.open())?;
         let (reader, runtime) = (database.reader.clone(), self.runtime.handle.clone());
         Ok(Arc::new(PostgresDrive::new(writer, files, reader, runtime)))
-    }
-
-    fn beater(&self, database: usize) -> Arc<Shared> {
-        self.databases[database].beater.clone()
-    }
-
-    fn taker(&self, slot: u16) -> Arc<Shared> {
-        self.database(slot).taker.clone()
-    }
-
-    /// Adds one to this instance's beat in a database, which is committed when this is `Ok`.
-    pub async fn beat(
-        &self,
-        database: usize,
-        name: &str,
-        address: &str,
-        refused: Refused,
-    ) -> Result<(), Doubt> {
-        self.runtime.run(self.beater(database).beat(name.into(), address.into(), refused)).await
-    }
-
-    pub async fn instances(&self, database: usize) -> Result<Vec<Instance>, Doubt> {
-        self.runtime.run(self.beater(database).instances()).await
-    }
-
-    /// Those that are in a database.
-    pub async fn slots(&self, database: usize) -> Result<Vec<Row>, Doubt> {
-        self.runtime.run(self.beater(database).slots()).await
-    }
-
-    /// Writes the term behind the one that was seen: the new one, or none where another was first.
-    pub async fn take(&self, slot: u16, seen: u64, owner: &str) -> Result<Option<u64>, Doubt> {
-        self.runtime.run(self.taker(slot).take(slot, seen, owner.into())).await
-    }
-
-    /// Says that nobody has the slot, where it has this term. The one who had it writes no more.
-    pub async fn release(&self, slot: u16, term: u64) -> Result<(), Doubt> {
-        self.runtime.run(self.taker(slot).release(slot, term)).await
-    }
-
-    /// Where the database is silent its row stays, and is that of one that is gone.
-    pub async fn leave(&self, database: usize, name: &str) -> Result<(), Doubt> {
-        self.runtime.run(self.beater(database).leave(name.into())).await
-    }
-
-    /// Takes the row of an instance away that has not come back, where its beat is still this. Whether it was.
-    pub async fn forget(&self, database: usize, name: &str, beat: u64) -> Result<bool, Doubt> {
-        self.runtime.run(self.databases[database].taker.clone().forget(name.into(), beat)).await
-    }
-
-    /// On how many servers what is committed in a database is now; none where this role may not look. Its writes may wait
-    /// meanwhile.
-    pub async fn copies(&self, database: usize) -> Result<Option<u64>, Doubt> {
-        self.runtime.run(self.databases[database].reader.clone().copies()).await
     }
 
     /// The databases, in their order.

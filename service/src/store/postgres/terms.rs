@@ -1,9 +1,9 @@
 //! The rows of instances and slots: who beats, and who has which slot under which term.
 
-use super::copies;
 use super::doubt::Doubt;
 use super::session::within;
 use super::shared::Shared;
+use super::{copies, PostgresStore};
 use crate::cluster::terms::{Instance, Refused, Row};
 use std::sync::Arc;
 use std::time::Duration;
@@ -54,26 +54,6 @@ impl Shared {
         Ok(rows?.iter().map(each).collect())
     }
 
-    /// Adds one to the instance's beat.
-    pub(super) async fn beat(
-        self: Arc<Self>,
-        name: String,
-        address: String,
-        refused: Refused,
-    ) -> Result<(), Doubt> {
-        let refused = serde_json::to_string(&refused).unwrap_or_default(); // numbers and texts are always written
-        let version = env!("CARGO_PKG_VERSION");
-        self.write(BEAT, &[&name, &address, &version, &refused]).await.map(drop)
-    }
-
-    pub(super) async fn leave(self: Arc<Self>, name: String) -> Result<(), Doubt> {
-        self.write(LEAVE, &[&name]).await.map(drop)
-    }
-
-    pub(super) async fn forget(self: Arc<Self>, name: String, beat: u64) -> Result<bool, Doubt> {
-        Ok(self.write(FORGET, &[&name, &(beat as i64)]).await? == 1)
-    }
-
     pub(super) async fn instances(self: Arc<Self>) -> Result<Vec<Instance>, Doubt> {
         let instance = |row: &DatabaseRow| Instance {
             name: row.get(0),
@@ -93,27 +73,81 @@ impl Shared {
         };
         self.read(SLOTS, owned).await
     }
+}
 
-    /// The term that was written; none where another was first. After a doubt nothing was taken: the next try sees which
-    /// term there is, and what comes late finds another.
-    pub(super) async fn take(
-        self: Arc<Self>,
-        slot: u16,
-        seen: u64,
-        owner: String,
-    ) -> Result<Option<u64>, Doubt> {
-        let taken = self.write(TAKE, &[&i32::from(slot), &(seen as i64), &owner]).await?;
-        Ok((taken == 1).then_some(seen + 1))
+/// Each goes on where nobody waits for it any more.
+impl PostgresStore {
+    fn beater(&self, database: usize) -> Arc<Shared> {
+        self.databases[database].beater.clone()
     }
 
-    pub(super) async fn release(self: Arc<Self>, slot: u16, term: u64) -> Result<(), Doubt> {
-        self.write(RELEASE, &[&i32::from(slot), &(term as i64)]).await.map(drop)
+    pub(super) fn taker(&self, slot: u16) -> Arc<Shared> {
+        self.database(slot).taker.clone()
     }
 
-    /// How many servers have what is committed; none where this role may not look.
-    pub(super) async fn copies(self: Arc<Self>) -> Result<Option<u64>, Doubt> {
-        let session = self.session().await?;
-        let counted = within(READ, copies::count(&session.client)).await;
-        self.heard(&session, counted).await
+    /// Adds one to this instance's beat in a database, which is committed when this is `Ok`.
+    pub async fn beat(
+        &self,
+        database: usize,
+        name: &str,
+        address: &str,
+        refused: Refused,
+    ) -> Result<(), Doubt> {
+        let (beater, name, address) = (self.beater(database), name.to_string(), address.to_string());
+        let beat = async move {
+            let refused = serde_json::to_string(&refused).unwrap_or_default(); // numbers and texts are always written
+            let version = env!("CARGO_PKG_VERSION");
+            beater.write(BEAT, &[&name, &address, &version, &refused]).await.map(drop)
+        };
+        self.runtime.run(beat).await
+    }
+
+    pub async fn instances(&self, database: usize) -> Result<Vec<Instance>, Doubt> {
+        self.runtime.run(self.beater(database).instances()).await
+    }
+
+    /// Those that are in a database.
+    pub async fn slots(&self, database: usize) -> Result<Vec<Row>, Doubt> {
+        self.runtime.run(self.beater(database).slots()).await
+    }
+
+    /// Writes the term behind the one that was seen: the new one, or none where another was first. After a doubt nothing was
+    /// taken: the next try sees which term there is, and what comes late finds another.
+    pub async fn take(&self, slot: u16, seen: u64, owner: &str) -> Result<Option<u64>, Doubt> {
+        let (taker, owner) = (self.taker(slot), owner.to_string());
+        let take = async move { taker.write(TAKE, &[&i32::from(slot), &(seen as i64), &owner]).await };
+        Ok((self.runtime.run(take).await? == 1).then_some(seen + 1))
+    }
+
+    /// Says that nobody has the slot, where it has this term. The one who had it writes no more.
+    pub async fn release(&self, slot: u16, term: u64) -> Result<(), Doubt> {
+        let taker = self.taker(slot);
+        let release = async move { taker.write(RELEASE, &[&i32::from(slot), &(term as i64)]).await };
+        self.runtime.run(release).await.map(drop)
+    }
+
+    /// Where the database is silent its row stays, and is that of one that is gone.
+    pub async fn leave(&self, database: usize, name: &str) -> Result<(), Doubt> {
+        let (beater, name) = (self.beater(database), name.to_string());
+        self.runtime.run(async move { beater.write(LEAVE, &[&name]).await }).await.map(drop)
+    }
+
+    /// Takes the row of an instance away that has not come back, where its beat is still this. Whether it was.
+    pub async fn forget(&self, database: usize, name: &str, beat: u64) -> Result<bool, Doubt> {
+        let (taker, name) = (self.databases[database].taker.clone(), name.to_string());
+        let forget = async move { taker.write(FORGET, &[&name, &(beat as i64)]).await };
+        Ok(self.runtime.run(forget).await? == 1)
+    }
+
+    /// On how many servers what is committed in a database is now; none where this role may not look. Its writes may wait
+    /// meanwhile.
+    pub async fn copies(&self, database: usize) -> Result<Option<u64>, Doubt> {
+        let reader = self.databases[database].reader.clone();
+        let counting = async move {
+            let session = reader.session().await?;
+            let counted = within(READ, copies::count(&session.client)).await;
+            reader.heard(&session, counted).await
+        };
+        self.runtime.run(counting).await
     }
 }
