@@ -54,6 +54,8 @@ pub enum Kind {
 /// A point that the service forwarded.
 #[derive(Clone, Debug, PartialEq, Eq)]
 pub struct ForwardedPoint {
+    /// Among the points of its request, from 0.
+    pub place: usize,
     pub series: SeriesKey,
     /// The span (start, end], in nanoseconds since 1970.
     pub start: u64,

@@ -33,11 +33,19 @@ pub(super) struct LeftOut {
 }
 
 impl LeftOut {
-    pub(super) fn add(&mut self, place: usize, reason: String) {
+    pub(super) fn is_empty(&self) -> bool {
+        self.places.is_empty() && self.unnamed == 0
+    }
+
+    pub(super) fn has(&self, point: &ForwardedPoint) -> bool {
+        self.places.contains(&point.place)
+    }
+
+    pub(super) fn add(&mut self, point: &ForwardedPoint, reason: impl FnOnce() -> String) {
         if self.places.is_empty() {
-            self.reason = reason;
+            self.reason = reason();
         }
-        self.places.insert(place);
+        self.places.insert(point.place);
     }
 
     pub(super) fn and_unnamed(mut self, unnamed: usize) -> LeftOut {
@@ -50,17 +58,15 @@ impl LeftOut {
     }
 
     pub(super) fn fate(self, body: &[u8]) -> Fate {
-        if self.unnamed > 0 {
-            return Fate::TakenPartly {
-                rejected: (self.places.len() + self.unnamed) as u64,
-                reason: self.reason,
-                left: None,
-            };
+        if self.is_empty() {
+            return Fate::Taken;
         }
-        let Some(left) = part(body, &self.places) else {
-            return Fate::again("a request that was read before can't be read again");
-        };
-        Fate::TakenPartly { rejected: self.places.len() as u64, reason: self.reason, left: Some(left) }
+        let rejected = (self.places.len() + self.unnamed) as u64;
+        match part(body, &self.places) {
+            _ if self.unnamed > 0 => Fate::TakenPartly { rejected, reason: self.reason, left: None },
+            Some(left) => Fate::TakenPartly { rejected, reason: self.reason, left: Some(left) },
+            None => Fate::again("a request that was read before can't be read again"),
+        }
     }
 }
 

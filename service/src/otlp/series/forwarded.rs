@@ -100,7 +100,7 @@ fn add_points<'d>(points: &mut Vec<ForwardedPoint>, above: &str, metric: Json<'d
         let attributes = list(point, "attributes")?.raw();
         let series = SeriesKey(Arc::from(format!("{above},{kind},{attributes}]")));
         let (start, end) = (number(point, "startTimeUnixNano")?, number(point, "timeUnixNano")?);
-        points.push(ForwardedPoint { series, start, end, value });
+        points.push(ForwardedPoint { place: points.len(), series, start, end, value });
         Ok(())
     };
     if let Some(sum) = optional(metric, "sum")? {

@@ -230,16 +230,17 @@ const FORWARDED: &str = r#"{"resourceMetrics":[{"resource":{"attributes":[{"key"
 fn forwarded_points_are_read_in_order() {
     let points = forwarded(FORWARDED.as_bytes()).unwrap();
     let above = r#"[[{"key":"r","value":{"stringValue":"x"}}],"n","v",[]"#;
-    let point = |rest: &str, start, end, value| ForwardedPoint {
+    let point = |place, rest: &str, start, end, value| ForwardedPoint {
+        place,
         series: SeriesKey(format!("{above},{rest}]").into()),
         start,
         end,
         value,
     };
     let expected = [
-        point(r#""m","s","sum",[{"key":"k","value":{"intValue":"5"}}]"#, 10, 20, Value::Sum(-9)),
-        point(r#""h","",[-4],[]"#, 1, 2, Value::Histogram { count: 3, sum: Some(7), buckets: vec![1, 2] }),
-        point(r#""h","",[],[]"#, 1, 2, Value::Histogram { count: 1, sum: None, buckets: vec![1] }),
+        point(0, r#""m","s","sum",[{"key":"k","value":{"intValue":"5"}}]"#, 10, 20, Value::Sum(-9)),
+        point(1, r#""h","",[-4],[]"#, 1, 2, Value::Histogram { count: 3, sum: Some(7), buckets: vec![1, 2] }),
+        point(2, r#""h","",[],[]"#, 1, 2, Value::Histogram { count: 1, sum: None, buckets: vec![1] }),
     ];
     assert_eq!(points, expected);
     let found = posted(FORWARDED.as_bytes()).unwrap();

@@ -99,7 +99,7 @@ impl PostgresSink {
         request: &Forwarded,
         term: Option<u64>,
         content: Content,
-    ) -> Result<Option<LeftOut>, NotTaken> {
+    ) -> Result<LeftOut, NotTaken> {
         let mut session = match place.take() {
             Some(session) if !session.client.is_closed() => session,
             _ => {
@@ -119,7 +119,7 @@ impl PostgresSink {
         taken
     }
 
-    async fn tried(&self, request: &Forwarded, term: Option<u64>) -> Result<Option<LeftOut>, NotTaken> {
+    async fn tried(&self, request: &Forwarded, term: Option<u64>) -> Result<LeftOut, NotTaken> {
         let content = self.read(request).await?;
         // It is not the server that is late where other slots' requests go first.
         let mut place = self.session.lock().await;
@@ -129,8 +129,7 @@ impl PostgresSink {
     async fn send(&self, request: &Forwarded, term: Option<u64>) -> Fate {
         let reason = |fault: Fault| fault.at(&self.server).to_string();
         match self.tried(request, term).await {
-            Ok(None) => Fate::Taken,
-            Ok(Some(left)) => left.fate(&request.body),
+            Ok(left) => left.fate(&request.body),
             Err(NotTaken::Refused(reason)) => Fate::refused(reason),
             Err(NotTaken::Failed(fault)) => Fate::Failed { reason: reason(fault), after: None },
             Err(NotTaken::Fault(fault)) => Fate::again(reason(fault)),

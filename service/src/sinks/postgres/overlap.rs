@@ -5,13 +5,12 @@
 //! overlaps; one that lies between them is looked for among the spans that end between them.
 
 use super::fault::NotTaken;
-use super::repeat::Refused;
 use super::rows::{overlaps, OfSeries};
 use super::series::StoredSeries;
 use super::store::{each, Writing};
 use super::values::Numeric;
 use crate::otlp::series::ForwardedPoint;
-use crate::sinks::left_out::shown;
+use crate::sinks::left_out::{shown, LeftOut};
 use tokio_postgres::types::ToSql;
 use tokio_postgres::Row;
 
@@ -36,7 +35,7 @@ impl Writing<'_> {
         &self,
         all: &[OfSeries],
         known: &[StoredSeries],
-    ) -> Result<Refused, NotTaken> {
+    ) -> Result<LeftOut, NotTaken> {
         let is_before = |(point, known): &(&ForwardedPoint, &StoredSeries)| {
             known.last_end.is_some_and(|last_end| point.start < last_end)
         };
@@ -44,32 +43,32 @@ impl Writing<'_> {
             .filter(is_before)
             .map(|(point, known)| Before { point, series: known.id })
             .collect();
-        let mut refused = Refused::default();
+        let mut left = LeftOut::default();
         if before.is_empty() {
-            return Ok(refused);
+            return Ok(left);
         }
-        self.overlap_of_before(&before, &mut refused).await?;
-        let between = self.by_hours(&before, &mut refused).await?;
+        self.overlap_of_before(&before, &mut left).await?;
+        let between = self.by_hours(&before, &mut left).await?;
         if between.is_empty() {
-            return Ok(refused);
+            return Ok(left);
         }
         self.settings(JOINED).await?;
         for part in stretches(between.clone()) {
-            self.by_spans(&part, &mut refused).await?;
+            self.by_spans(&part, &mut left).await?;
         }
         self.settings(AS_BEFORE).await?;
         // Looked at behind the spans: what is deleted meanwhile is said to be so before.
-        self.among_deleted(&between, &mut refused).await?;
-        Ok(refused)
+        self.among_deleted(&between, &mut left).await?;
+        Ok(left)
     }
 
-    async fn overlap_of_before(&self, before: &[Before<'_>], refused: &mut Refused) -> Result<(), NotTaken> {
+    async fn overlap_of_before(&self, before: &[Before<'_>], left: &mut LeftOut) -> Result<(), NotTaken> {
         let Some(statements) = &self.statements.before else {
             return Ok(());
         };
         let (series, starts, ends) = columns(before);
         let rows = self.rows(&statements.overlap, &[&series, &starts, &ends]).await?;
-        refuse(&rows, before, refused);
+        refuse(&rows, before, left);
         Ok(())
     }
 
@@ -77,7 +76,7 @@ impl Writing<'_> {
     async fn by_hours<'a>(
         &self,
         before: &[Before<'a>],
-        refused: &mut Refused,
+        left: &mut LeftOut,
     ) -> Result<Vec<(u64, Before<'a>)>, NotTaken> {
         let (series, starts, ends) = columns(before);
         let mut between = Vec::new();
@@ -87,9 +86,9 @@ impl Writing<'_> {
                 |column: usize| row.get::<_, Option<&str>>(column).and_then(|text| text.parse::<u64>().ok());
             let (point, is_deleted) = (one.point, row.get::<_, bool>(3));
             match (time(1), time(2)) {
-                _ if is_deleted => refused.add(point, || deleted(point, "hours")),
+                _ if is_deleted => left.add(point, || deleted(point, "hours")),
                 (Some(first), Some(last)) if point.start <= first || last <= point.end => {
-                    refused.add(point, || overlaps(point, first, last))
+                    left.add(point, || overlaps(point, first, last))
                 }
                 (Some(_), Some(last)) => between.push((last, one)),
                 _ => {}
@@ -98,7 +97,7 @@ impl Writing<'_> {
         Ok(between)
     }
 
-    async fn by_spans(&self, part: &[(u64, Before<'_>)], refused: &mut Refused) -> Result<(), NotTaken> {
+    async fn by_spans(&self, part: &[(u64, Before<'_>)], left: &mut LeftOut) -> Result<(), NotTaken> {
         let before: Vec<Before> = part.iter().map(|(_, before)| *before).collect();
         let series: Vec<i64> = before.iter().map(|one| one.series).collect();
         let starts: Vec<i64> = before.iter().map(|one| one.point.start as i64).collect();
@@ -114,20 +113,16 @@ impl Writing<'_> {
                 self.rows(&statements.overlap, &columns).await
             }
         };
-        refuse(&rows?, &before, refused);
+        refuse(&rows?, &before, left);
         Ok(())
     }
 
-    async fn among_deleted(
-        &self,
-        between: &[(u64, Before<'_>)],
-        refused: &mut Refused,
-    ) -> Result<(), NotTaken> {
+    async fn among_deleted(&self, between: &[(u64, Before<'_>)], left: &mut LeftOut) -> Result<(), NotTaken> {
         let series: Vec<i64> = between.iter().map(|(_, one)| one.series).collect();
         let starts: Vec<Numeric> = between.iter().map(|(_, one)| one.point.start.into()).collect();
         for row in self.rows(&self.statements.deleted, &[&series, &starts]).await? {
             let point = between[row.get::<_, i64>(0) as usize - 1].1.point;
-            refused.add(point, || deleted(point, "spans"));
+            left.add(point, || deleted(point, "spans"));
         }
         Ok(())
     }
@@ -141,11 +136,11 @@ fn columns(before: &[Before]) -> (Vec<i64>, Vec<Numeric>, Vec<Numeric>) {
     )
 }
 
-fn refuse(rows: &[Row], before: &[Before], refused: &mut Refused) {
+fn refuse(rows: &[Row], before: &[Before], left: &mut LeftOut) {
     for row in rows {
         let (place, start, end): (i64, &str, &str) = (row.get(0), row.get(1), row.get(2));
         let point = before[place as usize - 1].point;
-        refused.add(point, || overlaps(point, start, end));
+        left.add(point, || overlaps(point, start, end));
     }
 }
 

@@ -6,51 +6,10 @@ use super::series::StoredSeries;
 use super::session::Before;
 use super::store::Writing;
 use super::values::Numeric;
-use crate::otlp::series::{self, ForwardedPoint, SeriesKey};
-use crate::sinks::left_out::shown;
-use crate::sinks::left_out::{LeftOut, OTHER_REQUEST};
-use crate::sinks::Forwarded;
-use std::collections::{BTreeSet, HashSet};
+use crate::otlp::series::ForwardedPoint;
+use crate::sinks::left_out::{shown, LeftOut, OTHER_REQUEST};
+use std::collections::BTreeSet;
 use tokio_postgres::Row;
-
-/// Points that overlap what is there, each by its series and start, which no other point of the request has.
-#[derive(Default)]
-pub(super) struct Refused {
-    points: HashSet<(SeriesKey, u64)>,
-    /// Of the first of them.
-    pub(super) reason: String,
-}
-
-impl Refused {
-    pub(super) fn is_empty(&self) -> bool {
-        self.points.is_empty()
-    }
-
-    pub(super) fn add(&mut self, point: &ForwardedPoint, reason: impl FnOnce() -> String) {
-        if self.points.is_empty() {
-            self.reason = reason();
-        }
-        self.points.insert((point.series.clone(), point.start));
-    }
-
-    fn has(&self, point: &ForwardedPoint) -> bool {
-        !self.is_empty() && self.points.contains(&(point.series.clone(), point.start))
-    }
-
-    /// Where they stand in the request.
-    pub(super) fn left(self, request: &Forwarded) -> Result<Option<LeftOut>, NotTaken> {
-        if self.is_empty() {
-            return Ok(None);
-        }
-        let points = series::forwarded(&request.body)?;
-        let places = points.iter().enumerate().filter(|(_, point)| self.has(point));
-        Ok(Some(LeftOut {
-            places: places.map(|(place, _)| place).collect(),
-            reason: self.reason,
-            ..LeftOut::default()
-        }))
-    }
-}
 
 pub(super) fn points(all: &[OfSeries]) -> i64 {
     all.iter().map(|series| series.points.len() as i64).sum()
@@ -60,13 +19,13 @@ pub(super) fn points(all: &[OfSeries]) -> i64 {
 pub(super) fn without(
     all: Vec<OfSeries>,
     known: Vec<StoredSeries>,
-    refused: &Refused,
+    left: &LeftOut,
 ) -> (Vec<OfSeries>, Vec<StoredSeries>) {
-    if refused.is_empty() {
+    if left.is_empty() {
         return (all, known);
     }
     let mut both: Vec<(OfSeries, StoredSeries)> = all.into_iter().zip(known).collect();
-    both.iter_mut().for_each(|(series, _)| series.points.retain(|point| !refused.has(point)));
+    both.iter_mut().for_each(|(series, _)| series.points.retain(|point| !left.has(point)));
     both.retain(|(series, _)| !series.points.is_empty());
     both.into_iter().unzip()
 }
@@ -91,17 +50,12 @@ impl Taken {
 
 impl Writing<'_> {
     /// What was left out of a request that was taken; else it is another one that came under the key.
-    pub(super) async fn left_of(
-        &self,
-        taken: &Taken,
-        request: &Forwarded,
-        content: &Content,
-    ) -> Result<Option<LeftOut>, NotTaken> {
+    pub(super) async fn left_of(&self, taken: &Taken, content: &Content) -> Result<LeftOut, NotTaken> {
         match (&taken.digest, &self.statements.before) {
-            (Some(digest), _) if *digest == content.digest => left_out(taken, request),
-            (None, Some(before)) => self.left_before(taken, before, request, &content.all).await,
+            (Some(digest), _) if *digest == content.digest => Ok(left_out(taken, &content.all)),
+            (None, Some(before)) => self.left_before(taken, before, &content.all).await,
             // Its spans are deleted by now.
-            (None, None) if taken.points == points(&content.all) => Ok(None),
+            (None, None) if taken.points == points(&content.all) => Ok(LeftOut::default()),
             _ => Err(NotTaken::Refused(OTHER_REQUEST.into())),
         }
     }
@@ -112,9 +66,8 @@ impl Writing<'_> {
         &self,
         taken: &Taken,
         before: &Before,
-        request: &Forwarded,
         all: &[OfSeries],
-    ) -> Result<Option<LeftOut>, NotTaken> {
+    ) -> Result<LeftOut, NotTaken> {
         let each = || {
             all.iter().flat_map(|series| series.points.iter().map(move |point| (&series.digest[..], point)))
         };
@@ -127,24 +80,22 @@ impl Writing<'_> {
             return Err(NotTaken::Refused(OTHER_REQUEST.into()));
         }
         let points: Vec<&ForwardedPoint> = each().map(|(_, point)| point).collect();
-        let mut refused = Refused::default();
+        let mut left = LeftOut::default();
         for row in rows {
             let point = points[row.get::<_, i64>(0) as usize - 1];
-            refused.add(point, || was_there(point));
+            left.add(point, || was_there(point));
         }
-        refused.left(request)
+        Ok(left)
     }
 }
 
-fn left_out(taken: &Taken, request: &Forwarded) -> Result<Option<LeftOut>, NotTaken> {
-    let Some(places) = &taken.left_out else {
-        return Ok(None);
-    };
-    let places: BTreeSet<usize> = places.iter().map(|place| *place as usize).collect();
-    let points = series::forwarded(&request.body)?;
-    let first = places.first().and_then(|place| points.get(*place));
+fn left_out(taken: &Taken, all: &[OfSeries]) -> LeftOut {
+    let left_out = taken.left_out.iter().flatten();
+    let places: BTreeSet<usize> = left_out.map(|place| *place as usize).collect();
+    let mut points = all.iter().flat_map(|series| &series.points);
+    let first = points.find(|point| Some(&point.place) == places.first());
     let reason = first.map_or(String::new(), was_there);
-    Ok(Some(LeftOut { places, reason, ..LeftOut::default() }))
+    LeftOut { places, reason, ..LeftOut::default() }
 }
 
 fn was_there(point: &ForwardedPoint) -> String {

@@ -31,7 +31,7 @@ pub(super) async fn take(
     request: &Forwarded,
     term: Option<u64>,
     content: Content,
-) -> Result<Option<LeftOut>, NotTaken> {
+) -> Result<LeftOut, NotTaken> {
     let warnings = &session.connection.warnings;
     let transaction = session.client.transaction().await?;
     let writing = Writing { transaction, warnings, statements: &session.statements };
@@ -39,7 +39,7 @@ pub(super) async fn take(
     let row = match key {
         Key::New(row) => row,
         Key::Taken(taken) => {
-            let left = writing.left_of(&taken, request, &content).await?;
+            let left = writing.left_of(&taken, &content).await?;
             // A server shows, after a restart, what its standby does not have: it is believed behind a commit.
             writing.commit().await?;
             return Ok(left);
@@ -47,10 +47,10 @@ pub(super) async fn take(
     };
     let all = content.all;
     let (closed, known) = tokio::try_join!(writing.closed(), writing.series(&all, &session.seen))?;
-    let refused = writing.overlapping(&all, &known).await?;
-    let (all, known) = repeat::without(all, known, &refused);
-    if all.is_empty() && !refused.is_empty() {
-        return Err(NotTaken::Refused(refused.reason));
+    let left = writing.overlapping(&all, &known).await?;
+    let (all, known) = repeat::without(all, known, &left);
+    if all.is_empty() && !left.is_empty() {
+        return Err(NotTaken::Refused(left.reason));
     }
     let both = all.iter().zip(&known);
     let adding: Vec<Adding> = both.map(|(of, known)| Adding::of(of, known, &closed)).collect();
@@ -58,11 +58,10 @@ pub(super) async fn take(
     tokio::try_join!(
         writing.spans(&all, &known),
         writing.totals(&adding),
-        writing.delivered(session.fence.as_ref(), request, term, refused.is_empty())
+        writing.delivered(session.fence.as_ref(), request, term, left.is_empty())
     )?;
-    let left = refused.left(request)?;
-    if let Some(left) = &left {
-        writing.leave_out(row, repeat::points(&all), left).await?;
+    if !left.is_empty() {
+        writing.leave_out(row, repeat::points(&all), &left).await?;
     }
     // No content can be at fault any more.
     writing.commit().await?;

@@ -263,8 +263,7 @@ impl Writer {
                 "{} or its -wal was deleted meanwhile: it is opened again",
                 self.path.display()
             )),
-            Ok(None) => Fate::Taken,
-            Ok(Some(left)) => left.fate(&request.body),
+            Ok(left) => left.fate(&request.body),
             Err(NotTaken::Refused(reason)) => Fate::refused(reason),
             Err(NotTaken::Fault(fault)) => {
                 self.close_after(&fault);

@@ -122,7 +122,7 @@ impl Store {
     }
 
     /// Takes a request that is not taken yet, but for spans that overlap: these are left.
-    pub(super) fn take(&mut self, request: &Forwarded) -> Result<Option<LeftOut>, NotTaken> {
+    pub(super) fn take(&mut self, request: &Forwarded) -> Result<LeftOut, NotTaken> {
         let points = series::forwarded(&request.body)?;
         let fault = |error: rusqlite::Error| -> NotTaken { not_taken(&self.path, error) };
         let transaction =
@@ -253,11 +253,7 @@ impl Writing<'_> {
     }
 
     /// What is left, where it is not all: a request of which nothing can be added is refused as it is.
-    fn request(
-        &mut self,
-        request: &Forwarded,
-        points: &[ForwardedPoint],
-    ) -> Result<Option<LeftOut>, NotTaken> {
+    fn request(&mut self, request: &Forwarded, points: &[ForwardedPoint]) -> Result<LeftOut, NotTaken> {
         let (first_start, last) = time_of(points);
         let row = self.of(|transaction| {
             let insert =
@@ -273,21 +269,20 @@ impl Writing<'_> {
             ])
         })?;
         let mut left = LeftOut::default();
-        for (place, point) in points.iter().enumerate() {
+        for point in points {
             if let Some(reason) = self.point(spans::Request { row, first_start }, point)? {
-                left.add(place, reason);
+                left.add(point, || reason);
             }
         }
-        if left.places.len() == points.len() && !left.places.is_empty() {
+        if left.places.len() == points.len() && !left.is_empty() {
             return Err(NotTaken::Refused(left.reason));
         }
         let hours = std::mem::take(&mut self.hours);
         self.of(|transaction| hours.write(transaction, self.horizon.hours_from))?;
-        if left.places.is_empty() {
-            return Ok(None);
+        if !left.is_empty() {
+            self.of(|transaction| repeat::set_points(transaction, row, points.len() - left.places.len()))?;
         }
-        self.of(|transaction| repeat::set_points(transaction, row, points.len() - left.places.len()))?;
-        Ok(Some(left))
+        Ok(left)
     }
 
     /// Adds a point, or says why it overlaps, or may.

@@ -38,22 +38,18 @@ pub(super) fn set_points(transaction: &Transaction, row: i64, points: usize) -> 
 impl Writing<'_> {
     /// The points of a taken request that have no span of it. Nothing is written. Each of these was left for a span of
     /// another request, or its own was deleted since; else it is another request that came under the key.
-    pub(super) fn left_of(
-        mut self,
-        taken: &Taken,
-        points: &[ForwardedPoint],
-    ) -> Result<Option<LeftOut>, NotTaken> {
+    pub(super) fn left_of(mut self, taken: &Taken, points: &[ForwardedPoint]) -> Result<LeftOut, NotTaken> {
         let other = || NotTaken::Refused(OTHER_REQUEST.into());
         let mut left = LeftOut::default();
-        let mut deleted = Vec::new();
-        for (place, point) in points.iter().enumerate() {
+        let mut deleted = 0;
+        for point in points {
             let (known, _) = self.series(&point.series)?;
             if self.has_span(taken, known.series, point)? {
                 continue;
             }
             match self.overlap(taken.row, known.series, point) {
-                Ok(Some(reason)) => left.add(place, reason),
-                Ok(None) if self.may_be_deleted(known.series, point)? => deleted.push(place),
+                Ok(Some(reason)) => left.add(point, || reason),
+                Ok(None) if self.may_be_deleted(known.series, point)? => deleted += 1,
                 Ok(None) | Err(NotTaken::Refused(_)) => return Err(other()),
                 Err(fault) => return Err(fault),
             }
@@ -63,8 +59,8 @@ impl Writing<'_> {
         }
         // So many were left, when it was taken, beside those that are known.
         match (points.len() - left.places.len()).checked_sub(taken.points) {
-            Some(0) => Ok((!left.places.is_empty()).then_some(left)),
-            Some(more) if more <= deleted.len() => Ok(Some(left.and_unnamed(more))),
+            Some(0) => Ok(left),
+            Some(more) if more <= deleted => Ok(left.and_unnamed(more)),
             _ => Err(other()),
         }
     }
