@@ -70,7 +70,7 @@ impl Options {
 /// Beside a service that writes: nothing is changed, nobody waits.
 fn rows(path: &Path) -> Result<Vec<Vec<Value>>> {
     std::fs::File::open(path)?; // it says in fewer words than SQLite why that can't be
-    let file = sqlite::totals::open(path)?;
+    let file = sqlite::totals::open(path).map_err(|fault| fault.at(path))?;
     let mut query = file
         .prepare(&format!("select {} from totals order by name, attributes, resource", COLUMNS.join(", ")))?;
     let read = |row: &Row| (0..COLUMNS.len()).map(|column| row.get(column)).collect();

@@ -1,6 +1,6 @@
 //! Reads what came of one series in its last hours, by the view `by_hour`.
 
-use super::fault::{Fault, PostgresFault};
+use super::fault::Fault;
 use super::session;
 use super::totals::{number, parts_of, Odd, PATIENCE};
 use super::Server;
@@ -11,11 +11,7 @@ use tokio::time::timeout;
 use tokio_postgres::{Client, Row};
 
 /// The hours of a series from this one on (since 1970), in order; none where the schema has no hours, or not this series.
-pub async fn read(
-    server: &Server,
-    series: &SeriesTotal,
-    from: u64,
-) -> Result<Option<Vec<Hour>>, PostgresFault> {
+pub async fn read(server: &Server, series: &SeriesTotal, from: u64) -> anyhow::Result<Option<Vec<Hour>>> {
     let late = |_| Fault::told(format!("no hours within {} s", PATIENCE.as_secs()));
     let rows = timeout(PATIENCE, rows(server, series, from)).await.map_err(late);
     let hours = |rows: Vec<Row>| rows.iter().map(hour).collect::<Result<_, Odd>>();

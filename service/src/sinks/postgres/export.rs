@@ -1,6 +1,6 @@
 //! Reads what a database has of a month or a day, as of one moment.
 
-use super::fault::{Fault, PostgresFault};
+use super::fault::Fault;
 use super::totals::parts_of;
 use super::Server;
 use super::{periods, schema, session, statements};
@@ -45,7 +45,7 @@ async fn lines(server: &Server, period: &Period, each: Each<'_>) -> Result<Close
 
 async fn each_line(
     transaction: &Transaction<'_>,
-    fault: &impl Fn(Error) -> PostgresFault,
+    fault: &impl Fn(Error) -> anyhow::Error,
     period: &Period,
     each: Each<'_>,
 ) -> Result<()> {

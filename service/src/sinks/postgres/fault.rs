@@ -3,13 +3,9 @@
 use super::Server;
 use crate::otlp::series::NotForwarded;
 use crate::postgres::{shown, NotConnected};
+use anyhow::anyhow;
 use std::time::Duration;
 use tokio_postgres::Error;
-
-/// It says of which server it is.
-#[derive(Debug, thiserror::Error)]
-#[error("{0}")]
-pub struct PostgresFault(String);
 
 #[derive(Debug)]
 pub(super) enum Fault {
@@ -39,14 +35,15 @@ impl Fault {
         !matches!(self, Fault::Server(_))
     }
 
-    pub(super) fn at(self, server: &Server) -> PostgresFault {
-        PostgresFault(match self {
-            Fault::Later { found, known } => format!("the schema totxegun of {server} was written by a later version of totxegun (schema {found}; this one knows {known}): use that version, or another database"),
-            Fault::Foreign => format!("the schema totxegun of {server} is of another program: name another database"),
-            Fault::Encoding(encoding) => format!("the database of {server} is in {encoding}, which can't hold each text: make one with `encoding utf8`"),
-            Fault::Another(what) => what,
-            Fault::Server(what) => format!("{server}: {what}"),
-        })
+    /// It says of which server it is.
+    pub(super) fn at(self, server: &Server) -> anyhow::Error {
+        match self {
+            Fault::Later { found, known } => anyhow!("the schema totxegun of {server} was written by a later version of totxegun (schema {found}; this one knows {known}): use that version, or another database"),
+            Fault::Foreign => anyhow!("the schema totxegun of {server} is of another program: name another database"),
+            Fault::Encoding(encoding) => anyhow!("the database of {server} is in {encoding}, which can't hold each text: make one with `encoding utf8`"),
+            Fault::Another(what) => anyhow!(what),
+            Fault::Server(what) => anyhow!("{server}: {what}"),
+        }
     }
 }
 

@@ -24,7 +24,6 @@ mod upkeep;
 mod values;
 
 pub use crate::postgres::Server;
-pub use fault::PostgresFault;
 
 use super::left_out::LeftOut;
 use super::periods::{Deed, Told};
@@ -68,7 +67,7 @@ impl PostgresSink {
         let was_there = Arc::new(AtomicBool::new(tried.is_ok()));
         if let Err(fault) = tried {
             if fault.is_lasting() {
-                return Err(fault.at(server).into());
+                return Err(fault.at(server));
             }
             let reason = fault.at(server).to_string();
             tracing::warn!(reason, "{reason}; it is tried again at each delivery");

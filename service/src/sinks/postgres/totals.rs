@@ -1,6 +1,6 @@
 //! Reads a database's totals, also while services write it.
 
-use super::fault::{Fault, PostgresFault};
+use super::fault::Fault;
 use super::Server;
 use super::{schema, session};
 use crate::otlp::series::{NotForwarded, SeriesKey};
@@ -21,7 +21,7 @@ const READ: &str =
     order by name, attributes::text, resource::text, series.id";
 
 /// The totals of a database, by name and attributes, as of one moment; none where no service has written it yet.
-pub async fn read(server: &Server) -> Result<Vec<SeriesTotal>, PostgresFault> {
+pub async fn read(server: &Server) -> anyhow::Result<Vec<SeriesTotal>> {
     let late = |_| Fault::told(format!("no totals within {} s", PATIENCE.as_secs()));
     let rows = timeout(PATIENCE, rows(server)).await.map_err(late).flatten();
     let made = async { made(rows?).await };

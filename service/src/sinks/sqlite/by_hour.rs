@@ -1,6 +1,6 @@
 //! Reads what came of one series in its last hours, by the view `by_hour`.
 
-use super::fault::SqliteFault;
+use super::fault::Fault;
 use super::store::SeriesRow;
 use super::totals::{odd, open, SeriesTotal};
 use super::wide_integers::Exact;
@@ -18,13 +18,13 @@ pub struct Hour {
 }
 
 /// The hours of a series from this one on (since 1970), in order; none where the file has no hours, or not this series.
-pub fn read(path: &Path, series: &SeriesTotal, from: u64) -> Result<Option<Vec<Hour>>, SqliteFault> {
-    let fault = |error| SqliteFault::of(path, error);
-    let connection = open(path)?;
-    match found(&connection, series).map_err(fault)? {
-        Some(id) => hours(&connection, id, from).map(Some).map_err(fault),
-        None => Ok(None),
-    }
+pub fn read(path: &Path, series: &SeriesTotal, from: u64) -> anyhow::Result<Option<Vec<Hour>>> {
+    let read = || -> Result<_, Fault> {
+        let connection = open(path)?;
+        let found = found(&connection, series)?;
+        Ok(found.map(|id| hours(&connection, id, from)).transpose()?)
+    };
+    read().map_err(|fault| fault.at(path))
 }
 
 /// A series' identifier, in a file that has hours.

@@ -1,6 +1,6 @@
 //! Reads what a file has of a month or a day, as of one moment.
 
-use super::fault::SqliteFault;
+use super::fault::Fault;
 use super::horizon::Horizon;
 use super::schema::{self, STEPS};
 use super::totals::{json, open, Kind};
@@ -12,34 +12,32 @@ use std::path::Path;
 
 /// Each line; and what of it is closed.
 pub fn read(path: &Path, period: &Period, each: Each<'_>) -> anyhow::Result<Closed> {
-    let fault = |error| SqliteFault::of(path, error);
-    let mut connection = open(path)?;
+    let at = |fault: Fault| fault.at(path);
+    let fault = |error: rusqlite::Error| at(error.into());
+    let told = |what: String| Err(at(Fault::Told(what)));
+    let mut connection = open(path).map_err(at)?;
     let known = STEPS.len() as i64;
-    if schema::check(&connection, path, known)? < known {
-        return Err(SqliteFault::told(
-            path,
-            "it is of an older version: start the service, which updates it",
-        )
-        .into());
+    if schema::check(&connection, known).map_err(at)? < known {
+        return told("it is of an older version: start the service, which updates it".into());
     }
     let transaction = connection.transaction().map_err(fault)?;
     // The views lack what is not moved yet, and nobody would see it by the rows.
     let horizon = Horizon::read(&transaction).map_err(fault)?;
     if !horizon.is_filled() {
-        return Err(SqliteFault::told(path, NOT_FILLED).into());
+        return told(NOT_FILLED.into());
     }
     if !horizon.has(period) {
-        return Err(SqliteFault::told(path, deleted(period, horizon.hours_from)).into());
+        return told(deleted(period, horizon.hours_from));
     }
     lines(&transaction, period, each, &fault)?;
-    Ok(super::periods::read(&transaction).map_err(fault)?)
+    super::periods::read(&transaction).map_err(fault)
 }
 
 fn lines(
     transaction: &Transaction,
     period: &Period,
     each: Each<'_>,
-    fault: &dyn Fn(rusqlite::Error) -> SqliteFault,
+    fault: &dyn Fn(rusqlite::Error) -> anyhow::Error,
 ) -> anyhow::Result<()> {
     let (time, at) = view_of(period);
     let query = format!(

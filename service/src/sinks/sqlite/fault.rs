@@ -1,50 +1,63 @@
 //! What can be wrong with the file, and what to do about it.
 
 use crate::otlp::series::NotForwarded;
+use anyhow::anyhow;
 use nix::sys::statvfs::FsFlags;
 use rusqlite::ErrorCode;
-use std::path::{Path, PathBuf};
+use std::path::Path;
 
-#[derive(Debug, thiserror::Error)]
-pub enum SqliteFault {
-    #[error("{path} was written by a later version of totxegun (schema {found}; this one knows {known}): use that version, or another file")]
-    Later { path: PathBuf, found: i64, known: i64 },
-    #[error("{path} is a database of another program: name another file")]
-    Foreign { path: PathBuf },
-    #[error("{0}")]
+#[derive(Debug)]
+pub(crate) enum Fault {
+    Later {
+        found: i64,
+        known: i64,
+    },
+    Foreign,
+    /// It says all by itself.
     Another(String),
-    #[error("{path}: {what}")]
-    File { path: PathBuf, what: String, source: Option<rusqlite::Error> },
-    #[error("the thread that writes {path} can't be started: {source}")]
-    Thread { path: PathBuf, source: std::io::Error },
+    /// What may mend itself, as the next.
+    Told(String),
+    File(rusqlite::Error),
 }
 
-impl SqliteFault {
-    pub(super) fn of(path: &Path, error: rusqlite::Error) -> SqliteFault {
-        let what = match error.sqlite_error_code() {
-            Some(code) => {
-                what(code, path).map_or_else(|| error.to_string(), |what| format!("{what} ({error})"))
-            }
-            None => error.to_string(),
-        };
-        SqliteFault::File { path: path.into(), what, source: Some(error) }
-    }
-
-    pub(super) fn told(path: &Path, what: impl Into<String>) -> SqliteFault {
-        SqliteFault::File { path: path.into(), what: what.into(), source: None }
+impl Fault {
+    pub(super) fn told(what: impl Into<String>) -> Fault {
+        Fault::Told(what.into())
     }
 
     /// Whether it stays until somebody names another file or starts another version.
     pub(super) fn is_lasting(&self) -> bool {
-        !matches!(self, SqliteFault::File { .. })
+        !matches!(self, Fault::Told(_) | Fault::File(_))
     }
 
     /// Whether the connection, and what is cached of its file, may be used on.
     pub(super) fn leaves_the_file_whole(&self) -> bool {
-        matches!(self, SqliteFault::File { source: Some(error), .. } if matches!(
+        matches!(self, Fault::File(error) if matches!(
             error.sqlite_error_code(),
             Some(ErrorCode::DatabaseBusy | ErrorCode::DatabaseLocked)
         ))
+    }
+
+    /// It says of which file it is.
+    pub(crate) fn at(self, path: &Path) -> anyhow::Error {
+        let file = path.display();
+        match self {
+            Fault::Later { found, known } => anyhow!("{file} was written by a later version of totxegun (schema {found}; this one knows {known}): use that version, or another file"),
+            Fault::Foreign => anyhow!("{file} is a database of another program: name another file"),
+            Fault::Another(what) => anyhow!(what),
+            Fault::Told(what) => anyhow!("{file}: {what}"),
+            Fault::File(error) => {
+                let what = error.sqlite_error_code().and_then(|code| what(code, path));
+                let what = what.map_or_else(|| error.to_string(), |what| format!("{what} ({error})"));
+                anyhow::Error::new(error).context(format!("{file}: {what}"))
+            }
+        }
+    }
+}
+
+impl From<rusqlite::Error> for Fault {
+    fn from(error: rusqlite::Error) -> Fault {
+        Fault::File(error)
     }
 }
 
@@ -92,13 +105,27 @@ fn sealed(folder: &Path) -> String {
 }
 
 /// Why a request was not taken.
-#[derive(Debug, thiserror::Error)]
+#[derive(Debug)]
 pub(super) enum NotTaken {
     /// It never will be.
-    #[error("{0}")]
     Refused(String),
-    #[error(transparent)]
-    Fault(#[from] SqliteFault),
+    Fault(Fault),
+}
+
+impl From<Fault> for NotTaken {
+    fn from(fault: Fault) -> NotTaken {
+        NotTaken::Fault(fault)
+    }
+}
+
+impl From<rusqlite::Error> for NotTaken {
+    /// Content that no SQLite takes is refused for good; all else may mend itself.
+    fn from(error: rusqlite::Error) -> NotTaken {
+        match error.sqlite_error_code() {
+            Some(ErrorCode::TooBig) => NotTaken::Refused(format!("too long for SQLite: {error}")),
+            _ => NotTaken::Fault(error.into()),
+        }
+    }
 }
 
 impl From<NotForwarded> for NotTaken {

@@ -19,13 +19,13 @@ mod wide_integers;
 #[cfg(test)]
 mod tests;
 
-pub use fault::SqliteFault;
 pub use wide_integers::Exact;
 
 use super::periods::{Deed, Told};
 use super::{Answer, Fate, Forwarded, Keys, Memory, Retention, Sink};
 use crate::core::give_back_of_thread;
-use fault::NotTaken;
+use anyhow::Context;
+use fault::{Fault, NotTaken};
 use std::path::{Path, PathBuf};
 use std::sync::mpsc::{self, RecvTimeoutError};
 use std::sync::Arc;
@@ -53,11 +53,7 @@ type Job = Box<dyn FnOnce(&mut Writer) + Send>;
 impl SqliteSink {
     /// Opens the file, made where there is none. A file that can't be opened now is opened at a later delivery; one
     /// that must not be written (of a later version, of another program, another than is remembered) is an error.
-    pub fn open(
-        path: &Path,
-        retention: Retention,
-        memory: Arc<dyn Memory>,
-    ) -> Result<SqliteSink, SqliteFault> {
+    pub fn open(path: &Path, retention: Retention, memory: Arc<dyn Memory>) -> anyhow::Result<SqliteSink> {
         let mut writer = Writer {
             path: path.into(),
             store: None,
@@ -69,17 +65,16 @@ impl SqliteSink {
         };
         if let Err(fault) = writer.store() {
             if fault.is_lasting() {
-                return Err(fault);
+                return Err(fault.at(path));
             }
-            let reason = fault.to_string();
+            let reason = fault.at(path).to_string();
             tracing::warn!(reason, "{reason}; it is opened again at each delivery");
         }
         let (jobs, received) = mpsc::channel::<Job>();
         let write = move || writer.run(&received);
-        let thread = std::thread::Builder::new()
-            .name("sqlite".into())
-            .spawn(write)
-            .map_err(|source| SqliteFault::Thread { path: path.into(), source })?;
+        let thread = std::thread::Builder::new().name("sqlite".into()).spawn(write);
+        let thread =
+            thread.with_context(|| format!("the thread that writes {} can't be started", path.display()))?;
         Ok(SqliteSink { path: path.into(), jobs: Some(jobs), thread: Some(thread), keys: Keys::default() })
     }
 
@@ -144,7 +139,7 @@ struct Writer {
 }
 
 impl Writer {
-    fn store(&mut self) -> Result<&mut Store, SqliteFault> {
+    fn store(&mut self) -> Result<&mut Store, Fault> {
         let open = match self.store.take() {
             Some(store) => self.sound(store)?,
             None => None,
@@ -163,7 +158,7 @@ impl Writer {
 
     /// An open file, unless its rows would go where nobody reads them. What is only in a log that was deleted is copied
     /// into the file first, and stays open until it can be.
-    fn sound(&mut self, store: Store) -> Result<Option<Store>, SqliteFault> {
+    fn sound(&mut self, store: Store) -> Result<Option<Store>, Fault> {
         let path = self.path.display();
         match store.file_state() {
             FileState::Intact => return Ok(Some(store)),
@@ -193,7 +188,8 @@ impl Writer {
             return;
         }
         let fault = self.store().err();
-        if let Some(reason) = fault.filter(|_| !self.is_told).map(|fault| fault.to_string()) {
+        if let Some(fault) = fault.filter(|_| !self.is_told).map(|fault| fault.at(&self.path)) {
+            let reason = fault.to_string();
             tracing::error!(reason, "its -wal was deleted, and can't be saved: {reason}");
         }
         self.is_told = self.is(FileState::WithoutLog);
@@ -218,35 +214,30 @@ impl Writer {
 
     /// A step of what is to be done beside deliveries, in a file that is open. Whether there is another.
     fn keep_up(&mut self) -> bool {
-        if !self.upkeep.is_due() || !self.is(FileState::Intact) {
+        let is_to_go_on =
+            |store: &&mut Store| self.upkeep.is_due() && store.file_state() == FileState::Intact;
+        let Some(store) = self.store.as_mut().filter(is_to_go_on) else {
             return false;
-        }
+        };
         let now = SystemTime::now().duration_since(UNIX_EPOCH).unwrap_or_default();
         let now = u64::try_from(now.as_nanos()).unwrap_or(u64::MAX);
-        match self.step(now) {
+        match self.upkeep.go_on(&mut store.connection, now).map_err(Fault::from) {
             Ok(more) => {
                 self.is_kept = true;
                 more
             }
             Err(fault) => {
-                let reason = fault.to_string();
+                self.close_after(&fault);
                 if std::mem::replace(&mut self.is_kept, false) {
+                    let reason = fault.at(&self.path).to_string();
                     tracing::warn!(reason, "{reason}; what is too old there is deleted later");
                 }
-                self.close_after(&fault);
                 false
             }
         }
     }
 
-    fn step(&mut self, now: u64) -> Result<bool, SqliteFault> {
-        match &mut self.store {
-            Some(store) => store.keep_up(&mut self.upkeep, now),
-            None => Ok(false),
-        }
-    }
-
-    fn close_after(&mut self, fault: &SqliteFault) {
+    fn close_after(&mut self, fault: &Fault) {
         if !fault.leaves_the_file_whole() && !self.is(FileState::WithoutLog) {
             self.store = None;
         }
@@ -267,21 +258,22 @@ impl Writer {
             Err(NotTaken::Refused(reason)) => Fate::refused(reason),
             Err(NotTaken::Fault(fault)) => {
                 self.close_after(&fault);
-                Fate::again(fault.to_string())
+                Fate::again(fault.at(&self.path).to_string())
             }
         }
     }
 
     /// Where the file is opened anew meanwhile nothing is known of what was asked for: it may be asked for again.
     fn settle(&mut self, who: &str, deed: &Deed) -> Told {
-        match self.store().and_then(|store| store.settle_period(who, deed)) {
+        let settle = |store: &mut Store| Ok(periods::settle(&mut store.connection, who, deed)?);
+        match self.store().and_then(settle) {
             Ok(_) if !self.is(FileState::Intact) => {
                 Told::Later(format!("{} or its -wal was deleted meanwhile", self.path.display()))
             }
             Ok(told) => told,
             Err(fault) => {
                 self.close_after(&fault);
-                Told::Later(fault.to_string())
+                Told::Later(fault.at(&self.path).to_string())
             }
         }
     }

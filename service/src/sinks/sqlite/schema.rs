@@ -1,6 +1,6 @@
 //! The file's schema: a version in it, and the steps that lead from each version to the next.
 
-use super::fault::SqliteFault;
+use super::fault::Fault;
 use rusqlite::{Connection, TransactionBehavior};
 use std::path::Path;
 
@@ -22,22 +22,21 @@ pub(super) fn migrate(
     path: &Path,
     steps: &[&str],
     views: &str,
-) -> Result<(), SqliteFault> {
-    let fault = |error| SqliteFault::of(path, error);
+) -> Result<(), Fault> {
     let known = steps.len() as i64;
-    if check(connection, path, known)? == known {
+    if check(connection, known)? == known {
         return Ok(());
     }
     // Another process may have done it since: the version is read anew, under the lock.
-    let transaction = connection.transaction_with_behavior(TransactionBehavior::Immediate).map_err(fault)?;
-    let version = check(&transaction, path, known)?;
+    let transaction = connection.transaction_with_behavior(TransactionBehavior::Immediate)?;
+    let version = check(&transaction, known)?;
     for step in &steps[version as usize..] {
-        transaction.execute_batch(step).map_err(fault)?;
+        transaction.execute_batch(step)?;
     }
-    transaction.execute_batch(views).map_err(fault)?;
-    transaction.pragma_update(None, "application_id", APPLICATION).map_err(fault)?;
-    transaction.pragma_update(None, "user_version", known).map_err(fault)?;
-    transaction.commit().map_err(fault)?;
+    transaction.execute_batch(views)?;
+    transaction.pragma_update(None, "application_id", APPLICATION)?;
+    transaction.pragma_update(None, "user_version", known)?;
+    transaction.commit()?;
     if version > 0 {
         tracing::info!("{} was brought from schema {version} to {known}", path.display());
     }
@@ -48,29 +47,25 @@ pub(super) fn migrate(
 pub(super) const WITH_ID: i64 = 2;
 
 /// By which a file is told from others.
-pub(super) fn id(connection: &Connection, path: &Path) -> Result<String, SqliteFault> {
-    connection
-        .query_row("select id from sink", [], |row| row.get(0))
-        .map_err(|error| SqliteFault::of(path, error))
+pub(super) fn id(connection: &Connection) -> rusqlite::Result<String> {
+    connection.query_row("select id from sink", [], |row| row.get(0))
 }
 
 /// The version of a file that is ours; 0 where it is empty.
-pub(super) fn check(connection: &Connection, path: &Path, known: i64) -> Result<i64, SqliteFault> {
-    let number = |query: &str| -> Result<i64, SqliteFault> {
-        connection.query_row(query, [], |row| row.get(0)).map_err(|error| SqliteFault::of(path, error))
-    };
+pub(super) fn check(connection: &Connection, known: i64) -> Result<i64, Fault> {
+    let number = |query: &str| connection.query_row(query, [], |row| row.get::<_, i64>(0));
     let version = number("pragma user_version")?;
     let application = number("pragma application_id")?;
     if application == APPLICATION {
         if version > known {
-            return Err(SqliteFault::Later { path: path.into(), found: version, known });
+            return Err(Fault::Later { found: version, known });
         }
         if version > 0 {
             return Ok(version);
         }
     }
     if application != 0 || version != 0 || number("select count(*) from sqlite_schema")? != 0 {
-        return Err(SqliteFault::Foreign { path: path.into() });
+        return Err(Fault::Foreign);
     }
     Ok(0)
 }
@@ -90,7 +85,7 @@ mod tests {
         let mut connection = Connection::open_in_memory().expect("memory");
         let path = Path::new("x.db");
         migrate(&mut connection, path, &TWO[..1], "").expect("version 1");
-        assert_eq!(check(&connection, path, 1).expect("version"), 1);
+        assert_eq!(check(&connection, 1).expect("version"), 1);
         for _ in 0..3 {
             migrate(&mut connection, path, TWO, "").expect("version 2");
             assert_eq!(rows(&connection), 1);
@@ -104,7 +99,7 @@ mod tests {
         migrate(&mut connection, path, &TWO[..1], "").expect("version 1");
         let steps = [TWO[0], TWO[1], "create table b (x); no sql"];
         assert!(migrate(&mut connection, path, &steps, "").is_err());
-        assert_eq!(check(&connection, path, 3).expect("version"), 1);
+        assert_eq!(check(&connection, 3).expect("version"), 1);
         migrate(&mut connection, path, TWO, "").expect("version 2");
         assert_eq!(rows(&connection), 1);
     }
@@ -115,7 +110,7 @@ mod tests {
             let mut connection = Connection::open_in_memory().expect("memory");
             connection.execute_batch(foreign).expect("theirs");
             let error = migrate(&mut connection, Path::new("x.db"), TWO, "").expect_err("it is theirs");
-            assert!(matches!(error, SqliteFault::Foreign { .. }), "{error}");
+            assert!(matches!(error, Fault::Foreign), "{error:?}");
         }
     }
 }

@@ -1,17 +1,16 @@
 //! The open file: one transaction a request, whole or not at all.
 
 use super::cached;
-use super::fault::{NotTaken, SqliteFault};
+use super::fault::{Fault, NotTaken};
 use super::horizon::Horizon;
 use super::periods;
 use super::schema::{self, STEPS};
 use super::totals::SeriesTotal;
-use super::upkeep::Upkeep;
 use super::views::views;
 use super::wide_integers::Unsigned;
 use crate::otlp::series::{self, Digest, ForwardedPoint, SeriesKey};
 use crate::sinks::left_out::{shown, LeftOut};
-use crate::sinks::periods::{Closed, Deed, Told};
+use crate::sinks::periods::Closed;
 use crate::sinks::Forwarded;
 use rusqlite::{params, Connection, OpenFlags, Transaction, TransactionBehavior};
 use std::collections::HashMap;
@@ -55,36 +54,30 @@ impl Store {
     pub(super) fn open(
         path: &Path,
         admit: &dyn Fn(Option<&str>) -> Result<(), String>,
-    ) -> Result<Store, SqliteFault> {
-        let fault = |error| SqliteFault::of(path, error);
+    ) -> Result<Store, Fault> {
         let flags = OpenFlags::SQLITE_OPEN_READ_WRITE
             | OpenFlags::SQLITE_OPEN_CREATE
             | OpenFlags::SQLITE_OPEN_NO_MUTEX;
         if !path.exists() {
-            admit(None).map_err(SqliteFault::Another)?;
+            admit(None).map_err(Fault::Another)?;
         }
         make_private(path);
-        let mut connection = Connection::open_with_flags(path, flags).map_err(fault)?;
-        connection.busy_timeout(PATIENCE).map_err(fault)?;
+        let mut connection = Connection::open_with_flags(path, flags)?;
+        connection.busy_timeout(PATIENCE)?;
         connection.set_prepared_statement_cache_capacity(STATEMENTS);
         // Before anything is changed: the file may be another program's.
-        let version = schema::check(&connection, path, STEPS.len() as i64)?;
-        let id = (version >= schema::WITH_ID).then(|| schema::id(&connection, path)).transpose()?;
-        admit(id.as_deref()).map_err(SqliteFault::Another)?;
-        let mode: String =
-            connection.query_row("pragma journal_mode = wal", [], |row| row.get(0)).map_err(fault)?;
+        let version = schema::check(&connection, STEPS.len() as i64)?;
+        let id = (version >= schema::WITH_ID).then(|| schema::id(&connection)).transpose()?;
+        admit(id.as_deref()).map_err(Fault::Another)?;
+        let mode: String = connection.query_row("pragma journal_mode = wal", [], |row| row.get(0))?;
         if mode != "wal" {
-            return Err(SqliteFault::told(
-                path,
-                "its file system has no write-ahead log: name a file on a local disk",
-            ));
+            return Err(Fault::told("its file system has no write-ahead log: name a file on a local disk"));
         }
-        connection.execute_batch("pragma synchronous = full; pragma foreign_keys = on").map_err(fault)?;
+        connection.execute_batch("pragma synchronous = full; pragma foreign_keys = on")?;
         schema::migrate(&mut connection, path, STEPS, &views())?;
-        settle(&connection, path)?;
-        admit(Some(&schema::id(&connection, path)?)).map_err(SqliteFault::Another)?;
-        let place =
-            place(path).ok_or_else(|| SqliteFault::told(path, "it was deleted while it was opened"))?;
+        settle(&connection)?;
+        admit(Some(&schema::id(&connection)?)).map_err(Fault::Another)?;
+        let place = place(path).ok_or_else(|| Fault::told("it was deleted while it was opened"))?;
         Ok(Store {
             path: path.into(),
             connection,
@@ -105,40 +98,24 @@ impl Store {
     }
 
     /// Copies into the file what is in the log, which may have no name any more.
-    pub(super) fn settle(&self) -> Result<(), SqliteFault> {
-        settle(&self.connection, &self.path)
-    }
-
-    /// A step of the upkeep, at this time. Whether another is to follow.
-    pub(super) fn keep_up(&mut self, upkeep: &mut Upkeep, now: u64) -> Result<bool, SqliteFault> {
-        let done = upkeep.go_on(&mut self.connection, now);
-        done.map_err(|error| SqliteFault::of(&self.path, error))
-    }
-
-    /// Closes or opens a period, or corrects.
-    pub(super) fn settle_period(&mut self, who: &str, deed: &Deed) -> Result<Told, SqliteFault> {
-        let done = periods::settle(&mut self.connection, who, deed);
-        done.map_err(|error| SqliteFault::of(&self.path, error))
+    pub(super) fn settle(&self) -> Result<(), Fault> {
+        settle(&self.connection)
     }
 
     /// Takes a request that is not taken yet, but for spans that overlap: these are left.
     pub(super) fn take(&mut self, request: &Forwarded) -> Result<LeftOut, NotTaken> {
         let points = series::forwarded(&request.body)?;
-        let fault = |error: rusqlite::Error| -> NotTaken { not_taken(&self.path, error) };
-        let transaction =
-            self.connection.transaction_with_behavior(TransactionBehavior::Immediate).map_err(fault)?;
-        let version: i64 =
-            cached::one(&transaction, "pragma data_version", [], |row| row.get(0)).map_err(fault)?;
+        let transaction = self.connection.transaction_with_behavior(TransactionBehavior::Immediate)?;
+        let version: i64 = cached::one(&transaction, "pragma data_version", [], |row| row.get(0))?;
         if version != self.data_version || self.series.len() > CACHED {
             self.series.clear();
             self.data_version = version;
         }
-        let taken = repeat::find(&transaction, request).map_err(fault)?;
-        let horizon = Horizon::read(&transaction).map_err(fault)?;
-        let closed = periods::read(&transaction).map_err(fault)?;
+        let taken = repeat::find(&transaction, request)?;
+        let horizon = Horizon::read(&transaction)?;
+        let closed = periods::read(&transaction)?;
         let mut writing = Writing {
             transaction,
-            path: &self.path,
             horizon,
             closed,
             known: &self.series,
@@ -149,7 +126,7 @@ impl Store {
             return writing.left_of(&taken, &points);
         }
         let left = writing.request(request, &points)?;
-        let new = writing.commit().map_err(fault)?;
+        let new = writing.commit()?;
         self.series.extend(new);
         Ok(left)
     }
@@ -176,13 +153,14 @@ fn is_of_a_group(path: &Path) -> bool {
 /// Copies the log into the file, and syncs it. What an earlier run wrote and did not sync, or could not sync, may be
 /// read and yet not be on the disk; a key that is read is acknowledged, and its request leaves the outbox. So nothing
 /// is believed before it was written anew.
-fn settle(connection: &Connection, path: &Path) -> Result<(), SqliteFault> {
-    let (busy, log, copied): (i64, i64, i64) = connection
-        .query_row("pragma wal_checkpoint(full)", [], |row| Ok((row.get(0)?, row.get(1)?, row.get(2)?)))
-        .map_err(|error| SqliteFault::of(path, error))?;
+fn settle(connection: &Connection) -> Result<(), Fault> {
+    let (busy, log, copied): (i64, i64, i64) =
+        connection.query_row("pragma wal_checkpoint(full)", [], |row| {
+            Ok((row.get(0)?, row.get(1)?, row.get(2)?))
+        })?;
     if busy != 0 || log != copied {
         let what = "another process has read it for long, so its log can't be made sure: end what reads it";
-        return Err(SqliteFault::told(path, what));
+        return Err(Fault::told(what));
     }
     Ok(())
 }
@@ -209,14 +187,6 @@ fn place(path: &Path) -> Option<(u64, u64)> {
     std::fs::metadata(path).ok().map(|found| (found.dev(), found.ino()))
 }
 
-/// Content that no SQLite takes is refused for good; all else may mend itself.
-fn not_taken(path: &Path, error: rusqlite::Error) -> NotTaken {
-    match error.sqlite_error_code() {
-        Some(rusqlite::ErrorCode::TooBig) => NotTaken::Refused(format!("too long for SQLite: {error}")),
-        _ => SqliteFault::of(path, error).into(),
-    }
-}
-
 /// Why a point is left of which nobody can say whether it was counted.
 fn untold(point: &ForwardedPoint, until: Unsigned) -> String {
     format!(
@@ -237,7 +207,6 @@ fn time_of(points: &[ForwardedPoint]) -> (u64, u64) {
 /// A transaction while a request is written.
 struct Writing<'a> {
     transaction: Transaction<'a>,
-    path: &'a Path,
     horizon: Horizon,
     closed: Closed,
     known: &'a HashMap<Digest, SeriesIds>,
@@ -255,19 +224,17 @@ impl Writing<'_> {
     /// What is left, where it is not all: a request of which nothing can be added is refused as it is.
     fn request(&mut self, request: &Forwarded, points: &[ForwardedPoint]) -> Result<LeftOut, NotTaken> {
         let (first_start, last) = time_of(points);
-        let row = self.of(|transaction| {
-            let insert =
-                "insert into request (slot, epoch, number, taken_at, points, first_start_ns, last_end_ns)
+        let insert =
+            "insert into request (slot, epoch, number, taken_at, points, first_start_ns, last_end_ns)
                      values (?1, ?2, ?3, cast(strftime('%s', 'now') as integer), ?4, ?5, ?6)";
-            transaction.prepare_cached(insert)?.insert(params![
-                request.slot,
-                request.epoch,
-                Unsigned(request.number),
-                points.len() as i64,
-                Unsigned(first_start),
-                Unsigned(last)
-            ])
-        })?;
+        let row = self.transaction.prepare_cached(insert)?.insert(params![
+            request.slot,
+            request.epoch,
+            Unsigned(request.number),
+            points.len() as i64,
+            Unsigned(first_start),
+            Unsigned(last)
+        ])?;
         let mut left = LeftOut::default();
         for point in points {
             if let Some(reason) = self.point(spans::Request { row, first_start }, point)? {
@@ -278,9 +245,9 @@ impl Writing<'_> {
             return Err(NotTaken::Refused(left.reason));
         }
         let hours = std::mem::take(&mut self.hours);
-        self.of(|transaction| hours.write(transaction, self.horizon.hours_from))?;
+        hours.write(&self.transaction, self.horizon.hours_from)?;
         if !left.is_empty() {
-            self.of(|transaction| repeat::set_points(transaction, row, points.len() - left.places.len()))?;
+            repeat::set_points(&self.transaction, row, points.len() - left.places.len())?;
         }
         Ok(left)
     }
@@ -293,7 +260,7 @@ impl Writing<'_> {
         let (known, is_new) = self.series(&point.series)?;
         let total = match is_new {
             true => None,
-            false => self.of(|transaction| Total::read(transaction, known.series))?,
+            false => Total::read(&self.transaction, known.series)?,
         };
         if let Some(total) = total.as_ref().filter(|total| total.may_overlap(point)) {
             if let Some(reason) = self.overlap(request.row, known.series, point)? {
@@ -304,14 +271,14 @@ impl Writing<'_> {
                 return Ok(Some(untold(point, until)));
             }
         }
-        self.of(|transaction| spans::insert(transaction, request, known.series, point))?;
+        spans::insert(&self.transaction, request, known.series, point)?;
         let total = match total {
             None => Total::of(point),
             Some(total) => {
                 total.and(point).map_err(|why| NotTaken::Refused(format!("{why}: {}", shown(point))))?
             }
         };
-        self.of(|transaction| total.write(transaction, known.series))?;
+        total.write(&self.transaction, known.series)?;
         self.hours.add(known, point.end, &point.value, &self.closed);
         Ok(None)
     }
@@ -323,7 +290,7 @@ impl Writing<'_> {
             return Ok((*known, false));
         }
         let series = SeriesTotal::of_none(key)?;
-        let (known, is_new) = self.of(|transaction| SeriesRow::of(&series).known(transaction))?;
+        let (known, is_new) = SeriesRow::of(&series).known(&self.transaction)?;
         self.new.insert(digest, known);
         Ok((known, is_new))
     }
@@ -331,7 +298,7 @@ impl Writing<'_> {
     /// A span that overlaps one that is there was counted before, at least in part. Two of one request are no request of
     /// a gateway.
     fn overlap(&self, row: i64, series: i64, point: &ForwardedPoint) -> Result<Option<String>, NotTaken> {
-        let found = self.of(|transaction| spans::overlapping(transaction, &self.horizon, series, point))?;
+        let found = spans::overlapping(&self.transaction, &self.horizon, series, point)?;
         let Some(found) = found else { return Ok(None) };
         let reason = format!(
             "the span {} overlaps ({}, {}], which the file has already",
@@ -343,9 +310,5 @@ impl Writing<'_> {
             true => Err(NotTaken::Refused(reason)),
             false => Ok(Some(reason)),
         }
-    }
-
-    fn of<T>(&self, call: impl FnOnce(&Transaction) -> rusqlite::Result<T>) -> Result<T, NotTaken> {
-        call(&self.transaction).map_err(|error| not_taken(self.path, error))
     }
 }

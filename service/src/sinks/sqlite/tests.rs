@@ -86,6 +86,12 @@ impl Trial {
         }
     }
 
+    /// A step of the upkeep, in the file that is open.
+    fn step_at(&mut self, now: u64) -> rusqlite::Result<bool> {
+        let store = self.writer.store.as_mut().expect("it is open");
+        self.writer.upkeep.go_on(&mut store.connection, now)
+    }
+
     fn reopen(&mut self) {
         self.writer = writer(&self.path());
     }

@@ -1,6 +1,6 @@
 //! Reads a file's totals, also while the service writes it.
 
-use super::fault::SqliteFault;
+use super::fault::Fault;
 use super::schema::{self, STEPS};
 use super::wide_integers::{Exact, Unsigned};
 use crate::otlp::series::{Kind as Identified, NotForwarded, SeriesKey};
@@ -160,17 +160,19 @@ pub fn text(value: &Value) -> String {
 }
 
 /// The totals of a file, by name and attributes, as of one moment.
-pub fn read(path: &Path, filter: &Filter) -> Result<Vec<SeriesTotal>, SqliteFault> {
-    let fault = |error| SqliteFault::of(path, error);
+pub fn read(path: &Path, filter: &Filter) -> anyhow::Result<Vec<SeriesTotal>> {
+    totals(path, filter).map_err(|fault| fault.at(path))
+}
+
+fn totals(path: &Path, filter: &Filter) -> Result<Vec<SeriesTotal>, Fault> {
     let connection = open(path)?;
-    if schema::check(&connection, path, STEPS.len() as i64)? == 0 {
+    if schema::check(&connection, STEPS.len() as i64)? == 0 {
         return Ok(Vec::new());
     }
-    let mut query = connection.prepare(READ).map_err(fault)?;
-    let rows = query.query_map([&filter.name], row).map_err(fault)?;
+    let mut query = connection.prepare(READ)?;
     let mut totals = Vec::new();
-    for row in rows {
-        let row = row.map_err(fault)?;
+    for row in query.query_map([&filter.name], row)? {
+        let row = row?;
         if filter.takes(&row) {
             totals.push(row);
         }
@@ -180,10 +182,9 @@ pub fn read(path: &Path, filter: &Filter) -> Result<Vec<SeriesTotal>, SqliteFaul
 
 /// Opens a file to read. A reader of a write-ahead log writes to a file beside it; who may not, and finds no log,
 /// reads the file as one that nobody writes.
-pub(crate) fn open(path: &Path) -> Result<Connection, SqliteFault> {
-    let fault = |error| SqliteFault::of(path, error);
+pub(crate) fn open(path: &Path) -> Result<Connection, Fault> {
     if !path.is_file() {
-        return Err(SqliteFault::told(path, "there is no such file: nothing was delivered to it yet"));
+        return Err(Fault::told("there is no such file: nothing was delivered to it yet"));
     }
     let flags = OpenFlags::SQLITE_OPEN_READ_ONLY | OpenFlags::SQLITE_OPEN_NO_MUTEX;
     let tried = Connection::open_with_flags(path, flags).and_then(|connection| {
@@ -194,9 +195,9 @@ pub(crate) fn open(path: &Path) -> Result<Connection, SqliteFault> {
     let code = tried.as_ref().err().and_then(|error| error.sqlite_error_code());
     if matches!(code, Some(ErrorCode::CannotOpen | ErrorCode::ReadOnly)) && !has_log(path) {
         let flags = flags | OpenFlags::SQLITE_OPEN_URI;
-        return Connection::open_with_flags(uri(path), flags).map_err(fault);
+        return Ok(Connection::open_with_flags(uri(path), flags)?);
     }
-    tried.map_err(fault)
+    Ok(tried?)
 }
 
 fn has_log(path: &Path) -> bool {

@@ -66,12 +66,12 @@ impl Writing<'_> {
     }
 
     fn may_be_deleted(&self, series: i64, point: &ForwardedPoint) -> Result<bool, NotTaken> {
-        let total = self.of(|transaction| Total::read(transaction, series))?;
+        let total = Total::read(&self.transaction, series)?;
         Ok(total.is_some_and(|total| point.start < total.deleted_until(self.horizon.spans_from).0))
     }
 
     fn has_span(&self, taken: &Taken, series: i64, point: &ForwardedPoint) -> Result<bool, NotTaken> {
         let request = spans::Request { row: taken.row, first_start: taken.time.0 };
-        self.of(|transaction| spans::has(transaction, request, series, point))
+        Ok(spans::has(&self.transaction, request, series, point)?)
     }
 }

@@ -56,7 +56,7 @@ fn a_lock_holds_up_the_upkeep_alone() {
     trial.taken(2, sum("a", 20, 30, 2));
     assert!(!trial.writer.keep_up(), "it is not due yet");
     assert_eq!(trial.ask("select count(*) from span"), "2");
-    assert_eq!(trial.writer.step(10_000_000_000).ok(), Some(true));
+    assert_eq!(trial.step_at(10_000_000_000), Ok(true));
     assert_eq!(trial.ask("select count(*) from span"), "0");
     assert_eq!(trial.totals(), only("a", 3, 2));
 }

@@ -22,7 +22,7 @@ impl Trial {
     pub(super) fn step(&mut self, now: u64) -> bool {
         self.writer.store().expect("it is open");
         self.writer.upkeep.step = 7;
-        self.writer.step(now).expect("a step")
+        self.step_at(now).expect("a step")
     }
 
     /// Until there is nothing to do. How many steps it were.
