@@ -37,26 +37,14 @@ struct Status {
     message: String,
 }
 
-/// The body of an answer, as far as it came.
-enum Read {
-    Whole(Vec<u8>),
-    TooLong,
-    Cut,
-}
-
-impl Read {
-    /// No message of protobuf that is an answer begins so; behind a blank it may.
-    fn is_object(&self) -> bool {
-        matches!(self, Read::Whole(bytes) if bytes.starts_with(b"{"))
-    }
-}
-
 /// Reads an answer until the deadline.
 pub(super) async fn fate(response: Response<Body>, sent: Encoding, deadline: Instant) -> Fate {
     let (head, body) = response.into_parts();
-    let body = timeout_at(deadline, read(body)).await.unwrap_or(Read::Cut);
+    let body = timeout_at(deadline, read(body)).await.ok().flatten();
+    // No message of protobuf that is an answer begins so; behind a blank it may.
+    let is_object = body.as_ref().is_some_and(|bytes| bytes.starts_with(b"{"));
     let encoding = match encoding_of(&head.headers) {
-        None if body.is_object() => Encoding::Json,
+        None if is_object => Encoding::Json,
         known => known.unwrap_or(sent),
     };
     let status = head.status.as_u16();
@@ -91,22 +79,23 @@ fn encoding_of(headers: &HeaderMap) -> Option<Encoding> {
     }
 }
 
-async fn read(mut body: Body) -> Read {
+/// The body of an answer; none where it is cut, or too long.
+async fn read(mut body: Body) -> Option<Vec<u8>> {
     let mut bytes = Vec::new();
-    loop {
-        match body.data().await {
-            None => return Read::Whole(bytes),
-            Some(Err(_)) => return Read::Cut,
-            Some(Ok(part)) if bytes.len() + part.len() > LONGEST_ANSWER => return Read::TooLong,
-            Some(Ok(part)) => bytes.extend_from_slice(&part),
+    while let Some(part) = body.data().await {
+        let part = part.ok()?;
+        if bytes.len() + part.len() > LONGEST_ANSWER {
+            return None;
         }
+        bytes.extend_from_slice(&part);
     }
+    Some(bytes)
 }
 
 /// The status alone says that the request is taken: sent again because of what is wrong behind it, a sink that does
 /// not know keys would count it twice.
-fn taken(body: Read, encoding: Encoding) -> Fate {
-    let Read::Whole(bytes) = body else {
+fn taken(body: Option<Vec<u8>>, encoding: Encoding) -> Fate {
+    let Some(bytes) = body else {
         tracing::warn!(
             "a sink took a request, but its answer was cut, or is over {LONGEST_ANSWER} bytes: nothing is known of points \
              that it may have rejected"
@@ -134,8 +123,8 @@ fn taken(body: Read, encoding: Encoding) -> Fate {
 }
 
 /// What the sink says is wrong.
-fn message(body: Read, encoding: Encoding) -> String {
-    let Read::Whole(bytes) = body else {
+fn message(body: Option<Vec<u8>>, encoding: Encoding) -> String {
+    let Some(bytes) = body else {
         return String::new();
     };
     let told = match encoding {
