@@ -38,20 +38,6 @@ pub enum BadAddress {
     Postgres(String),
 }
 
-/// Reads what follows a scheme and its colon.
-type Read = fn(&str) -> Result<Address, BadAddress>;
-
-const SCHEMES: [(&str, Read); 5] = [
-    ("sqlite", |rest| match rest {
-        "" => Err(BadAddress::Empty),
-        path => Ok(Address::Sqlite(path.into())),
-    }),
-    ("http", |rest| otlp(format!("http:{rest}"))),
-    ("https", |rest| otlp(format!("https:{rest}"))),
-    ("postgres", postgres),
-    ("postgresql", postgres),
-];
-
 impl FromStr for Address {
     type Err = BadAddress;
 
@@ -63,17 +49,18 @@ impl FromStr for Address {
         let Some((scheme, rest)) = text.split_once(':') else {
             return Ok(Address::Sqlite(text.into()));
         };
-        match SCHEMES.iter().find(|(known, _)| known.eq_ignore_ascii_case(scheme)) {
-            Some((_, read)) => read(rest),
-            None if scheme.contains('/') => Ok(Address::Sqlite(text.into())),
+        match scheme.to_ascii_lowercase().as_str() {
+            "sqlite" if rest.is_empty() => Err(BadAddress::Empty),
+            "sqlite" => Ok(Address::Sqlite(rest.into())),
+            scheme @ ("http" | "https") => otlp(format!("{scheme}:{rest}")),
+            "postgres" | "postgresql" => {
+                Server::read(rest).map(Address::Postgres).map_err(BadAddress::Postgres)
+            }
+            _ if scheme.contains('/') => Ok(Address::Sqlite(text.into())),
             // Also HOST:PORT, which would else be a file.
-            None => Err(BadAddress::Unknown(scheme.into())),
+            _ => Err(BadAddress::Unknown(scheme.into())),
         }
     }
-}
-
-fn postgres(rest: &str) -> Result<Address, BadAddress> {
-    Server::read(rest).map(Address::Postgres).map_err(BadAddress::Postgres)
 }
 
 /// A URL without a path is a collector's base, whose metrics are at `/v1/metrics`.
