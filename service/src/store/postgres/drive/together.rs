@@ -144,18 +144,13 @@ impl Line {
     }
 
     async fn put(&mut self, mut all: Vec<Brought>) {
-        let answer: Box<dyn Fn(usize) -> Answer> = match self.try_put(&mut all).await {
-            Ok(done) => {
-                let number = self.number;
-                Box::new(move |place| done.contains(&place).then_some(number).ok_or(None))
-            }
-            Err(doubt) => {
-                let doubt = Arc::new(doubt);
-                Box::new(move |_| Err(Some(doubt.clone())))
-            }
-        };
+        let done = self.try_put(&mut all).await.map_err(Arc::new);
         for (place, one) in all.into_iter().enumerate() {
-            let _ = one.answer.send(answer(place)); // who has lost its slot is gone
+            let answer = match &done {
+                Ok(done) => done.contains(&place).then_some(self.number).ok_or(None),
+                Err(doubt) => Err(Some(doubt.clone())),
+            };
+            let _ = one.answer.send(answer); // who has lost its slot is gone
         }
     }
 
