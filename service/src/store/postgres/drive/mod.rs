@@ -33,7 +33,7 @@ use std::ffi::OsString;
 use std::future::Future;
 use std::io;
 use std::path::Path;
-use std::sync::{mpsc, Arc, Mutex};
+use std::sync::{mpsc, Arc, Mutex, MutexGuard};
 use std::time::Duration;
 use together::Seat;
 use tokio::runtime::Handle;
@@ -90,8 +90,10 @@ impl PostgresDrive {
         self.leave();
     }
 
-    fn check(&self) -> io::Result<()> {
-        self.turns.check().map_err(|Lost| lost())
+    /// The files, while the slot is this owner's.
+    fn files(&self) -> io::Result<MutexGuard<'_, Files>> {
+        self.turns.check().map_err(|Lost| lost())?;
+        Ok(locked(&self.files))
     }
 
     /// Waits for work on the store's own threads, whatever thread this is, until it is done or the slot is lost.
@@ -190,32 +192,27 @@ impl PostgresDrive {
 
 impl Drive for PostgresDrive {
     fn create(&self, name: &Path) -> io::Result<u64> {
-        self.check()?;
-        locked(&self.files).create(name)
+        self.files()?.create(name)
     }
 
     fn open(&self, name: &Path) -> io::Result<u64> {
-        self.check()?;
-        locked(&self.files).open(name)
+        self.files()?.open(name)
     }
 
     fn list(&self, folder: &Path) -> io::Result<Vec<OsString>> {
-        self.check()?;
-        Ok(locked(&self.files).list(folder))
+        Ok(self.files()?.list(folder))
     }
 
     fn length(&self, file: u64) -> io::Result<u64> {
-        self.check()?;
-        locked(&self.files).length(file)
+        self.files()?.length(file)
     }
 
     fn read_at(&self, file: u64, bytes: &mut [u8], at: u64) -> io::Result<usize> {
         let mut fetched = HashMap::new();
         let mut asked = Vec::new();
         loop {
-            self.check()?;
             let known = |number| fetched.get(&number).cloned().or_else(|| locked(&self.cache).find(number));
-            let read = locked(&self.files).read(file, bytes, at, known)?;
+            let read = self.files()?.read(file, bytes, at, known)?;
             match read {
                 Read::Done(length) => return Ok(length),
                 Read::Needs(numbers) if numbers == asked => return Err(self.vanished(file, &numbers)),
@@ -228,20 +225,17 @@ impl Drive for PostgresDrive {
     }
 
     fn write_at(&self, file: u64, bytes: &[u8], at: u64) -> io::Result<()> {
-        self.check()?;
-        locked(&self.files).write(file, bytes, at)?;
+        self.files()?.write(file, bytes, at)?;
         self.together.come();
         Ok(())
     }
 
     fn rename(&self, from: &Path, to: &Path) -> io::Result<()> {
-        self.check()?;
-        locked(&self.files).rename(from, to)
+        self.files()?.rename(from, to)
     }
 
     fn remove(&self, name: &Path) -> io::Result<()> {
-        self.check()?;
-        locked(&self.files).remove(name)
+        self.files()?.remove(name)
     }
 
     fn board(&self) {
