@@ -144,7 +144,7 @@ impl<H: Here> Forward<H> {
                 Whose::There { address, term, .. } => {
                     asked += 1;
                     let peer = self.peers.at(address);
-                    let head = Head::new(slot, *term, sender, part.encoding);
+                    let head = Head { slot, term: *term, sender: sender.into(), encoding: part.encoding };
                     let late = began + WITHIN + on_the_way(part.body.len());
                     let said = self.ask(&peer, &head, &part, &whose, late).await;
                     self.heard(&peer, began, said)

@@ -51,10 +51,6 @@ pub(super) struct Head {
 }
 
 impl Head {
-    pub fn new(slot: u16, term: u64, sender: &str, encoding: Encoding) -> Head {
-        Head { slot, term, sender: sender.into(), encoding }
-    }
-
     pub fn put(&self, request: Builder, secret: &Secret) -> Builder {
         let content_type = match self.encoding {
             Encoding::Json => JSON,
@@ -93,7 +89,12 @@ mod tests {
     #[test]
     fn a_head_is_read_as_it_was_put_and_a_wrong_secret_is_none() {
         let secret = Secret::new("a secret").unwrap();
-        let head = Head::new(65535, u64::MAX, "web-1.example", Encoding::Protobuf);
+        let head = Head {
+            slot: 65535,
+            term: u64::MAX,
+            sender: "web-1.example".into(),
+            encoding: Encoding::Protobuf,
+        };
         let request = head.put(Request::post("/"), &secret).body(Body::empty()).unwrap();
         assert_eq!(Head::read(request.headers()), Some(head));
         assert!(secret.is_in(request.headers()));

@@ -137,7 +137,7 @@ async fn who_has_another_secret_or_none_is_asked_nothing() {
         async { asking.await.unwrap().status().as_u16() }
     };
     let uri = format!("http://{}{PATH}", peer.address);
-    let head = Head::new(3, 5, "web-1", Encoding::Json);
+    let head = Head { slot: 3, term: 5, sender: "web-1".into(), encoding: Encoding::Json };
     assert_eq!(ask(Request::post(&uri), "").await, 401);
     assert_eq!(ask(head.put(Request::get(&uri), &secret("of all")), "").await, 404);
     assert_eq!(ask(head.put(Request::post(format!("{uri}s")), &secret("of all")), "").await, 404);
