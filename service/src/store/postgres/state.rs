@@ -172,11 +172,11 @@ impl PostgresStore {
         })
     }
 
-    /// Whether each database says the same.
-    pub fn all_say(&self, standing: &Standing) -> Result<bool, StoreFault> {
+    /// Whether it is so in each database.
+    fn is_in_all(&self, is_so: impl AsyncFn(&Shared) -> Result<bool, Doubt>) -> Result<bool, StoreFault> {
         self.tried(async || {
             for database in self.takers() {
-                if database.standing().await? != *standing {
+                if !is_so(database).await? {
                     return Ok(false);
                 }
             }
@@ -184,16 +184,14 @@ impl PostgresStore {
         })
     }
 
+    /// Whether each database says the same.
+    pub fn all_say(&self, standing: &Standing) -> Result<bool, StoreFault> {
+        self.is_in_all(async |database| Ok(database.standing().await? == *standing))
+    }
+
     /// Whether no slot ever had anything.
     pub fn is_empty(&self) -> Result<bool, StoreFault> {
-        self.tried(async || {
-            for database in self.takers() {
-                if database.has_files().await? {
-                    return Ok(false);
-                }
-            }
-            Ok(true)
-        })
+        self.is_in_all(async |database| Ok(!database.has_files().await?))
     }
 
     /// Those that each database has.
