@@ -2,7 +2,7 @@
 
 use super::server::Server;
 use super::work::{take, wait, Work};
-use super::{make, open, SLOTS, STRAYS};
+use super::{make, open, opened, SLOTS, STRAYS};
 use std::thread;
 use std::time::Duration;
 use totxegun::cluster::terms::Refused;
@@ -10,7 +10,7 @@ use totxegun::store::postgres::{address, Copies, PostgresStore, StoreFault};
 
 fn refused(addresses: &[&str], copies: Copies, reading: &str, part: &str) {
     let servers: Vec<_> = addresses.iter().map(|text| address(text).unwrap()).collect();
-    match PostgresStore::open(&servers, copies, reading) {
+    match opened(&servers, copies, reading) {
         Ok(_) => panic!("it was opened: {part}"),
         Err(fault) => assert!(fault.to_string().contains(part), "{part} in {fault}"),
     }
@@ -33,7 +33,7 @@ fn a_start_refuses_what_is_no_store_or_another_or_can_lose() {
     refused(&[&one, &third], Copies::One, "a", "1 databases");
     refused(&[&one, &other], Copies::Two, "b", "no synchronous standby");
     let servers = [address(&one).unwrap(), address(&other).unwrap()];
-    drop(PostgresStore::open(&servers, Copies::One, "a").unwrap());
+    drop(opened(&servers, Copies::One, "a").unwrap());
     refused(&[&one, &other], Copies::One, "b", "There: a");
     server.ask("alter system set fsync = off");
     server.ask("select pg_reload_conf()");
@@ -80,7 +80,7 @@ fn a_store_that_was_made_in_part_is_made_whole() {
     assert!(drop_it.status.success());
     let second = PostgresStore::make(&servers, 8).unwrap();
     assert!(first == second);
-    let store = PostgresStore::open(&servers, Copies::One, "a").unwrap();
+    let store = opened(&servers, Copies::One, "a").unwrap();
     let slots = [0, 1].map(|database| wait(store.slots(database)).unwrap().len());
     assert_eq!((store.cluster.slots, slots), (8, [4, 4]));
     for slot in [2, 3] {
@@ -159,7 +159,7 @@ fn what_waiting_does_not_mend_is_told_from_a_server_that_is_away() {
     let Some(server) = Server::start("") else { return };
     let fault = |text: &str| {
         let servers = [address(text).unwrap()];
-        let opened = PostgresStore::open(&servers, Copies::One, "");
+        let opened = opened(&servers, Copies::One, "");
         opened.err().expect("it can't be opened")
     };
     assert!(fault("postgres://u@127.0.0.1:1/d").may_pass());

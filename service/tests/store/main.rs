@@ -13,7 +13,7 @@ mod work;
 
 use server::Server;
 use totxegun::files::drive::Drive;
-use totxegun::store::postgres::{address, Copies, PostgresStore};
+use totxegun::store::postgres::{address, Copies, PostgresStore, Server as StoreServer, StoreFault};
 use work::{take, Work};
 
 const SLOTS: u16 = 64;
@@ -29,7 +29,14 @@ fn rounds(usual: u64) -> u64 {
 
 fn open(addresses: &[&str], copies: Copies) -> PostgresStore {
     let servers: Vec<_> = addresses.iter().map(|text| address(text).unwrap()).collect();
-    PostgresStore::open(&servers, copies, "whole=auto").unwrap()
+    opened(&servers, copies, "whole=auto").unwrap()
+}
+
+/// As by an instance that reads posts so.
+fn opened(servers: &[StoreServer], copies: Copies, reading: &str) -> Result<PostgresStore, StoreFault> {
+    let store = PostgresStore::join(servers, copies)?;
+    store.agree(reading)?;
+    Ok(store)
 }
 
 fn make(addresses: &[&str]) {

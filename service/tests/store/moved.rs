@@ -2,15 +2,15 @@
 
 use super::server::Server;
 use super::work::wait;
-use super::{make, open};
+use super::{make, open, opened};
 use std::path::Path;
 use totxegun::files::{Durability, Folder, Mark, Way};
 use totxegun::store::moving::{from_folder, give_up, to_folder};
-use totxegun::store::postgres::{address, Copies, PostgresStore, Standing, State};
+use totxegun::store::postgres::{address, Copies, Standing, State};
 
 fn refused(addresses: &[&str], part: &str) {
     let servers: Vec<_> = addresses.iter().map(|text| address(text).unwrap()).collect();
-    match PostgresStore::open(&servers, Copies::One, "whole=auto") {
+    match opened(&servers, Copies::One, "whole=auto") {
         Ok(_) => panic!("it was opened: {part}"),
         Err(fault) => assert!(fault.to_string().contains(part), "{part} in {fault}"),
     }

@@ -122,21 +122,15 @@ impl PostgresStore {
         Threads::start()?.wait(schema::make(servers, slots))
     }
 
-    /// `reading` is what the meaning of posts hangs on: all instances have to say the same.
-    pub fn open(servers: &[Server], copies: Copies, reading: &str) -> Result<PostgresStore, StoreFault> {
-        let store = PostgresStore::join(servers, copies)?;
-        store.agree(reading)?;
-        Ok(store)
-    }
-
-    /// The same before it is known whether the instance may start: it has not agreed yet.
+    /// Before it is known whether the instance may start: it has not agreed yet.
     pub fn join(servers: &[Server], copies: Copies) -> Result<PostgresStore, StoreFault> {
         let store = PostgresStore::look_into(servers, copies)?;
         store.admit()?;
         Ok(store)
     }
 
-    /// Passes where it reads posts as the instance that started first.
+    /// Passes where it reads posts as the instance that started first: `reading` is what their meaning hangs on, so all
+    /// instances have to say the same.
     pub fn agree(&self, reading: &str) -> Result<(), StoreFault> {
         let there = self.told(schema::AGREE, &[&reading])?;
         match there == reading {
