@@ -2,7 +2,7 @@
 //! says, and tells who has which. Of several databases each has its own loop, and what becomes of one moves no slot of another.
 
 use super::local_view::{Cluster, Database, STALL};
-use super::owners::Step;
+use super::owners::{Act, Step};
 use super::terms::{Silence, Terms, Units, Unopened};
 use crate::latch::Latch;
 use crate::log::RateLimit;
@@ -145,7 +145,7 @@ impl<T: Terms + 'static, U: Units + 'static> Beats<T, U> {
 
     /// Each slot's steps are done one behind the other.
     fn begin(&mut self, step: Step) {
-        let before = self.last.remove(&step.slot());
+        let before = self.last.remove(&step.slot);
         let work = self.work.clone();
         let doing = tokio::spawn(async move {
             if let Some(before) = before {
@@ -155,7 +155,7 @@ impl<T: Terms + 'static, U: Units + 'static> Beats<T, U> {
                 let _ = work.follow.send(next).await; // the loop has ended, and with it all slots
             }
         });
-        self.last.insert(step.slot(), doing);
+        self.last.insert(step.slot, doing);
     }
 }
 
@@ -196,12 +196,12 @@ impl<T: Terms, U: Units> Work<T, U> {
     }
 
     /// What follows from it.
-    async fn does(&self, step: Step) -> Option<Step> {
-        match step {
-            Step::Take { slot, seen } => self.take(slot, seen).await,
-            Step::HandOver { slot, term } => return self.hand_over(slot, term).await,
-            Step::Release { slot, term } => self.release(slot, term).await,
-            Step::Drop { slot, term } => {
+    async fn does(&self, Step { act, slot, term }: Step) -> Option<Step> {
+        match act {
+            Act::Take => self.take(slot, term).await,
+            Act::HandOver => return self.hand_over(slot, term).await,
+            Act::Release => self.release(slot, term).await,
+            Act::Drop => {
                 self.cluster.counted().lost += 1;
                 tracing::warn!(slot, term, "slot {slot}: another instance has it, behind term {term}");
                 self.units.drop_lost(slot, term).await;

@@ -11,7 +11,7 @@ mod shown;
 mod step;
 
 pub use refused::Refusal;
-pub use step::{Step, Whose};
+pub use step::{Act, Step, Whose};
 
 use super::places::places;
 use super::terms::{Refused, Row, Seen, Stay};
@@ -212,7 +212,7 @@ impl Owners {
         let is_lost =
             |slot: &u16, mine: &mut Mine| mine.phase == Phase::Serving && is_later(*slot, mine.term);
         let lost = self.mine.extract_if(.., is_lost);
-        lost.map(|(slot, mine)| Step::Drop { slot, term: mine.term }).collect()
+        lost.map(|(slot, mine)| Step { act: Act::Drop, slot, term: mine.term }).collect()
     }
 
     fn note_places(&mut self) {
@@ -243,7 +243,7 @@ impl Owners {
         let (slot, mine) = self.mine.iter_mut().find(|(_, mine)| is_due(mine))?;
         mine.phase = Phase::Closing;
         self.handed = Some(Handed { slot: *slot, term: mine.term, beats: 0, is_released: false });
-        Some(Step::HandOver { slot: *slot, term: mine.term })
+        Some(Step { act: Act::HandOver, slot: *slot, term: mine.term })
     }
 
     // ----------------------------------------------------------------------------------------------------------------
@@ -275,14 +275,14 @@ impl Owners {
         let slot = row.slot;
         if !self.is_place(slot) {
             let is_mine = row.owner == self.me;
-            return is_mine.then_some(Step::Release { slot, term: row.term });
+            return is_mine.then_some(Step { act: Act::Release, slot, term: row.term });
         }
         let begun = self.mine.values().filter(|mine| matches!(mine.phase, Phase::Taking | Phase::Opening));
         if begun.count() >= AT_ONCE {
             return None;
         }
         self.mine.insert(slot, Mine { term: row.term, phase: Phase::Taking, elsewhere: 0 });
-        Some(Step::Take { slot, seen: row.term })
+        Some(Step { act: Act::Take, slot, term: row.term })
     }
 
     /// A slot of this name that is not open here: an earlier process', or one whose taking got no answer, or that failed.

@@ -2,26 +2,23 @@
 
 /// What is to be done.
 #[derive(Clone, Copy, Debug, PartialEq, Eq)]
-pub enum Step {
-    /// Take it where its term is still this, and open it.
-    Take { slot: u16, seen: u64 },
-    /// Another is its place: bring it to rest, and say that nobody has it.
-    HandOver { slot: u16, term: u64 },
-    /// It has this instance's name, is not open, and has its place elsewhere.
-    Release { slot: u16, term: u64 },
-    /// Another has it.
-    Drop { slot: u16, term: u64 },
+pub struct Step {
+    pub act: Act,
+    pub slot: u16,
+    /// Under which it is this instance's, or was seen.
+    pub term: u64,
 }
 
-impl Step {
-    pub fn slot(self) -> u16 {
-        match self {
-            Step::Take { slot, .. }
-            | Step::HandOver { slot, .. }
-            | Step::Release { slot, .. }
-            | Step::Drop { slot, .. } => slot,
-        }
-    }
+#[derive(Clone, Copy, Debug, PartialEq, Eq)]
+pub enum Act {
+    /// Take it where its term is still this, and open it.
+    Take,
+    /// Another is its place: bring it to rest, and say that nobody has it.
+    HandOver,
+    /// It has this instance's name, is not open, and has its place elsewhere.
+    Release,
+    /// Another has it.
+    Drop,
 }
 
 /// Who serves a slot.

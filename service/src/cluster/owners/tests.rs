@@ -186,7 +186,7 @@ fn a_slot_that_was_lost_is_dropped_once() {
     let node = &mut world.nodes[0];
     let term = world.store.rows[3].term - 1;
     let steps = node.owners.beat(world.store.beat("a", here()));
-    assert_eq!(steps, [Step::Drop { slot: 3, term }]);
+    assert_eq!(steps, [Step { act: Act::Drop, slot: 3, term }]);
     assert_eq!(node.owners.whose()[&3], Whose::Nobody);
     assert!(!node.owners.lost(3, term));
     assert_eq!(node.owners.beat(world.store.beat("a", here())), []);

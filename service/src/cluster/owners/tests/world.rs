@@ -166,20 +166,20 @@ impl World {
         }
     }
 
-    fn does(&mut self, node: usize, step: Step) {
+    fn does(&mut self, node: usize, Step { act, slot, term }: Step) {
         let is_lost = self.is_rough && self.random.once_in(5);
         let one = &mut self.nodes[node];
-        match step {
-            Step::Take { slot, seen } => {
-                let term = self.store.take(node, &one.name, slot, seen);
+        match act {
+            Act::Take => {
+                let term = self.store.take(node, &one.name, slot, term);
                 self.takes += usize::from(term.is_some());
                 let told = term.filter(|_| !is_lost);
                 one.owners.taken(slot, told);
                 one.opening.extend(told.map(|term| (slot, term)));
             }
-            Step::HandOver { slot, term } => {
+            Act::HandOver => {
                 self.hand_overs += 1;
-                let others = one.under_way.iter().filter(|step| matches!(step, Step::HandOver { .. }));
+                let others = one.under_way.iter().filter(|step| step.act == Act::HandOver);
                 assert_eq!(others.count(), 0, "two slots are handed over at once");
                 if !is_lost {
                     self.store.release(slot, term);
@@ -187,8 +187,8 @@ impl World {
                 let next = one.owners.released(slot, term);
                 one.under_way.extend(next);
             }
-            Step::Release { slot, term } => self.store.release(slot, term),
-            Step::Drop { .. } => {}
+            Act::Release => self.store.release(slot, term),
+            Act::Drop => {}
         }
     }
 
@@ -239,10 +239,8 @@ impl World {
             2 => {
                 // It is killed, and starts again under its name; what it had sent is executed or not.
                 let one = self.nodes.remove(node);
-                for step in one.under_way {
-                    if let (Step::Release { slot, term } | Step::HandOver { slot, term }, true) =
-                        (step, self.random.once_in(2))
-                    {
+                for Step { act, slot, term } in one.under_way {
+                    if let (Act::Release | Act::HandOver, true) = (act, self.random.once_in(2)) {
                         self.store.release(slot, term);
                     }
                 }
