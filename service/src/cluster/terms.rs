@@ -55,18 +55,18 @@ pub struct Silence(pub String);
 pub trait Terms: Send + Sync {
     /// Adds one to this instance's beat, with what it refuses, waits until that is committed, and then reads all instances
     /// and slots.
-    fn beat(&self, stay: Stay, refused: Refused) -> Doing<'_, Result<Seen, Silence>>;
+    fn beat(&self, stay: Stay, refused: Refused) -> impl Future<Output = Result<Seen, Silence>> + Send;
     /// The slots alone: for who was told `not mine`.
-    fn slots(&self) -> Doing<'_, Result<Vec<Row>, Silence>>;
+    fn slots(&self) -> impl Future<Output = Result<Vec<Row>, Silence>> + Send;
     /// Writes the next term behind the one that was seen, with this instance as the owner: the new term. None where another
     /// was first.
-    fn take(&self, slot: u16, seen: u64) -> Doing<'_, Result<Option<u64>, Silence>>;
+    fn take(&self, slot: u16, seen: u64) -> impl Future<Output = Result<Option<u64>, Silence>> + Send;
     /// Says that nobody has the slot, where it still has this term. The term stays, and the next owner's is higher.
-    fn release(&self, slot: u16, term: u64) -> Doing<'_, Result<(), Silence>>;
+    fn release(&self, slot: u16, term: u64) -> impl Future<Output = Result<(), Silence>> + Send;
     /// Takes this instance's row away: it has no slots any more.
-    fn leave(&self) -> Doing<'_, Result<(), Silence>>;
+    fn leave(&self) -> impl Future<Output = Result<(), Silence>> + Send;
     /// Takes another's row away, where its beat is still this. Whether it was.
-    fn forget<'a>(&'a self, name: &'a str, beat: u64) -> Doing<'a, Result<bool, Silence>>;
+    fn forget(&self, name: &str, beat: u64) -> impl Future<Output = Result<bool, Silence>> + Send;
 }
 
 /// Why a slot is not served though this instance has taken it.

@@ -58,74 +58,62 @@ fn row_of(rows: &mut [Row], slot: u16) -> &mut Row {
 pub struct Of(pub Arc<Store>, pub &'static str, pub String);
 
 impl Terms for Of {
-    fn beat(&self, stay: Stay, refused: Refused) -> Doing<'_, Result<Seen, Silence>> {
-        Box::pin(async move {
-            self.0.answers().await;
-            let mut rows = self.0.rows.lock().unwrap();
-            let new = Instance {
-                name: self.1.into(),
-                address: String::new(),
-                version: "1".into(),
-                beat: 0,
-                refused: Refused::new(),
-            };
-            let own = rows.0.entry(self.1.into()).or_insert(new);
-            own.beat += 1;
-            own.refused = refused;
-            own.address = match stay {
-                Stay::Here => self.2.clone(),
-                Stay::Leaves => String::new(),
-            };
-            Ok(Seen { instances: rows.0.values().cloned().collect(), slots: rows.1.clone() })
-        })
+    async fn beat(&self, stay: Stay, refused: Refused) -> Result<Seen, Silence> {
+        self.0.answers().await;
+        let mut rows = self.0.rows.lock().unwrap();
+        let new = Instance {
+            name: self.1.into(),
+            address: String::new(),
+            version: "1".into(),
+            beat: 0,
+            refused: Refused::new(),
+        };
+        let own = rows.0.entry(self.1.into()).or_insert(new);
+        own.beat += 1;
+        own.refused = refused;
+        own.address = match stay {
+            Stay::Here => self.2.clone(),
+            Stay::Leaves => String::new(),
+        };
+        Ok(Seen { instances: rows.0.values().cloned().collect(), slots: rows.1.clone() })
     }
 
-    fn slots(&self) -> Doing<'_, Result<Vec<Row>, Silence>> {
-        Box::pin(async move {
-            self.0.answers().await;
-            Ok(self.0.rows.lock().unwrap().1.clone())
-        })
+    async fn slots(&self) -> Result<Vec<Row>, Silence> {
+        self.0.answers().await;
+        Ok(self.0.rows.lock().unwrap().1.clone())
     }
 
-    fn take(&self, slot: u16, seen: u64) -> Doing<'_, Result<Option<u64>, Silence>> {
-        Box::pin(async move {
-            self.0.answers().await;
-            let mut rows = self.0.rows.lock().unwrap();
-            let row = row_of(&mut rows.1, slot);
-            if row.term != seen {
-                return Ok(None);
-            }
-            (row.term, row.owner) = (seen + 1, self.1.into());
-            Ok(Some(row.term))
-        })
+    async fn take(&self, slot: u16, seen: u64) -> Result<Option<u64>, Silence> {
+        self.0.answers().await;
+        let mut rows = self.0.rows.lock().unwrap();
+        let row = row_of(&mut rows.1, slot);
+        if row.term != seen {
+            return Ok(None);
+        }
+        (row.term, row.owner) = (seen + 1, self.1.into());
+        Ok(Some(row.term))
     }
 
-    fn release(&self, slot: u16, term: u64) -> Doing<'_, Result<(), Silence>> {
-        Box::pin(async move {
-            self.0.answers().await;
-            let mut rows = self.0.rows.lock().unwrap();
-            let row = row_of(&mut rows.1, slot);
-            if row.term == term {
-                row.owner.clear();
-            }
-            Ok(())
-        })
+    async fn release(&self, slot: u16, term: u64) -> Result<(), Silence> {
+        self.0.answers().await;
+        let mut rows = self.0.rows.lock().unwrap();
+        let row = row_of(&mut rows.1, slot);
+        if row.term == term {
+            row.owner.clear();
+        }
+        Ok(())
     }
 
-    fn leave(&self) -> Doing<'_, Result<(), Silence>> {
-        Box::pin(async move {
-            self.0.rows.lock().unwrap().0.remove(self.1);
-            Ok(())
-        })
+    async fn leave(&self) -> Result<(), Silence> {
+        self.0.rows.lock().unwrap().0.remove(self.1);
+        Ok(())
     }
 
-    fn forget<'a>(&'a self, name: &'a str, beat: u64) -> Doing<'a, Result<bool, Silence>> {
-        Box::pin(async move {
-            self.0.answers().await;
-            let all = &mut self.0.rows.lock().unwrap().0;
-            let is_it = all.get(name).is_some_and(|one| one.beat == beat);
-            Ok(is_it && all.remove(name).is_some())
-        })
+    async fn forget(&self, name: &str, beat: u64) -> Result<bool, Silence> {
+        self.0.answers().await;
+        let all = &mut self.0.rows.lock().unwrap().0;
+        let is_it = all.get(name).is_some_and(|one| one.beat == beat);
+        Ok(is_it && all.remove(name).is_some())
     }
 }
 
