@@ -7,6 +7,7 @@ use crate::latch::Latch;
 use crate::metrics::Metrics;
 use crate::work::blocking;
 use crate::work::locked;
+use std::convert::Infallible;
 use std::future::Future;
 use std::pin::pin;
 use std::sync::{Arc, Mutex};
@@ -136,13 +137,11 @@ type End = Option<Fault>;
 
 impl<S: Store> Run<S> {
     async fn until_it_ends(&self) -> Result<(), Fault> {
-        match self.run().await {
-            Err(Some(fault)) => Err(fault),
-            Ok(()) | Err(None) => Ok(()),
-        }
+        let Err(end) = self.run().await;
+        end.map_or(Ok(()), Err)
     }
 
-    async fn run(&self) -> Result<(), End> {
+    async fn run(&self) -> Result<Infallible, End> {
         loop {
             let (waiting, body) = self.unless_stopped(self.files.first()).await??;
             let request =
