@@ -11,6 +11,7 @@ mod tls_tests;
 
 use super::{Answer, Fate, Forwarded, Keys, Sink};
 use crate::otlp::{protobuf_of_forwarded, Encoding};
+use crate::work::blocking;
 use bytes::Bytes;
 use hyper::header::{HeaderMap, HeaderName, HeaderValue, CONTENT_ENCODING, CONTENT_TYPE, USER_AGENT};
 use hyper::{Body, Request, Uri};
@@ -115,18 +116,17 @@ impl OtlpSink {
             return Ok(body.into());
         }
         // Milliseconds of work, too much for the runtime.
-        let encoded = tokio::task::spawn_blocking(move || {
+        blocking(move || {
             let plain = match encoding {
                 Encoding::Json => body,
                 Encoding::Protobuf => protobuf_of_forwarded(&body).map_err(|error| error.to_string())?,
             };
-            if gzip {
-                packed(&plain).map_err(|error| error.to_string())
-            } else {
-                Ok(plain)
+            match gzip {
+                true => packed(&plain).map(Bytes::from).map_err(|error| error.to_string()),
+                false => Ok(plain.into()),
             }
-        });
-        encoded.await.map_err(|error| error.to_string())?.map(Bytes::from)
+        })
+        .await
     }
 }
 

@@ -6,6 +6,7 @@ use super::{schema, session};
 use crate::otlp::series::{NotForwarded, SeriesKey};
 use crate::sinks::sqlite::totals::SeriesTotal;
 use crate::sinks::sqlite::Exact;
+use crate::work::blocking;
 use std::time::Duration;
 use tokio::time::timeout;
 use tokio_postgres::Row;
@@ -23,9 +24,12 @@ const READ: &str =
 /// The totals of a database, by name and attributes, as of one moment; none where no service has written it yet.
 pub async fn read(server: &Server) -> anyhow::Result<Vec<SeriesTotal>> {
     let late = |_| Fault::told(format!("no totals within {} s", PATIENCE.as_secs()));
-    let rows = timeout(PATIENCE, rows(server)).await.map_err(late).flatten();
-    let made = async { made(rows?).await };
-    made.await.map_err(|fault| fault.at(server))
+    let made = async {
+        let rows = timeout(PATIENCE, rows(server)).await.map_err(late)??;
+        // Thousands of identities are too much work for the runtime.
+        Ok(blocking(move || rows.iter().map(total).collect::<Result<_, Odd>>()).await?)
+    };
+    made.await.map_err(|fault: Fault| fault.at(server))
 }
 
 /// By a connection of its own: a delivery that waits holds nothing up here.
@@ -35,12 +39,6 @@ async fn rows(server: &Server) -> Result<Vec<Row>, Fault> {
         0 => Ok(Vec::new()),
         _ => Ok(client.query(READ, &[]).await?),
     }
-}
-
-/// Thousands of identities are too much work for the runtime.
-async fn made(rows: Vec<Row>) -> Result<Vec<SeriesTotal>, Fault> {
-    let reading = tokio::task::spawn_blocking(move || rows.iter().map(total).collect::<Result<_, Odd>>());
-    Ok(reading.await.map_err(|error| Fault::told(error.to_string()))??)
 }
 
 /// A row that no service has written so.
