@@ -4,7 +4,6 @@ use super::Server;
 use crate::otlp::series::NotForwarded;
 use crate::postgres::{shown, NotConnected};
 use anyhow::anyhow;
-use std::time::Duration;
 use tokio_postgres::Error;
 
 #[derive(Debug)]
@@ -24,10 +23,6 @@ pub(super) enum Fault {
 impl Fault {
     pub(super) fn told(what: impl Into<String>) -> Fault {
         Fault::Server(what.into())
-    }
-
-    pub(super) fn late(patience: Duration) -> Fault {
-        Fault::Server(format!("no answer within {} s", patience.as_secs_f64()))
     }
 
     /// Whether it stays until somebody names another database or starts another version.

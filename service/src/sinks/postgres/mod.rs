@@ -28,14 +28,13 @@ pub use crate::postgres::Server;
 use super::left_out::LeftOut;
 use super::periods::{Deed, Told};
 use super::{Answer, Fate, Forwarded, Keys, Memory, Retention, Sink};
+use crate::work::blocking;
 use fault::{Fault, NotTaken};
-use rows::Content;
-use session::Session;
+use session::{within, Session};
 use std::sync::atomic::{AtomicBool, Ordering::Relaxed};
 use std::sync::Arc;
 use std::time::Duration;
 use tokio::sync::Mutex;
-use tokio::time::timeout;
 use upkeep::Upkeep;
 
 /// How long a connection may take, and then a delivery. The server gives a statement up before.
@@ -84,21 +83,13 @@ impl PostgresSink {
         })
     }
 
-    async fn read(&self, request: &Forwarded) -> Result<Content, NotTaken> {
+    /// By the session that is there, or by a new one, which may have to bring the schema up first.
+    async fn take(&self, request: &Forwarded, term: Option<u64>) -> Result<LeftOut, NotTaken> {
         let body = request.body.clone();
         // Milliseconds of work, too much for the runtime.
-        let read = tokio::task::spawn_blocking(move || rows::read(&body)).await;
-        read.map_err(|error| Fault::told(error.to_string()))?
-    }
-
-    /// By the session that is there, or by a new one, which may have to bring the schema up first.
-    async fn take(
-        &self,
-        place: &mut Option<Session>,
-        request: &Forwarded,
-        term: Option<u64>,
-        content: Content,
-    ) -> Result<LeftOut, NotTaken> {
+        let content = blocking(move || rows::read(&body)).await?;
+        // It is not the server that is late where other slots' requests go first.
+        let mut place = self.session.lock().await;
         let mut session = match place.take() {
             Some(session) if !session.client.is_closed() => session,
             _ => {
@@ -107,27 +98,16 @@ impl PostgresSink {
             }
         };
         self.was_there.store(true, Relaxed);
-        let taking = store::take(&mut session, request, term, content);
-        let taken = match timeout(self.patience, taking).await {
-            Ok(taken) => taken,
-            Err(_) => Err(Fault::late(self.patience).into()),
-        };
+        let taken = within(self.patience, store::take(&mut session, request, term, content)).await;
         if matches!(taken, Ok(_) | Err(NotTaken::Refused(_))) {
             *place = Some(session);
         }
         taken
     }
 
-    async fn tried(&self, request: &Forwarded, term: Option<u64>) -> Result<LeftOut, NotTaken> {
-        let content = self.read(request).await?;
-        // It is not the server that is late where other slots' requests go first.
-        let mut place = self.session.lock().await;
-        self.take(&mut place, request, term, content).await
-    }
-
     async fn send(&self, request: &Forwarded, term: Option<u64>) -> Fate {
         let reason = |fault: Fault| fault.at(&self.server).to_string();
-        match self.tried(request, term).await {
+        match self.take(request, term).await {
             Ok(left) => left.fate(&request.body),
             Err(NotTaken::Refused(reason)) => Fate::refused(reason),
             Err(NotTaken::Failed(fault)) => Fate::Failed { reason: reason(fault), after: None },

@@ -90,14 +90,14 @@ impl Session {
         let connecting = async {
             let (client, connection) = connect(server).await?;
             let version = schema::version(&client).await?;
-            Ok((client, connection, version))
+            Ok::<_, Fault>((client, connection, version))
         };
         let (mut client, connection, version) = within(patience, connecting).await?;
         schema::migrate(&mut client, server, version, memory, was_there).await?;
         let preparing = async {
             client.batch_execute(PLANS).await?;
             let statements = Statements::prepare(&client).await?;
-            Ok((statements, Fence::prepare(&client, &memory.databases()).await?))
+            Ok::<_, Fault>((statements, Fence::prepare(&client, &memory.databases()).await?))
         };
         let (statements, fence) = within(patience, preparing).await?;
         Ok(Session { client, statements, seen: Seen::default(), fence, connection })
@@ -105,11 +105,12 @@ impl Session {
 }
 
 /// What comes of it, where the server answers in time.
-pub(super) async fn within<T>(
+pub(super) async fn within<T, E: From<Fault>>(
     patience: Duration,
-    work: impl Future<Output = Result<T, Fault>>,
-) -> Result<T, Fault> {
-    timeout(patience, work).await.unwrap_or_else(|_| Err(Fault::late(patience)))
+    work: impl Future<Output = Result<T, E>>,
+) -> Result<T, E> {
+    let late = || Fault::told(format!("no answer within {} s", patience.as_secs_f64()));
+    timeout(patience, work).await.unwrap_or_else(|_| Err(late().into()))
 }
 
 /// A connection with our settings, whatever schema is there.
