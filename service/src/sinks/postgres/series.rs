@@ -70,7 +70,7 @@ impl Writing<'_> {
         self.lock(all, known).await
     }
 
-    /// Makes those that were not seen, unless they are there.
+    /// Makes those that were not seen, unless they are there, and the metrics of those that it makes.
     async fn make(&self, all: &[OfSeries], seen: &Seen, found: &mut FoundSeries) -> Result<(), NotTaken> {
         let new: Vec<&OfSeries> = all.iter().filter(|series| !seen.has(series)).collect();
         // While the server has one piece, the next one is written down here.
@@ -86,14 +86,9 @@ impl Writing<'_> {
         if made.next().is_some() {
             return Err(Fault::told("new series came back in another order").into());
         }
-        self.metrics(found).await
-    }
-
-    /// Makes the metrics of the series that were made.
-    async fn metrics(&self, found: &FoundSeries) -> Result<(), NotTaken> {
-        let made: Vec<i64> = found.iter().flatten().map(|known| known.id).collect();
-        if !made.is_empty() {
-            self.rows(&self.statements.metrics, &[&made]).await?;
+        let ids: Vec<i64> = found.iter().flatten().map(|known| known.id).collect();
+        if !ids.is_empty() {
+            self.rows(&self.statements.metrics, &[&ids]).await?;
         }
         Ok(())
     }
