@@ -89,7 +89,7 @@ impl Kind {
     }
 }
 
-#[derive(Clone, Debug, PartialEq, Eq, Serialize)]
+#[derive(Clone, Debug, Default, PartialEq, Eq, Serialize)]
 pub struct Histogram {
     pub count: Exact,
     /// How many of the points had no sum: the total is without theirs.
@@ -117,12 +117,7 @@ impl SeriesTotal {
             start_ns: 0,
             end_ns: 0,
             total: Exact::default(),
-            histogram: bounds.map(|bounds| Histogram {
-                count: Exact::default(),
-                points_without_sum: 0,
-                bounds,
-                buckets: Vec::new(),
-            }),
+            histogram: bounds.map(|bounds| Histogram { bounds, ..Histogram::default() }),
         })
     }
 

@@ -49,13 +49,10 @@ impl Upkeep {
                 let more = self.of(&transaction, now)?;
                 transaction.commit().map(|()| more)
             });
-        match more {
-            Ok(true) => self.due = Instant::now(),
-            Ok(false) => self.due = Instant::now() + EVERY,
-            Err(_) => {
-                self.due = Instant::now() + EVERY;
-                self.begin_anew(); // the file is not where this is
-            }
+        let wait = if let Ok(true) = more { Duration::ZERO } else { EVERY };
+        self.due = Instant::now() + wait;
+        if more.is_err() {
+            self.begin_anew(); // the file is not where this is
         }
         more
     }
