@@ -1,6 +1,6 @@
 //! What is counted of a store.
 
-use std::sync::atomic::{AtomicU64, Ordering::Relaxed};
+use std::sync::atomic::AtomicU64;
 
 #[derive(Debug, Default)]
 pub struct Counts {
@@ -12,10 +12,4 @@ pub struct Counts {
     pub fenced: AtomicU64,
     /// How often the store had not got any more what it said it had.
     pub vanished: AtomicU64,
-}
-
-impl Counts {
-    pub(super) fn add(count: &AtomicU64) {
-        count.fetch_add(1, Relaxed);
-    }
 }

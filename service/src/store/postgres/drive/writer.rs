@@ -11,6 +11,7 @@ use crate::store::postgres::doubt::{Backoff, Doubt, Next};
 use crate::store::postgres::session::{is_there, within, Session, SILENT};
 use crate::store::postgres::shared::Stored;
 use std::collections::BTreeSet;
+use std::sync::atomic::Ordering::Relaxed;
 use std::sync::Arc;
 use std::time::Duration;
 use tokio_postgres::types::ToSql;
@@ -100,7 +101,7 @@ impl Writer {
         match joined {
             Ok(number) => {
                 self.joined = number;
-                Counts::add(&self.counts.commits);
+                self.counts.commits.fetch_add(1, Relaxed);
                 self.note(packed);
                 return true;
             }
@@ -115,7 +116,7 @@ impl Writer {
         loop {
             match self.try_once(packed).await {
                 Ok(true) => {
-                    Counts::add(&self.counts.commits);
+                    self.counts.commits.fetch_add(1, Relaxed);
                     return Ok(());
                 }
                 Ok(false) => return Err(self.fenced()),
@@ -145,12 +146,12 @@ impl Writer {
     }
 
     fn fenced(&self) -> Lost {
-        Counts::add(&self.counts.fenced);
+        self.counts.fenced.fetch_add(1, Relaxed);
         Lost
     }
 
     fn tell(&self, doubt: &Doubt) {
-        Counts::add(&self.counts.doubts);
+        self.counts.doubts.fetch_add(1, Relaxed);
         if IN_DOUBT.is_due() {
             let (slot, reason) = (self.slot, doubt.to_string());
             tracing::warn!(
@@ -228,7 +229,7 @@ impl Writer {
         let last = self.last.filter(|(file, _)| !gone.contains(file));
         let is_there = is_there(session, self.slot, last).await?;
         if !is_there {
-            Counts::add(&self.counts.vanished);
+            self.counts.vanished.fetch_add(1, Relaxed);
             tracing::error!(
                 "slot {}: {} has lost what it said is durable: it went over to a standby that had not got all, or was put \
                 back from a copy",
