@@ -1,39 +1,31 @@
 //! Things that are worked at side by side, and put somewhere one after the other, in the order in which they came.
 //!
-//! Each thread works at the next one that waits. Whoever has done one puts it, and what follows, as far as that is done: so no
-//! thread waits for another's work, and few are under way at a time.
+//! Each thread works at the next one that waits. One thread more gets what is done in that order, and puts it: so no thread
+//! that works waits for another's work, and few are under way at a time.
 
 use super::{locked, threads};
-use std::collections::VecDeque;
 use std::convert::Infallible;
-use std::sync::{Condvar, Mutex, MutexGuard, PoisonError};
+use std::sync::mpsc::{channel, sync_channel, Receiver, Sender, SyncSender};
+use std::sync::Mutex;
 use std::thread;
 
 /// So many wait, or are under way, for each thread.
 const FOR_A_THREAD: usize = 8;
 
 pub struct WorkQueue<T> {
-    most: usize,
-    state: Mutex<State<T>>,
-    /// Something came, or nothing comes any more.
-    came: Condvar,
-    /// There is room again.
-    gone: Condvar,
+    to_work: Sender<Waiting<T>>,
+    to_put: SyncSender<Next<T>>,
 }
 
-struct State<T> {
-    /// Nobody works at them yet.
-    waiting: VecDeque<T>,
-    /// What somebody works at, or did; none in the place of one that is not done.
-    begun: VecDeque<Option<T>>,
-    /// The number of the first of these, as they came.
-    first: u64,
-    is_putting: bool,
-    has_ended: bool,
-    /// Threads that have nothing to do.
-    idle: usize,
-    /// With so many or fewer whoever gives goes on, where he waits.
-    wanted: Option<usize>,
+/// One that nobody works at yet, and where it goes once that is done.
+type Waiting<T> = (T, SyncSender<T>);
+
+/// What comes next, in the order in which it was given.
+enum Next<T> {
+    /// From whoever works at it; nothing comes of one who panics.
+    One(Receiver<T>),
+    /// Dropped once all before it is put: whoever gives waits for that.
+    Mark(Sender<()>),
 }
 
 /// Gives `work` each that `give` puts into the queue, side by side, and then `put`, in order, until that fails. Returns once all
@@ -44,22 +36,42 @@ pub fn in_order<T: Send, E: Send>(
     give: impl FnOnce(&WorkQueue<T>) -> Result<(), E>,
 ) -> Result<(), E> {
     let threads = threads();
-    let queue = WorkQueue::new(FOR_A_THREAD * threads);
-    let putting = Mutex::new((put, Ok(())));
-    let put_one = |one| {
-        let (put, ended) = &mut *locked(&putting);
-        *ended = put(one);
-        ended.is_ok()
-    };
+    let (to_work, waiting) = channel();
+    let (to_put, next) = sync_channel(FOR_A_THREAD * threads);
+    let (waiting, mut ended) = (Mutex::new(waiting), Ok(()));
     let given = thread::scope(|scope| {
         for _ in 0..threads {
-            scope.spawn(|| queue.work(&work, &put_one));
+            scope.spawn(|| work_at(&waiting, &work));
         }
-        let _end = End(&queue);
-        give(&queue)
+        scope.spawn(|| ended = put_all(next, put));
+        give(&WorkQueue { to_work, to_put })
     });
-    let (_, ended) = putting.into_inner().unwrap_or_else(PoisonError::into_inner);
     ended.and(given)
+}
+
+fn work_at<T>(waiting: &Mutex<Receiver<Waiting<T>>>, work: &impl Fn(&mut T)) {
+    loop {
+        let Ok((mut one, done)) = locked(waiting).recv() else {
+            return;
+        };
+        work(&mut one);
+        if done.send(one).is_err() {
+            return; // no more is put
+        }
+    }
+}
+
+fn put_all<T, E>(next: Receiver<Next<T>>, mut put: impl FnMut(T) -> Result<(), E>) -> Result<(), E> {
+    for next in next {
+        match next {
+            Next::One(done) => match done.recv() {
+                Ok(one) => put(one)?,
+                Err(_) => break,
+            },
+            Next::Mark(reached) => drop(reached),
+        }
+    }
+    Ok(())
 }
 
 /// What is made of each, side by side, is put in their order.
@@ -83,160 +95,17 @@ pub fn made_in_order<P: Send, M: Send>(
 }
 
 impl<T> WorkQueue<T> {
-    fn new(most: usize) -> WorkQueue<T> {
-        WorkQueue {
-            most,
-            state: Mutex::new(State {
-                waiting: VecDeque::new(),
-                begun: VecDeque::new(),
-                first: 0,
-                is_putting: false,
-                has_ended: false,
-                idle: 0,
-                wanted: None,
-            }),
-            came: Condvar::new(),
-            gone: Condvar::new(),
-        }
-    }
-
     /// Puts one behind the others, once there is room; false where no more is wanted.
     pub fn push(&self, one: T) -> bool {
-        let mut state = locked(&self.state);
-        if state.count() >= self.most {
-            state = self.wait(state, self.most / 2);
-        }
-        if state.has_ended {
-            return false;
-        }
-        state.waiting.push_back(one);
-        if state.idle > 0 {
-            self.came.notify_one();
-        }
-        true
+        let (done, next) = sync_channel(1);
+        self.to_put.send(Next::One(next)).is_ok() && self.to_work.send((one, done)).is_ok()
     }
 
     /// Returns once all that came is put.
     pub fn wait_until_empty(&self) {
-        drop(self.wait(locked(&self.state), 0));
-    }
-
-    fn wait<'s>(&self, mut state: MutexGuard<'s, State<T>>, wanted: usize) -> MutexGuard<'s, State<T>> {
-        while state.count() > wanted && !state.has_ended {
-            state.wanted = Some(wanted);
-            state = self.gone.wait(state).unwrap_or_else(PoisonError::into_inner);
-        }
-        state.wanted = None;
-        state
-    }
-
-    fn work(&self, work: &impl Fn(&mut T), put: &impl Fn(T) -> bool) {
-        let _stop = StopByPanic(self);
-        let mut state = locked(&self.state);
-        loop {
-            let Some((number, mut one)) = state.begin() else {
-                if state.has_ended {
-                    return;
-                }
-                state.idle += 1;
-                state = self.came.wait(state).unwrap_or_else(PoisonError::into_inner);
-                state.idle -= 1;
-                continue;
-            };
-            drop(state);
-            work(&mut one);
-            state = locked(&self.state);
-            state.note_done(number, one);
-            if !state.is_putting {
-                state = self.put(state, put);
-            }
-        }
-    }
-
-    /// Puts all that is next and done.
-    fn put<'s>(
-        &'s self,
-        mut state: MutexGuard<'s, State<T>>,
-        put: &impl Fn(T) -> bool,
-    ) -> MutexGuard<'s, State<T>> {
-        while let Some(one) = state.next_done() {
-            state.is_putting = true;
-            drop(state);
-            let goes_on = put(one);
-            state = locked(&self.state);
-            state.is_putting = false;
-            if !goes_on {
-                self.stop(&mut state);
-            }
-            if state.wanted.is_some_and(|wanted| state.count() <= wanted) {
-                self.gone.notify_one();
-            }
-        }
-        state
-    }
-
-    /// What is not put yet never is.
-    fn stop(&self, state: &mut State<T>) {
-        state.waiting.clear();
-        state.first += state.begun.len() as u64;
-        state.begun.clear();
-        self.end(state);
-    }
-
-    fn end(&self, state: &mut State<T>) {
-        state.has_ended = true;
-        self.came.notify_all();
-        self.gone.notify_one();
-    }
-}
-
-impl<T> State<T> {
-    fn count(&self) -> usize {
-        self.waiting.len() + self.begun.len() + usize::from(self.is_putting)
-    }
-
-    /// The next one to be worked at, and its number.
-    fn begin(&mut self) -> Option<(u64, T)> {
-        let one = self.waiting.pop_front()?;
-        let number = self.first + self.begun.len() as u64;
-        self.begun.push_back(None);
-        Some((number, one))
-    }
-
-    fn note_done(&mut self, number: u64, one: T) {
-        // None is there any more where all was stopped.
-        let place = number.checked_sub(self.first).and_then(|place| self.begun.get_mut(place as usize));
-        if let Some(place) = place {
-            *place = Some(one);
-        }
-    }
-
-    /// The one that is to be put next, if it is done.
-    fn next_done(&mut self) -> Option<T> {
-        let one = self.begun.front_mut()?.take()?;
-        self.begun.pop_front();
-        self.first += 1;
-        Some(one)
-    }
-}
-
-/// Nothing comes any more once this is dropped.
-struct End<'l, T>(&'l WorkQueue<T>);
-
-impl<T> Drop for End<'_, T> {
-    fn drop(&mut self) {
-        self.0.end(&mut locked(&self.0.state));
-    }
-}
-
-/// Else others would wait for what a thread that panics had.
-struct StopByPanic<'l, T>(&'l WorkQueue<T>);
-
-impl<T> Drop for StopByPanic<'_, T> {
-    fn drop(&mut self) {
-        if thread::panicking() {
-            self.0.stop(&mut locked(&self.0.state));
-        }
+        let (mark, reached) = channel();
+        let _ = self.to_put.send(Next::Mark(mark)); // where no more is put it is dropped
+        let _ = reached.recv(); // it ends, and nothing comes
     }
 }
 
