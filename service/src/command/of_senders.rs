@@ -1,7 +1,7 @@
 //! Options of TLS at the senders' addresses, and of who a sender is.
 
 use crate::core::MOST_SERIES;
-use crate::identity::{Door, Options};
+use crate::identity::Door;
 use crate::metrics::Metrics;
 use crate::shares::{Share, MOST_POINTS};
 use crate::tls::{Files, Named};
@@ -60,6 +60,6 @@ impl OfSenders {
             key,
             client_ca,
         });
-        Door::open(&Options { tls, tokens: self.tokens.clone() }, metrics)
+        Door::open(tls.as_ref(), self.tokens.clone(), metrics)
     }
 }

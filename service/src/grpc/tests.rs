@@ -2,7 +2,7 @@
 
 use super::reply::{code, RetryInfo};
 use super::*;
-use crate::identity::{Door, Options};
+use crate::identity::Door;
 use crate::intake::connections::{spread, Limits, Shared};
 use crate::intake::{Budget, Hears, Threads};
 use crate::metrics::Metrics;
@@ -251,8 +251,7 @@ async fn a_stranger_is_told_so() {
     let at = tempfile::tempdir().unwrap();
     let (path, metrics) = (at.path().join("tokens"), Arc::new(Metrics::new().unwrap()));
     std::fs::write(&path, crate::identity::line("shop-1/shop-*", "t0ken")).unwrap();
-    let options = Options { tokens: Some(path), tls: None };
-    let door = Door::open(&options, &metrics).unwrap();
+    let door = Door::open(None, Some(path), &metrics).unwrap();
     let served = Served::behind(door, Some(Outcome::taken(0)), 1 << 20).await;
     let token = ("authorization", "Bearer t0ken");
     for (more, code, message) in [
@@ -295,7 +294,8 @@ async fn headers_are_dropped_while_a_message_comes() {
     let are_there = Arc::downgrade(&with_headers);
     let request = Request::post(METHOD).header("content-type", "application/grpc");
     let request = request.extension(with_headers).body(body).unwrap();
-    let answering = tokio::spawn(async move { answer(Arc::new(intake), &Who::believed(), request).await });
+    let who = Door::default().who(None, None);
+    let answering = tokio::spawn(async move { answer(Arc::new(intake), &who, request).await });
     for _ in 0..500 {
         if are_there.upgrade().is_none() {
             break;

@@ -11,13 +11,6 @@ use std::net::IpAddr;
 use std::path::PathBuf;
 use std::sync::Arc;
 
-/// The files of both.
-#[derive(Clone, Debug, Default)]
-pub struct Options {
-    pub tls: Option<Files>,
-    pub tokens: Option<PathBuf>,
-}
-
 /// What stands between a sender and its address. The default believes all, without TLS.
 #[derive(Clone, Default)]
 pub struct Door {
@@ -36,21 +29,19 @@ pub fn operators(path: PathBuf, metrics: &Metrics) -> Result<Arc<Reloaded<Tokens
 }
 
 impl Door {
-    /// Reads the files. The error names what can't be used and says what to do.
-    pub fn open(options: &Options, metrics: &Arc<Metrics>) -> Result<Door> {
-        let without = match options.tokens {
+    /// Reads the files of both. The error names what can't be used and says what to do.
+    pub fn open(tls: Option<&Files>, tokens: Option<PathBuf>, metrics: &Arc<Metrics>) -> Result<Door> {
+        let without = match tokens {
             Some(_) => WithoutCertificate::LetIn,
             None => WithoutCertificate::Refused,
         };
-        let tls = options.tls.as_ref();
+        let by_certificate = tls.is_some_and(|files| files.client_ca.is_some());
         let tls = tls.map(|files| Tls::open(files, without, metrics.clone())).transpose()?;
-        let by_certificate = options.tls.as_ref().is_some_and(|files| files.client_ca.is_some());
         let reader = || Reader {
             read: Box::new(|contents: &[Vec<u8>]| Tokens::read(&contents.concat())),
             shut: if by_certificate { Tokens::shut_beside_certificates } else { Tokens::shut },
         };
-        let tokens = options.tokens.as_ref();
-        let tokens = tokens.map(|path| Reloaded::open(vec![("--tokens", path.clone())], reader(), metrics));
+        let tokens = tokens.map(|path| Reloaded::open(vec![("--tokens", path)], reader(), metrics));
         Ok(Door { tls: tls.map(Arc::new), by_certificate, tokens: tokens.transpose()? })
     }
 
@@ -68,7 +59,7 @@ impl Door {
             }
             _ => By::Believed,
         };
-        Who::new(by, peer)
+        Who { by, peer }
     }
 
     /// The file of `--tokens`.

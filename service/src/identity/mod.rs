@@ -5,7 +5,7 @@ mod door;
 mod tokens;
 mod who;
 
-pub use door::{operators, Door, Options};
+pub use door::{operators, Door};
 pub use tokens::{line, Sender, Tokens};
 pub use who::{by_token, Who};
 

@@ -11,8 +11,8 @@ use std::sync::{Arc, Mutex};
 
 /// Who posts on a connection.
 pub struct Who {
-    by: By,
-    peer: Option<IpAddr>,
+    pub(super) by: By,
+    pub(super) peer: Option<IpAddr>,
 }
 
 /// By what the requests of a connection are named.
@@ -34,15 +34,6 @@ pub enum Proved {
 }
 
 impl Who {
-    pub fn new(by: By, peer: Option<IpAddr>) -> Who {
-        Who { by, peer }
-    }
-
-    /// Whoever a request says.
-    pub fn believed() -> Who {
-        Who::new(By::Believed, None)
-    }
-
     /// Whose a request is that has these values of the header `Authorization`.
     pub fn proved<'h>(&self, authorization: impl Iterator<Item = &'h [u8]>) -> Result<Proved, Stranger> {
         match &self.by {

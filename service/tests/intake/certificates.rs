@@ -3,7 +3,7 @@
 use std::path::Path;
 use std::process::{Command, Stdio};
 use std::sync::Arc;
-use totxegun::identity::{Door, Options};
+use totxegun::identity::Door;
 use totxegun::metrics::Metrics;
 use totxegun::tls::{Files, Named};
 
@@ -53,14 +53,14 @@ pub fn folder() -> tempfile::TempDir {
 
 /// TLS by that certificate; with roots of senders, and tokens, where these files are named.
 pub fn door(at: &Path, client_ca: Option<&str>, tokens: Option<&str>) -> Door {
-    let tls = Some(Files {
+    let tls = Files {
         named: Named::OF_SENDERS,
         certificate: at.join("localhost.pem"),
         key: at.join("localhost.key"),
         client_ca: client_ca.map(|name| at.join(name)),
-    });
+    };
     let tokens = tokens.map(|name| at.join(name));
-    Door::open(&Options { tls, tokens }, &Arc::new(Metrics::new().unwrap())).unwrap()
+    Door::open(Some(&tls), tokens, &Arc::new(Metrics::new().unwrap())).unwrap()
 }
 
 /// The certificates of NAME.pem.

@@ -1,9 +1,10 @@
 //! What a head says, and which heads are refused.
 
 use super::*;
+use crate::identity::Door;
 
 fn read(input: &[u8]) -> Result<Option<(usize, Asked)>, Refusal> {
-    super::read(input, &Who::believed())
+    super::read(input, &Door::default().who(None, None))
 }
 
 fn text(method: &str, path: &str, headers: &[(&str, &str)]) -> String {
