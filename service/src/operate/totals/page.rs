@@ -9,41 +9,23 @@ use std::fmt::Write;
 const TARGET: &str = "target_info";
 
 /// All series of one kind whose names come to the same.
-type Families<'a> = BTreeMap<(Rank, String), Vec<&'a SeriesTotal>>;
+type Families<'a> = BTreeMap<(Kind, String), Vec<&'a SeriesTotal>>;
 
-/// Which kind keeps its name where two kinds come to one: the first.
-#[derive(Clone, Copy, PartialEq, Eq, PartialOrd, Ord)]
-enum Rank {
-    Counter,
-    Histogram,
-    Gauge,
+fn text(kind: Kind) -> &'static str {
+    match kind {
+        Kind::Monotonic => "counter",
+        Kind::Histogram => "histogram",
+        Kind::Sum => "gauge",
+    }
 }
 
-impl Rank {
-    fn of(kind: Kind) -> Rank {
-        match kind {
-            Kind::Monotonic => Rank::Counter,
-            Kind::Histogram => Rank::Histogram,
-            Kind::Sum => Rank::Gauge,
-        }
+/// What a family of this name has as names of families or samples.
+fn all_names(name: &str, kind: Kind) -> Vec<String> {
+    let mut names = vec![name.to_string()];
+    if kind == Kind::Histogram {
+        names.extend(["bucket", "count", "sum"].map(|last| format!("{name}_{last}")));
     }
-
-    fn text(self) -> &'static str {
-        match self {
-            Rank::Counter => "counter",
-            Rank::Histogram => "histogram",
-            Rank::Gauge => "gauge",
-        }
-    }
-
-    /// What a family of this name has as names of families or samples.
-    fn names(self, name: &str) -> Vec<String> {
-        let mut names = vec![name.to_string()];
-        if self == Rank::Histogram {
-            names.extend(["bucket", "count", "sum"].map(|last| format!("{name}_{last}")));
-        }
-        names
-    }
+    names
 }
 
 /// A file's totals in Prometheus' text form.
@@ -51,32 +33,32 @@ pub fn page(totals: &[SeriesTotal]) -> String {
     let mut families = Families::new();
     for series in totals {
         let name = names::metric(&series.name, &series.unit, series.kind);
-        families.entry((Rank::of(series.kind), name)).or_default().push(series);
+        families.entry((series.kind, name)).or_default().push(series);
     }
     let mut page = String::new();
     let mut used = HashSet::from([TARGET.to_string()]);
-    for ((rank, name), series) in &families {
-        let name = free(name, *rank, &mut used);
-        family(&mut page, &name, *rank, series);
+    for ((kind, name), series) in &families {
+        let name = free(name, *kind, &mut used);
+        family(&mut page, &name, *kind, series);
     }
     targets(&mut page, totals);
     page
 }
 
 /// The name, or one that also says the kind, where another family has it.
-fn free(name: &str, rank: Rank, used: &mut HashSet<String>) -> String {
+fn free(name: &str, kind: Kind, used: &mut HashSet<String>) -> String {
     let mut name = name.to_string();
-    while rank.names(&name).iter().any(|name| used.contains(name)) {
-        name = format!("{name}_{}", rank.text());
+    while all_names(&name, kind).iter().any(|name| used.contains(name)) {
+        name = format!("{name}_{}", text(kind));
     }
-    used.extend(rank.names(&name));
+    used.extend(all_names(&name, kind));
     name
 }
 
-fn family(page: &mut String, name: &str, rank: Rank, series: &[&SeriesTotal]) {
+fn family(page: &mut String, name: &str, kind: Kind, series: &[&SeriesTotal]) {
     let sources: BTreeSet<(&str, &str)> =
         series.iter().map(|one| (one.name.as_str(), one.unit.as_str())).collect();
-    head(page, name, rank, &sources);
+    head(page, name, kind, &sources);
     let is_mixed = sources.iter().map(|(name, _)| name).collect::<BTreeSet<_>>().len() > 1;
     for (series, labels) in series.iter().zip(distinct(series, is_mixed)) {
         match &series.histogram {
@@ -86,7 +68,7 @@ fn family(page: &mut String, name: &str, rank: Rank, series: &[&SeriesTotal]) {
     }
 }
 
-fn head(page: &mut String, name: &str, rank: Rank, sources: &BTreeSet<(&str, &str)>) {
+fn head(page: &mut String, name: &str, kind: Kind, sources: &BTreeSet<(&str, &str)>) {
     let told: Vec<String> = sources
         .iter()
         .map(|(name, unit)| match *unit {
@@ -95,7 +77,7 @@ fn head(page: &mut String, name: &str, rank: Rank, sources: &BTreeSet<(&str, &st
         })
         .collect();
     let help = told.join(", ").replace('\\', "\\\\").replace('\n', "\\n").replace('\0', "\u{fffd}");
-    let kind = rank.text();
+    let kind = text(kind);
     let _ = writeln!(page, "# HELP {name} OpenTelemetry: {help}"); // a text takes all
     let _ = writeln!(page, "# TYPE {name} {kind}"); // a text takes all
 }

@@ -54,12 +54,13 @@ pub struct SeriesTotal {
     pub histogram: Option<Histogram>,
 }
 
+/// Where two kinds come to one name of Prometheus, the first keeps it.
 #[derive(Clone, Copy, Debug, PartialEq, Eq, PartialOrd, Ord, Serialize)]
 #[serde(rename_all = "lowercase")]
 pub enum Kind {
-    Sum,
     Monotonic,
     Histogram,
+    Sum,
 }
 
 impl Kind {
