@@ -12,7 +12,7 @@ mod time;
 pub use form::{Events, Form};
 pub use rate_limit::RateLimit;
 pub use shown::{all_shown, cut, shown};
-pub use time::{date, now, of_nanoseconds, seconds, since_1970, utc};
+pub use time::{date, days, now, of_nanoseconds, seconds, since_1970, utc};
 
 use crate::work::locked;
 use prometheus::IntCounter;

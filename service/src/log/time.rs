@@ -52,6 +52,13 @@ pub fn date(days: u64) -> (u64, u64, u64) {
     (400 * era + year + is_next, month, of_month)
 }
 
+/// Days from 1970 to the first of a month: years begin with March here too.
+pub fn days(year: i64, month: i64) -> i64 {
+    let (year, month) = (year + (month - 3).div_euclid(12), (month - 3).rem_euclid(12));
+    let of_years = 365 * year + year.div_euclid(4) - year.div_euclid(100) + year.div_euclid(400);
+    of_years + (153 * month + 2) / 5 - 719_468
+}
+
 #[cfg(test)]
 mod tests {
     use super::*;

@@ -1,6 +1,7 @@
 //! What a certificate says of its owner and of its end (RFC 5280). Whether it is believed is looked at elsewhere.
 
 use super::der::{Der, GENERALIZED_TIME, INTEGER, OBJECT, OCTETS, SEQUENCE, SET, UTC_TIME};
+use crate::log::days;
 
 /// Tags of the parts of a certificate that are numbered.
 const VERSION: u8 = 0xa0;
@@ -83,17 +84,7 @@ fn seconds((tag, digits): (u8, &[u8])) -> Option<i64> {
     };
     let two = |place: usize| rest.get(place..place + 2)?.parse::<i64>().ok();
     let time = (two(4)? * 60 + two(6)?) * 60 + two(8)?;
-    (rest.len() == 10).then_some(days(year, two(0)?, two(2)?) * 86_400 + time)
-}
-
-/// Days from 1970 to a day of the Gregorian calendar: years begin with March here, so that a leap day is a year's last.
-fn days(year: i64, month: i64, day: i64) -> i64 {
-    let (year, month) = match month {
-        ..=2 => (year - 1, month + 9),
-        _ => (year, month - 3),
-    };
-    let of_years = 365 * year + year.div_euclid(4) - year.div_euclid(100) + year.div_euclid(400);
-    of_years + (153 * month + 2) / 5 + day - 1 - 719_468
+    (rest.len() == 10).then_some((days(year, two(0)?) + two(2)? - 1) * 86_400 + time)
 }
 
 #[cfg(test)]

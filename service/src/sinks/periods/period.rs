@@ -1,6 +1,6 @@
 //! How a month, a day and an hour are written.
 
-use crate::log::utc;
+use crate::log::{days, utc};
 use std::fmt;
 use std::ops::RangeInclusive;
 use std::str::FromStr;
@@ -87,12 +87,6 @@ fn number(text: &str, digits: usize, range: RangeInclusive<i64>) -> Option<i64> 
     let is_number = text.len() == digits && text.bytes().all(|byte| byte.is_ascii_digit());
     let number = is_number.then(|| text.parse().ok()).flatten();
     number.filter(|number| range.contains(number))
-}
-
-/// Days from 1970 to the first of a month: years begin with March here, so that a leap day is a year's last.
-fn days(year: i64, month: i64) -> i64 {
-    let (year, month) = (year + (month - 3).div_euclid(12), (month - 3).rem_euclid(12));
-    365 * year + year / 4 - year / 100 + year / 400 + (153 * month + 2) / 5 - 719_468
 }
 
 #[cfg(test)]
