@@ -26,7 +26,9 @@ impl Certificate {
     /// Reads the bytes of one, in DER: none where they are no certificate.
     pub fn read(bytes: &[u8]) -> Option<Certificate> {
         let mut body = Der(bytes).expect(SEQUENCE)?.expect(SEQUENCE)?;
-        body.optional(VERSION);
+        if body.0.first() == Some(&VERSION) {
+            body.next();
+        }
         body.expect(INTEGER)?;
         body.expect(SEQUENCE)?; // how it is signed
         body.expect(SEQUENCE)?; // by whom

@@ -17,14 +17,6 @@ impl<'d> Der<'d> {
     pub fn expect(&mut self, tag: u8) -> Option<Der<'d>> {
         self.next().filter(|found| found.0 == tag).map(|found| Der(found.1))
     }
-
-    /// The same where it may be left out.
-    pub fn optional(&mut self, tag: u8) -> Option<Der<'d>> {
-        match self.0.first() {
-            Some(first) if *first == tag => self.expect(tag),
-            _ => None,
-        }
-    }
 }
 
 impl<'d> Iterator for Der<'d> {
