@@ -6,10 +6,11 @@ use crate::otlp::series::SeriesKey;
 use crate::shares::Owned;
 use crate::sinks::Delivery;
 use crate::slot::Slot;
+use crate::work::locked;
 use std::collections::hash_map::DefaultHasher;
 use std::collections::{BTreeMap, HashMap};
 use std::hash::{Hash, Hasher};
-use std::sync::{Arc, Mutex, PoisonError, RwLock, RwLockReadGuard};
+use std::sync::{Arc, Mutex};
 use std::time::Duration;
 
 /// A slot with what belongs to it.
@@ -32,37 +33,31 @@ pub struct Undelivered {
 /// Those that are here now, of so many. They come and go.
 pub struct Units {
     slots: u16,
-    here: RwLock<BTreeMap<u16, Arc<Unit>>>,
+    here: Mutex<BTreeMap<u16, Arc<Unit>>>,
 }
 
 impl Units {
     pub fn of(slots: u16) -> Arc<Units> {
-        Arc::new(Units { slots, here: RwLock::default() })
+        Arc::new(Units { slots, here: Mutex::default() })
     }
 
     pub fn put(&self, unit: Arc<Unit>) {
-        let mut here = self.here.write().unwrap_or_else(PoisonError::into_inner); // a map is sound at any time
-        here.insert(unit.slot.number(), unit);
+        locked(&self.here).insert(unit.slot.number(), unit);
     }
 
     /// What it was, until nobody has it any more.
     pub fn remove(&self, slot: u16) -> Option<Arc<Unit>> {
-        let mut here = self.here.write().unwrap_or_else(PoisonError::into_inner);
-        here.remove(&slot)
-    }
-
-    fn here(&self) -> RwLockReadGuard<'_, BTreeMap<u16, Arc<Unit>>> {
-        self.here.read().unwrap_or_else(PoisonError::into_inner)
+        locked(&self.here).remove(&slot)
     }
 
     /// By their numbers, ascending.
     pub fn all(&self) -> Vec<Arc<Unit>> {
-        self.here().values().cloned().collect()
+        locked(&self.here).values().cloned().collect()
     }
 
     /// Whether none is here.
     pub fn is_empty(&self) -> bool {
-        self.here().is_empty()
+        locked(&self.here).is_empty()
     }
 
     /// How many slots there are, here and elsewhere.
@@ -72,7 +67,7 @@ impl Units {
 
     /// One that is here.
     pub fn get(&self, slot: u16) -> Option<Arc<Unit>> {
-        self.here().get(&slot).cloned()
+        locked(&self.here).get(&slot).cloned()
     }
 
     /// Why posts of the slots that are here, and none of these, are answered 503, where those of all of them are.
