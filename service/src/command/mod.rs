@@ -10,7 +10,6 @@ mod explain;
 mod export;
 mod letters;
 mod of_book;
-mod of_runs;
 mod of_senders;
 mod of_store;
 mod periods;

@@ -1,7 +1,6 @@
 //! `totxegun serve`: its options, and its run.
 
 use super::of_book::OfBook;
-use super::of_runs::OfRuns;
 use super::of_senders::OfSenders;
 use super::of_store::OfStore;
 use super::reading::OfReading;
@@ -18,6 +17,7 @@ use crate::metrics::Metrics;
 use crate::otlp::Cause;
 use crate::pass::Pass;
 use crate::post_reports::ReportOptions;
+use crate::runs;
 use crate::service::{self, init, Operate, Settings};
 use crate::sinks::{header_of, Address};
 use anyhow::{anyhow, bail, Context};
@@ -123,7 +123,7 @@ pub struct Options {
     #[command(flatten)]
     of_reading: OfReading,
     #[command(flatten)]
-    of_runs: OfRuns,
+    of_runs: runs::Options,
     #[command(flatten)]
     of_book: OfBook,
 }
@@ -293,7 +293,7 @@ impl Options {
             forget: self.forget_series.0,
             clock,
             across: self.never_across,
-            runs: self.of_runs.options(),
+            runs: self.of_runs,
             report_options: ReportOptions {
                 log_foreign: self.log_foreign as usize,
                 expected: self.expect_foreign,

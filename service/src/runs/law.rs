@@ -50,9 +50,15 @@ pub enum Reset {
     Count,
 }
 
-#[derive(Clone, Copy, Debug, Default)]
+#[derive(clap::Args, Clone, Copy, Debug, Default)]
+#[command(next_help_heading = "Options of cumulative points")]
+#[group(skip)]
 pub struct Options {
+    /// Which first points of series count from their start; of others what they have already is left out
+    #[arg(long, env = "TOTXEGUN_FIRST", value_name = "WHICH", default_value = "auto", value_enum)]
     pub first: First,
+    /// What a point is that has less than the one before it, of the same start
+    #[arg(long, env = "TOTXEGUN_RESET", value_name = "WHAT", default_value = "refuse", value_enum)]
     pub reset: Reset,
 }
 
