@@ -53,21 +53,14 @@ impl<T: Send + Sync + 'static> Reloaded<T> {
         metrics: &Metrics,
     ) -> anyhow::Result<Arc<Reloaded<T>>> {
         let option = files.first().map_or("", |(option, _)| *option);
-        let mut files = Files {
-            files,
-            reader,
-            judged: Vec::new(),
-            seen: Vec::new(),
-            stale: metrics.stale_files.with_label_values(&[option]),
-            into: Weak::new(),
-        };
-        let contents = files.contents();
-        files.judged = digests(&contents);
-        files.seen = files.judged.clone();
-        let first = all(contents).and_then(|contents| files.reader.at_start(&contents));
+        let contents = all_contents(&files);
+        let seen = digests(&contents);
+        let first = all(contents).and_then(|contents| reader.at_start(&contents));
         let first = first.map_err(|why| anyhow!("{option} can't be used: {why}"))?;
         let reloaded = Arc::new(Reloaded(RwLock::new(Arc::new(first))));
-        files.into = Arc::downgrade(&reloaded);
+        let (judged, into) = (seen.clone(), Arc::downgrade(&reloaded));
+        let stale = metrics.stale_files.with_label_values(&[option]);
+        let mut files = Files { files, reader, judged, seen, stale, into };
         std::thread::Builder::new()
             .name(option.trim_matches('-').to_string())
             .spawn(move || while files.look() {})
@@ -104,7 +97,7 @@ impl<T: Send + Sync + 'static> Files<T> {
     /// Whether somebody still wants what is in them.
     fn look(&mut self) -> bool {
         std::thread::sleep(LOOK);
-        let contents = self.contents();
+        let contents = all_contents(&self.files);
         let found = digests(&contents);
         let is_settled = found == self.seen;
         self.seen = found;
@@ -149,10 +142,10 @@ impl<T: Send + Sync + 'static> Files<T> {
             }
         }
     }
+}
 
-    fn contents(&self) -> Contents {
-        self.files.iter().map(|(_, path)| contents(path)).collect()
-    }
+fn all_contents(files: &[(&str, PathBuf)]) -> Contents {
+    files.iter().map(|(_, path)| contents(path)).collect()
 }
 
 /// All of them, or why the first can't be read that can't.
@@ -285,10 +278,10 @@ mod tests {
             std::fs::write(path, "1").unwrap();
         }
         let mut files = files(paths);
-        files.judged = digests(&files.contents());
+        files.judged = digests(&all_contents(&files.files));
         let mut changed = |what: &dyn Fn(&Path)| {
             what(at.path());
-            files.seen = digests(&files.contents());
+            files.seen = digests(&all_contents(&files.files));
             let changed = files.changed();
             files.judged = files.seen.clone();
             changed
