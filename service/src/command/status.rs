@@ -136,8 +136,8 @@ fn cumulative(of: &CumulativeStatus) -> String {
 
 fn rounding(of: &RoundedStatus) -> String {
     let (series, rule) = (of.series, &of.rule);
-    let values = values::counted(of.values, "value");
-    let together = units(of, of.together);
+    let values = values::counted(of.rounding.values, "value");
+    let together = units(of, of.rounding.together);
     format!("{values} of {series} series by {rule}, together by at most {together}")
 }
 
@@ -147,8 +147,8 @@ fn rounded_series(rounded: &[RoundedStatus]) -> String {
     let all = rounded.iter().flat_map(|of| of.greatest.iter().map(move |one| (of, one)));
     for (of, series) in all.clone() {
         table.row(&[
-            &units(of, series.together),
-            &series.values.to_string(),
+            &units(of, series.rounding.together),
+            &series.rounding.values.to_string(),
             or_dash(&series.metric),
             or_dash(&series.attributes),
             or_dash(&series.resource),
@@ -202,7 +202,9 @@ fn trouble(status: &Status, slot: &SlotStatus) -> [Option<String>; 2] {
 #[cfg(test)]
 mod tests {
     use super::*;
-    use crate::operate::{BooksStatus, RoundedSeriesStatus};
+    use crate::metrics::RoundedSeries;
+    use crate::operate::BooksStatus;
+    use crate::otlp::Rounding;
 
     fn status(quarantined: &[&str]) -> Status {
         let slot = SlotStatus {
@@ -329,18 +331,18 @@ mod tests {
         assert!(text(&told).ends_with(wanted), "{}", text(&told));
     }
 
-    fn rounded(rule: &str, greatest: Vec<RoundedSeriesStatus>) -> RoundedStatus {
-        RoundedStatus { rule: rule.into(), values: 12, together: 3.00001, series: 2, greatest }
+    fn rounded(rule: &str, greatest: Vec<RoundedSeries>) -> RoundedStatus {
+        let rounding = Rounding { values: 12, together: 3.00001 };
+        RoundedStatus { rule: rule.into(), rounding, series: 2, greatest }
     }
 
     #[test]
     fn the_series_that_were_rounded_by_most_are_shown() {
-        let series = |metric: &str, attributes: &str, together| RoundedSeriesStatus {
+        let series = |metric: &str, attributes: &str, together| RoundedSeries {
             metric: metric.into(),
             attributes: attributes.into(),
             resource: "service.name=shop".into(),
-            values: 6,
-            together,
+            rounding: Rounding { values: 6, together },
         };
         let one = rounded("s=1000000:us", vec![series("wait", "", 2.5), series("wait", "route=/", 0.50001)]);
         assert_eq!(rounding(&one), "12 values of 2 series by s=1000000:us, together by at most 3.001 us");

@@ -3,11 +3,11 @@
 //! It has as many series as there may be. Of more, those are left out that were rounded longest ago, as series that
 //! nobody posts to are forgotten.
 
-use crate::otlp::{Rounded, Rounding};
+use crate::otlp::{Rounded, Rounding, ShownSeries};
 use crate::work::locked;
+use serde::{Deserialize, Serialize};
 use std::cmp::Ordering;
 use std::collections::{BTreeMap, HashMap};
-use std::sync::atomic::{AtomicUsize, Ordering::Relaxed};
 use std::sync::{Arc, Mutex};
 
 /// Until it is told how many there may be.
@@ -16,15 +16,15 @@ const SERIES: usize = 10_000;
 /// How many series of a rule are shown: those that were rounded by most.
 pub const SHOWN: usize = 10;
 
-/// A series and its values that were not whole.
-#[derive(Clone, Debug, PartialEq)]
+/// A series and its values that were not whole: its total is off by no more than they were rounded by together.
+#[derive(Debug, PartialEq, Serialize, Deserialize)]
 pub struct RoundedSeries {
     pub metric: String,
+    /// `key=value, ..`; what is long is cut.
     pub attributes: String,
-    pub resource: Arc<str>,
+    pub resource: String,
+    #[serde(flatten)]
     pub rounding: Rounding,
-    /// The place of its last point among all that were rounded.
-    last: u64,
 }
 
 /// The series that a rule has rounded.
@@ -36,44 +36,43 @@ pub struct SeriesOfRule {
 }
 
 /// By rule and series.
-pub struct RoundingBySeries {
-    most: AtomicUsize,
-    table: Mutex<Table>,
-}
+pub struct RoundingBySeries(Mutex<Table>);
 
-#[derive(Default)]
 struct Table {
+    /// There is room for so many series.
+    most: usize,
     points: u64,
     /// By the hash of a series' key.
-    rules: BTreeMap<Arc<str>, HashMap<u64, RoundedSeries>>,
+    rules: BTreeMap<Arc<str>, HashMap<u64, One>>,
+}
+
+struct One {
+    of: Arc<ShownSeries>,
+    rounding: Rounding,
+    /// The place of its last point among all that were rounded.
+    last: u64,
 }
 
 impl RoundingBySeries {
     pub fn new() -> RoundingBySeries {
-        RoundingBySeries { most: AtomicUsize::new(SERIES), table: Mutex::new(Table::default()) }
+        RoundingBySeries(Mutex::new(Table { most: SERIES, points: 0, rules: BTreeMap::new() }))
     }
 
     /// There is room for so many series.
     pub fn has_room_for(&self, series: usize) {
-        self.most.store(series, Relaxed);
+        locked(&self.0).most = series;
     }
 
     /// Counts the points of a post that was taken.
     pub fn add(&self, rounded: &Rounded) {
-        if rounded.points.is_empty() {
-            return;
-        }
-        let mut table = locked(&self.table);
-        table.add(rounded);
-        let most = self.most.load(Relaxed);
-        if table.count() > most {
-            table.keep(most - most / 16);
+        if !rounded.points.is_empty() {
+            locked(&self.0).add(rounded);
         }
     }
 
     /// By how much one series was rounded at most, by rule.
     pub fn greatest(&self) -> Vec<(Arc<str>, f64)> {
-        let table = locked(&self.table);
+        let table = locked(&self.0);
         let rules = table.rules.iter();
         rules
             .map(|(rule, series)| {
@@ -84,24 +83,35 @@ impl RoundingBySeries {
     }
 
     pub fn of_rule(&self, rule: &str) -> SeriesOfRule {
-        let table = locked(&self.table);
+        let table = locked(&self.0);
         let Some(series) = table.rules.get(rule) else {
             return SeriesOfRule::default();
         };
-        let mut all: Vec<&RoundedSeries> = series.values().collect();
+        let mut all: Vec<&One> = series.values().collect();
         if all.len() > SHOWN {
             all.select_nth_unstable_by(SHOWN, by_greatest);
             all.truncate(SHOWN);
         }
         all.sort_unstable_by(by_greatest);
-        SeriesOfRule { count: series.len(), greatest: all.into_iter().cloned().collect() }
+        SeriesOfRule { count: series.len(), greatest: all.into_iter().map(One::shown).collect() }
     }
 }
 
 /// The greatest first; of two the one that was rounded last.
-fn by_greatest(one: &&RoundedSeries, other: &&RoundedSeries) -> Ordering {
+fn by_greatest(one: &&One, other: &&One) -> Ordering {
     let (this, that) = (one.rounding.together, other.rounding.together);
     that.total_cmp(&this).then(other.last.cmp(&one.last))
+}
+
+impl One {
+    fn shown(&self) -> RoundedSeries {
+        RoundedSeries {
+            metric: self.of.metric.clone(),
+            attributes: self.of.attributes.clone(),
+            resource: self.of.resource.to_string(),
+            rounding: self.rounding,
+        }
+    }
 }
 
 impl Table {
@@ -109,19 +119,14 @@ impl Table {
         for point in &rounded.points {
             self.points += 1;
             let of = &point.of;
-            let series = match self.rules.get_mut(&*of.rule) {
-                Some(series) => series,
-                None => self.rules.entry(of.rule.clone()).or_default(),
-            };
-            let one = series.entry(of.series).or_insert_with(|| RoundedSeries {
-                metric: of.metric.clone(),
-                attributes: of.attributes.clone(),
-                resource: of.resource.clone(),
-                rounding: Rounding::default(),
-                last: 0,
-            });
+            let series = self.rules.entry(of.rule.clone()).or_default();
+            let new = || One { of: of.clone(), rounding: Rounding::default(), last: 0 };
+            let one = series.entry(of.series).or_insert_with(new);
             one.rounding.add(point.by);
             one.last = self.points;
+        }
+        if self.count() > self.most {
+            self.keep(self.most - self.most / 16);
         }
     }
 
@@ -218,8 +223,8 @@ mod tests {
         let found = table.of_rule("s=1000:ms");
         // The series that was rounded again is there still, with all that it was rounded by.
         assert_eq!((found.count, names(&found)[0]), (10_000 - 625, ("n0", 2, 1.0)));
-        let table = locked(&table.table);
-        let of = |name: &str| table.rules["s=1000:ms"].values().any(|one| one.metric == name);
+        let table = locked(&table.0);
+        let of = |name: &str| table.rules["s=1000:ms"].values().any(|one| one.of.metric == name);
         let left_out = 10_001 - found.count;
         assert!(!of("n1") && !of(&format!("n{left_out}")));
         assert!(of(&format!("n{}", left_out + 1)) && of("n9999") && of("n10000"));

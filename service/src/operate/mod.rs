@@ -29,7 +29,7 @@ pub use periods::{ANYWAY, FLUSHED};
 pub use reach::Others;
 pub use status::{
     held, quarantined, BooksStatus, ClusterStatus, CumulativeStatus, DatabaseStatus, InstanceStatus,
-    RoundedSeriesStatus, RoundedStatus, SlotStatus, Status, Stock,
+    RoundedStatus, SlotStatus, Status, Stock,
 };
 pub use tcp::AtTcp;
 pub use totals::Totals;

@@ -9,7 +9,8 @@ pub use cluster::{ClusterStatus, DatabaseStatus, InstanceStatus};
 use super::{Desk, Undelivered, Unit};
 use crate::files::Held;
 use crate::log::seconds;
-use crate::metrics::RoundedSeries;
+use crate::metrics::{RoundedSeries, SeriesOfRule};
+use crate::otlp::Rounding;
 use crate::shares::Used;
 use crate::work::locked;
 use serde::{Deserialize, Serialize};
@@ -88,37 +89,14 @@ pub struct BooksStatus {
 #[derive(Debug, Serialize, Deserialize)]
 pub struct RoundedStatus {
     pub rule: String,
-    pub values: u64,
-    pub together: f64,
+    #[serde(flatten)]
+    pub rounding: Rounding,
     /// How many series these are of.
     #[serde(default)]
     pub series: usize,
     /// The series that were rounded by most, this one first.
     #[serde(default)]
-    pub greatest: Vec<RoundedSeriesStatus>,
-}
-
-/// The same of one series: its total is off by no more than `together`.
-#[derive(Debug, Serialize, Deserialize)]
-pub struct RoundedSeriesStatus {
-    pub metric: String,
-    /// `key=value, ..`; what is long is cut.
-    pub attributes: String,
-    pub resource: String,
-    pub values: u64,
-    pub together: f64,
-}
-
-impl From<RoundedSeries> for RoundedSeriesStatus {
-    fn from(series: RoundedSeries) -> RoundedSeriesStatus {
-        RoundedSeriesStatus {
-            metric: series.metric,
-            attributes: series.attributes,
-            resource: series.resource.to_string(),
-            values: series.rounding.values,
-            together: series.rounding.together,
-        }
-    }
+    pub greatest: Vec<RoundedSeries>,
 }
 
 #[derive(Debug, Default, Serialize, Deserialize)]
@@ -229,14 +207,8 @@ impl Desk {
     fn rounded_status(&self) -> Vec<RoundedStatus> {
         let all = self.metrics.all_rounded().into_iter();
         all.map(|(rule, rounding)| {
-            let of_rule = self.metrics.rounded_series(&rule);
-            RoundedStatus {
-                rule,
-                values: rounding.values,
-                together: rounding.together,
-                series: of_rule.count,
-                greatest: of_rule.greatest.into_iter().map(RoundedSeriesStatus::from).collect(),
-            }
+            let SeriesOfRule { count: series, greatest } = self.metrics.rounded_series(&rule);
+            RoundedStatus { rule, rounding, series, greatest }
         })
         .collect()
     }

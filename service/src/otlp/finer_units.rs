@@ -12,8 +12,8 @@ mod scale;
 mod units;
 
 pub(super) use rewrite::rewritten;
-pub(super) use rounded::{shown_of, RoundedPoint, ShownSeries};
-pub use rounded::{Rounded, Rounding};
+pub(super) use rounded::{shown_of, RoundedPoint};
+pub use rounded::{Rounded, Rounding, ShownSeries};
 pub(super) use scale::{scale_of, InFiner, Scale, Scaled};
 pub use units::Decided;
 

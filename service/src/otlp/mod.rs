@@ -42,7 +42,7 @@ pub use clock::{Clock, Off, OffClock, Window};
 pub use combined_outcome::{combined, OfPart};
 pub use explain::{explained, foreign_points, point_at, second_at, taken_points, Explained};
 pub use exponential::Bounds;
-pub use finer_units::{Choice, Decided, FinerUnits, Rounded, Rounding, Rule};
+pub use finer_units::{Choice, Decided, FinerUnits, Rounded, Rounding, Rule, ShownSeries};
 pub use instance::{with_instance, INSTANCE};
 pub(crate) use messages::{Detail, ExportMetricsServiceResponse, Status};
 pub use numbered::{Learnt, NotNamed, Numbered, Series};

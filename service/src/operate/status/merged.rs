@@ -119,11 +119,11 @@ impl Status {
         let Some(same) = self.rounded.iter_mut().find(|one| one.rule == other.rule) else {
             return self.rounded.push(other);
         };
-        same.values += other.values;
-        same.together += other.together;
+        same.rounding.values += other.rounding.values;
+        same.rounding.together += other.rounding.together;
         same.series += other.series;
         same.greatest.extend(other.greatest);
-        same.greatest.sort_by(|one, other| other.together.total_cmp(&one.together));
+        same.greatest.sort_by(|one, other| other.rounding.together.total_cmp(&one.rounding.together));
         same.greatest.truncate(SHOWN_OF_RULE);
     }
 

@@ -7,6 +7,7 @@
 use super::{Decided, Rule};
 use crate::otlp::json::{Document, NotJson, Value};
 use crate::otlp::series::{said, short, visit, Profile, Seen};
+use serde::{Deserialize, Serialize};
 use std::collections::hash_map::DefaultHasher;
 use std::collections::BTreeMap;
 use std::hash::Hasher;
@@ -63,7 +64,7 @@ fn by_rule<'r>(values: impl Iterator<Item = (&'r str, f64)>) -> BTreeMap<String,
 }
 
 /// Values that were not whole, and what they were rounded by together, in the finer unit.
-#[derive(Clone, Copy, Debug, Default, PartialEq, serde::Serialize)]
+#[derive(Clone, Copy, Debug, Default, PartialEq, Serialize, Deserialize)]
 pub struct Rounding {
     pub values: u64,
     pub together: f64,
