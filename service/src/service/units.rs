@@ -6,7 +6,7 @@ use crate::latch::Latch;
 use crate::operate;
 use crate::post_reports::{Reported, Reporter};
 use crate::sinks::Sink;
-use crate::slot::{Place, Shared, Slot, Slots};
+use crate::slot::{Shared, Slot, Slots};
 use crate::work::{blocking, locked};
 use std::collections::BTreeMap;
 use std::sync::{Arc, Mutex};
@@ -133,7 +133,7 @@ impl Units {
         });
         let opened = opened.await?;
         let (number, taker) = (opened.slot.number(), taker(&opened.slot, &self.reporter));
-        self.slots.set(number, Place::Here(taker)); // first, since one that is lost at once is nobody's
+        self.slots.set(number, Some(taker)); // first, since one that is lost at once is nobody's
         self.at_work.start(opened.start(&self.sink));
         Ok(())
     }
@@ -141,13 +141,13 @@ impl Units {
     /// Gives a slot to another: posts are nobody's from now on, and what was taken goes into the outbox. False where that
     /// took too long: its journal has the rest.
     pub async fn hand_over(&self, number: u16) -> Result<bool, Ended> {
-        self.slots.set(number, Place::Nobody);
+        self.slots.set(number, None);
         self.at_work.stop(number).await
     }
 
     /// Ends a slot that another has.
     pub fn lose(&self, number: u16) {
-        self.slots.set(number, Place::Nobody);
+        self.slots.set(number, None);
         self.at_work.lose(number);
     }
 }

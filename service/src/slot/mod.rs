@@ -16,7 +16,7 @@ mod verdict;
 
 pub use numbers::{ByNumber, Request, Source};
 pub(crate) use phase::Phase;
-pub use slots::{Elsewhere, Place, Slots, Way, NO_OWNER};
+pub use slots::{Elsewhere, Slots, Way, NO_OWNER};
 
 use crate::core::Core;
 use crate::files::{FreeSpace, Journal, Outbox};

@@ -1,7 +1,7 @@
 //! Which slots are here, and where posts of the others go.
 //!
-//! A folder has one, and nothing is looked at then. Of several each is here, another instance's, or nobody's yet, which changes
-//! while posts go on: a post has what it found, also where that changes meanwhile.
+//! A folder has one, and nothing is looked at then. Of several each is here or not, which changes while posts go on: a post has
+//! what it found, also where that changes meanwhile.
 
 use crate::otlp::{Encoding, Original, Outcome, Resources, Split};
 use bytes::Bytes;
@@ -11,25 +11,6 @@ use std::sync::{Arc, PoisonError, RwLock};
 
 /// What is said where a slot is nobody's.
 pub const NO_OWNER: &str = "no instance has the slot of this post";
-
-/// Who has a slot.
-#[derive(Debug)]
-pub enum Place<T> {
-    Here(Arc<T>),
-    /// The instance at this address.
-    At(String),
-    Nobody,
-}
-
-impl<T> Clone for Place<T> {
-    fn clone(&self) -> Place<T> {
-        match self {
-            Place::Here(one) => Place::Here(one.clone()),
-            Place::At(address) => Place::At(address.clone()),
-            Place::Nobody => Place::Nobody,
-        }
-    }
-}
 
 /// Who brings posts to slots that are not here.
 pub trait Elsewhere: Send + Sync + 'static {
@@ -63,7 +44,8 @@ enum Kind<T> {
 
 struct Several<T> {
     resources: Resources,
-    places: Vec<RwLock<Place<T>>>,
+    /// What takes the posts of each, if it is here.
+    here: Vec<RwLock<Option<Arc<T>>>>,
     elsewhere: Option<Arc<dyn Elsewhere>>,
 }
 
@@ -80,11 +62,10 @@ impl<T> Slots<T> {
         Arc::new(Slots(Kind::One(taker)))
     }
 
-    /// As many as resources are put into; each is nobody's.
+    /// As many as resources are put into; none is here.
     pub fn several(resources: Resources, elsewhere: Option<Arc<dyn Elsewhere>>) -> Arc<Slots<T>> {
-        let nobody = |_| RwLock::new(Place::Nobody);
         Arc::new(Slots(Kind::Several(Box::new(Several {
-            places: (0..resources.slots()).map(nobody).collect(),
+            here: (0..resources.slots()).map(|_| RwLock::default()).collect(),
             resources,
             elsewhere,
         }))))
@@ -103,31 +84,23 @@ impl<T> Slots<T> {
         }
     }
 
-    /// Who has a slot; nobody where there is no such slot.
-    pub fn place(&self, slot: u16) -> Place<T> {
-        match &self.0 {
-            Kind::One(taker) if slot == 0 => Place::Here(taker.clone()),
-            Kind::One(_) => Place::Nobody,
-            Kind::Several(several) => match several.places.get(usize::from(slot)) {
-                Some(place) => place.read().unwrap_or_else(PoisonError::into_inner).clone(), // one value is sound at any time
-                None => Place::Nobody,
-            },
-        }
-    }
-
     /// What takes the posts of a slot, if it is here and may take some now.
     pub fn here(&self, slot: u16) -> Option<Arc<T>> {
-        match self.place(slot) {
-            Place::Here(taker) if !self.others().is_some_and(|others| others.is_silent(slot)) => Some(taker),
-            Place::Here(_) | Place::At(_) | Place::Nobody => None,
+        match &self.0 {
+            Kind::One(taker) => (slot == 0).then(|| taker.clone()),
+            Kind::Several(several) => {
+                let here = several.here.get(usize::from(slot))?;
+                let here = here.read().unwrap_or_else(PoisonError::into_inner).clone(); // one value is sound at any time
+                here.filter(|_| !self.others().is_some_and(|others| others.is_silent(slot)))
+            }
         }
     }
 
-    /// Says who has a slot from now on. That of a folder stays.
-    pub fn set(&self, slot: u16, to: Place<T>) {
+    /// Says what takes the posts of a slot from now on, if it is here. That of a folder stays.
+    pub fn set(&self, slot: u16, to: Option<Arc<T>>) {
         if let Kind::Several(several) = &self.0 {
-            if let Some(place) = several.places.get(usize::from(slot)) {
-                *place.write().unwrap_or_else(PoisonError::into_inner) = to;
+            if let Some(here) = several.here.get(usize::from(slot)) {
+                *here.write().unwrap_or_else(PoisonError::into_inner) = to;
             }
         }
     }

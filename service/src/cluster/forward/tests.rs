@@ -353,7 +353,7 @@ async fn of_a_database_that_is_silent_a_post_is_turned_away_at_once_and_others_g
         let resources = Resources::new(8, Arc::default());
         let slots = crate::slot::Slots::several(resources, Some(forward.clone()));
         for slot in [3, 4] {
-            slots.set(slot, crate::slot::Place::Here(Arc::new(())));
+            slots.set(slot, Some(Arc::new(())));
         }
         assert!(slots.unavailable().is_none() && slots.here(4).is_some() && slots.here(3).is_none());
     }

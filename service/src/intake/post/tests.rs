@@ -4,7 +4,7 @@ use super::*;
 use crate::intake::head::Packing;
 use crate::intake::{Budget, Intake};
 use crate::otlp::{slot_of, Resources};
-use crate::slot::{ByNumber, Elsewhere, Place, NO_OWNER};
+use crate::slot::{ByNumber, Elsewhere, NO_OWNER};
 use std::future::Future;
 use std::pin::Pin;
 use std::sync::Mutex;
@@ -63,8 +63,7 @@ fn served(here: Option<Outcome>, elsewhere: Outcome) -> Served {
     let others = Arc::new(Others { posts: Mutex::default(), outcome: elsewhere });
     let reading = Arc::<Reading>::default();
     let slots = Slots::several(Resources::new(SLOTS, reading.clone()), Some(others.clone()));
-    slots.set(0, Place::At("other:1".into()));
-    slots.set(1, Place::Here(kept.clone()));
+    slots.set(1, Some(kept.clone()));
     let (budget, metrics) = (Budget::new(64 << 20), Arc::new(Metrics::new().unwrap()));
     let intake = Intake::of(slots.clone(), Arc::new(()), reading, budget.clone(), metrics);
     Served { kept, others, slots, intake, budget }
@@ -160,7 +159,7 @@ async fn a_request_of_one_slot_goes_as_it_came() {
     let unreadable = Bytes::from_static(b"{\"resourceMetrics\":");
     assert_eq!(served.post(Encoding::Json, unreadable.clone()).await, late(9));
     assert_eq!(served.others(), [(0, "A".to_string(), unreadable)]);
-    served.slots.set(2, Place::Here(served.kept.clone()));
+    served.slots.set(2, Some(served.kept.clone()));
     let both = request(&[element(2, 1), element(1, 1)]);
     assert_eq!(served.post(Encoding::Json, both).await, late(7));
     assert_eq!(served.kept().len(), 2);
@@ -170,7 +169,7 @@ async fn a_request_of_one_slot_goes_as_it_came() {
 #[tokio::test]
 async fn what_can_t_be_read_is_refused_with_its_part() {
     let served = served(Some(Outcome::taken(0)), late(0));
-    served.slots.set(0, Place::Here(served.kept.clone()));
+    served.slots.set(0, Some(served.kept.clone()));
     let wrong =
         r#"{"resource":{"labels":[5]},"scopeMetrics":[{"metrics":[{"gauge":{"dataPoints":[{},{}]}}]}]}"#;
     let body = request(&[wrong.into(), element(1, 2)]);

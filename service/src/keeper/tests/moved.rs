@@ -9,7 +9,7 @@ use crate::files::{Drive, Fault};
 use crate::intake::{Budget, Intake};
 use crate::otlp::series::{forwarded, Value};
 use crate::otlp::{Encoding, Original, Resources};
-use crate::slot::{Place, Slots, MOVED, NO_STORE};
+use crate::slot::{Slots, MOVED, NO_STORE};
 use std::collections::BTreeMap;
 use std::io;
 use std::sync::atomic::AtomicU64;
@@ -318,7 +318,7 @@ async fn what_was_forwarded_waits_for_the_store_too() {
     let store = Arc::new(Store::default());
     let (run, stalls) = stalling(&store).await;
     let slots = Slots::several(Resources::new(1, Arc::default()), None);
-    slots.set(0, Place::Here(run.slot.clone()));
+    slots.set(0, Some(run.slot.clone()));
     let (budget, metrics) = (Budget::new(8 << 20), run.slot.metrics.clone());
     let intake = Intake::of(slots, Arc::new(()), Arc::default(), budget, metrics);
     stalls.store(true, SeqCst);

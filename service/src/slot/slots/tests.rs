@@ -167,7 +167,7 @@ impl Service {
     fn open(&self, number: u16) {
         let slot = &self.all[usize::from(number)];
         slot.open();
-        self.slots.set(number, Place::Here(slot.clone()));
+        self.slots.set(number, Some(slot.clone()));
     }
 
     async fn post(&self, sender: &str, body: &Bytes) -> Outcome {
@@ -282,7 +282,7 @@ async fn slots_come_and_go_while_posts_go_on() {
     let moves = tokio::spawn(async move {
         for number in 0..u16::MAX {
             let slot = number % SLOTS;
-            moving.slots.set(slot, Place::Nobody);
+            moving.slots.set(slot, None);
             tokio::task::yield_now().await;
             moving.open(slot);
             tokio::task::yield_now().await;
@@ -324,6 +324,6 @@ async fn one_slot_gets_all_requests_as_they_come() {
         let way = one.way(Encoding::Json, &Bytes::from_static(body));
         assert!(matches!(way, Way::Here(taker) if *taker == 5));
     }
-    one.set(0, Place::Nobody);
+    one.set(0, None);
     assert!(one.here(0).is_some() && one.here(1).is_none());
 }
