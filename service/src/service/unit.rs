@@ -104,7 +104,7 @@ impl Opened {
             None => settings.reading.clone(),
         });
         reading.finer_units.know(&outbox, &journal)?;
-        let slot = Slot::reading_by(Some(reading), number, journal, outbox, core, shared);
+        let slot = Slot::of(Some(reading), number, journal, outbox, core, shared);
         slot.runs.set(settings.runs);
         let (keeper, orders) = Keeper::new(slot.clone(), settings.keeping());
         Ok(Opened { slot, keeper: keeper.behind(priming), orders, dead, former })

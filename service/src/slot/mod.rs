@@ -108,22 +108,11 @@ impl Slot {
         metrics: Arc<Metrics>,
         core: Arc<Core>,
     ) -> Arc<Slot> {
-        Slot::of(number, journal, outbox, core, &Shared::new(metrics, Clock::default()))
+        Slot::of(None, number, journal, outbox, core, &Shared::new(metrics, Clock::default()))
     }
 
-    /// One of several.
+    /// One of several, which reads posts so.
     pub fn of(
-        number: u16,
-        journal: Journal,
-        outbox: Arc<Outbox>,
-        core: Arc<Core>,
-        shared: &Shared,
-    ) -> Arc<Slot> {
-        Slot::reading_by(None, number, journal, outbox, core, shared)
-    }
-
-    /// The same, which reads posts so.
-    pub fn reading_by(
         reading: Option<Arc<Reading>>,
         number: u16,
         journal: Journal,
@@ -208,7 +197,7 @@ impl Slot {
         use crate::files::drive::{self, memory::Store};
         let (journal, outbox, _dead) =
             drive::open(Arc::<Store>::default().take(), "00000000000000aa").unwrap();
-        let slot = Slot::of(0, journal, Arc::new(outbox), Core::new(10).unwrap(), shared);
+        let slot = Slot::of(None, 0, journal, Arc::new(outbox), Core::new(10).unwrap(), shared);
         slot.open();
         slot
     }

@@ -54,7 +54,7 @@ impl Place {
         let core = Core::new(self.most_series).unwrap();
         let shared = Shared::new(metrics.clone(), self.clock);
         let priming = Priming::begin(&core, &outbox, journal.size().1.is_some());
-        let slot = Slot::of(0, journal, outbox.clone(), core, &shared);
+        let slot = Slot::of(None, 0, journal, outbox.clone(), core, &shared);
         let (keeper, orders) = Keeper::new(slot.clone(), settings);
         let (stop, stopped) = watch::channel(false);
         let task = tokio::spawn(keeper.behind(priming).run(stopped));

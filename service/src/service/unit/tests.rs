@@ -26,7 +26,7 @@ fn over(
     let (dead, outbox) = (Arc::new(dead), Arc::new(outbox));
     let metrics = Arc::new(Metrics::new().unwrap());
     let shared = Shared::new(metrics, Clock::default());
-    let slot = Slot::of(number, journal, outbox.clone(), Core::new(1).unwrap(), &shared);
+    let slot = Slot::of(None, number, journal, outbox.clone(), Core::new(1).unwrap(), &shared);
     let (stop_keeper, mut stopped) = watch::channel(false);
     let mut keeper = JoinSet::new();
     keeper.spawn(async move {

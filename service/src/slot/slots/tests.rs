@@ -156,7 +156,7 @@ impl Service {
             let folder = Folder::open(&place, Durability::Process).unwrap();
             let (journal, outbox) = folder.slot(0).unwrap();
             let core = Core::new(1000).unwrap();
-            Slot::of(number, journal, Arc::new(outbox), core, &shared)
+            Slot::of(None, number, journal, Arc::new(outbox), core, &shared)
         });
         let (budget, heard) = (Budget::new(64 << 20), Arc::<Heard>::default());
         let intake = Intake::of(slots.clone(), heard.clone(), reading, budget.clone(), metrics);
