@@ -211,11 +211,6 @@ impl Dead {
         Ok(Some((letter, file)))
     }
 
-    /// An operator throws it away. Whether there was one.
-    pub fn drop_letter(&self, key: &str) -> Result<bool, Fault> {
-        self.end(key, Became::Dropped)
-    }
-
     /// Removes it, of which this has become. Whether there was one.
     pub fn end(&self, key: &str, became: Became) -> Result<bool, Fault> {
         let _one = locked(&self.changing);

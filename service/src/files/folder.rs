@@ -123,12 +123,6 @@ impl Folder {
         Ok(folder)
     }
 
-    /// Whether a start could use what is there: that this user has the rights, and files and folders are what they have
-    /// to be. Changes nothing, and does not look at what files say.
-    pub fn look_at(path: &Path) -> Result<(), FolderFault> {
-        usable::look_at(path)
-    }
-
     /// Whether a start would take it for a copy, or for one whose lock was deleted, and so draw a new epoch. False where
     /// there is none, or its version can't be read.
     pub fn is_moved(path: &Path) -> bool {
@@ -178,8 +172,7 @@ impl Folder {
     /// A disk as a test wants it.
     #[cfg(test)]
     pub(crate) fn in_room(mut self, look: impl Fn() -> u64 + Send + Sync + 'static) -> Folder {
-        let free_space = FreeSpace::with(move || Ok((look(), 1 << 40, 1000)));
-        self.free_space = Arc::new(free_space.unwrap());
+        self.free_space = Arc::new(FreeSpace::of(move || Ok((look(), 1 << 40, 1000))));
         self
     }
 

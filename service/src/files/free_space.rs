@@ -51,13 +51,14 @@ impl Drop for Reservation<'_> {
 impl FreeSpace {
     pub fn new(path: &Path) -> Result<FreeSpace, Fault> {
         let folder = path.to_path_buf();
-        FreeSpace::with(move || {
+        let look = move || {
             let disk = nix::sys::statvfs::statvfs(&folder)?;
             let unit = disk.fragment_size();
             let files = if disk.files() == 0 { u64::MAX } else { disk.files_available() };
             Ok((disk.blocks_available() * unit, disk.blocks() * unit, files))
-        })
-        .map_err(io_fault(path))
+        };
+        look().map_err(io_fault(path))?;
+        Ok(FreeSpace::of(look))
     }
 
     /// Of a slot that has no disk: what keeps its files says itself that it is full.
@@ -65,14 +66,9 @@ impl FreeSpace {
         FreeSpace::of(|| Ok((u64::MAX >> 2, 0, u64::MAX)))
     }
 
-    pub(super) fn with(
+    pub(super) fn of(
         look: impl Fn() -> std::io::Result<(u64, u64, u64)> + Send + Sync + 'static,
-    ) -> std::io::Result<FreeSpace> {
-        look()?;
-        Ok(FreeSpace::of(look))
-    }
-
-    fn of(look: impl Fn() -> std::io::Result<(u64, u64, u64)> + Send + Sync + 'static) -> FreeSpace {
+    ) -> FreeSpace {
         let space = FreeSpace {
             look: Box::new(look),
             began: Instant::now(),
@@ -178,7 +174,7 @@ mod tests {
     use std::time::Duration;
 
     fn space(free: Arc<AtomicU64>, files: u64) -> FreeSpace {
-        FreeSpace::with(move || Ok((free.load(Relaxed), 1 << 40, files))).unwrap()
+        FreeSpace::of(move || Ok((free.load(Relaxed), 1 << 40, files)))
     }
 
     #[test]
@@ -233,11 +229,6 @@ mod tests {
 
     #[test]
     fn a_disk_that_does_not_answer_has_no_room() {
-        let asked = AtomicU64::new(0);
-        let space = FreeSpace::with(move || match asked.fetch_add(1, Relaxed) {
-            0 => Ok((u64::MAX >> 2, 1 << 30, 1000)),
-            _ => Err(std::io::ErrorKind::Other.into()),
-        });
-        assert!(!space.unwrap().is_left());
+        assert!(!FreeSpace::of(|| Err(std::io::ErrorKind::Other.into())).is_left());
     }
 }

@@ -126,14 +126,6 @@ struct Size {
     first: Option<u64>,
 }
 
-#[cfg(test)]
-impl Expected {
-    /// Of a folder of which nothing is known.
-    pub fn of_none() -> Expected {
-        Expected { reach: 1, begun: None, by: (PathBuf::new(), 0) }
-    }
-}
-
 impl Journal {
     /// Puts a post behind the others, and writes nothing yet. `names` says what its numbers stand for, where the segment has not
     /// said that.

@@ -62,14 +62,3 @@ fn nanoseconds() -> u64 {
 fn seconds() -> u64 {
     nanoseconds() / 1_000_000_000
 }
-
-/// A journal whose syncs wait until `open` is true.
-#[cfg(test)]
-pub(crate) fn held_journal(
-    folder: &std::path::Path,
-    open: std::sync::Arc<std::sync::atomic::AtomicBool>,
-) -> Journal {
-    let free_space = std::sync::Arc::new(free_space::FreeSpace::new(folder).unwrap());
-    let disk = disk::Disk::held(open);
-    Journal::open(&disk, folder, Durability::Disk, free_space, &journal::Expected::of_none()).unwrap()
-}

@@ -64,15 +64,17 @@ impl From<Refused> for Outcome {
 mod tests {
     use super::*;
     use crate::core::Core;
+    use crate::files::{Disk, Durability, Folder};
     use std::sync::atomic::{AtomicBool, Ordering::SeqCst};
     use std::sync::Arc;
     use std::time::Duration;
 
     #[tokio::test(flavor = "multi_thread")]
     async fn a_refusal_waits_for_the_posts_before_it() {
-        let folder = tempfile::tempdir().unwrap();
+        let place = tempfile::tempdir().unwrap();
         let open = Arc::new(AtomicBool::new(true));
-        let journal = Arc::new(crate::files::held_journal(folder.path(), open.clone()));
+        let folder = Folder::open_on(Disk::held(open.clone()), place.path(), Durability::Disk).unwrap();
+        let journal = Arc::new(folder.slot(0).unwrap().0);
         open.store(false, SeqCst);
         let posted = Posted::whole(Core::new(1).unwrap().read("A".into(), "{}".into()).unwrap());
         let late = Refused::OutOfOrder { point: 0, frontier: 5 };

@@ -27,8 +27,8 @@ fn a_request_is_kept_once_and_comes_back_as_it_was() {
     assert_eq!((&*letter.key, &*letter.reason, letter.bytes), ("0-e-1", "400 bad\nline", body.len() as u64));
     assert_eq!(dead.body("0-e-1").unwrap().unwrap(), body);
     assert_eq!(dead.body("0-e-2").unwrap().unwrap(), b"");
-    assert!(dead.drop_letter("0-e-1").unwrap());
-    assert!(!dead.drop_letter("0-e-1").unwrap());
+    assert!(dead.end("0-e-1", Became::Dropped).unwrap());
+    assert!(!dead.end("0-e-1", Became::Dropped).unwrap());
     assert_eq!((dead.count(), dead.body("0-e-1").unwrap()), (1, None));
 }
 
@@ -38,7 +38,7 @@ fn letters_do_not_use_up_the_disk() {
     let folder = tempfile::tempdir().unwrap();
     let free = Arc::new(AtomicU64::new(1 << 40));
     let look = free.clone();
-    let space = FreeSpace::with(move || Ok((look.load(Relaxed), 1 << 40, 1000))).unwrap();
+    let space = FreeSpace::of(move || Ok((look.load(Relaxed), 1 << 40, 1000)));
     let dead = Dead::open(&Disk::default(), folder.path(), Arc::new(space)).unwrap();
     assert!(dead.keep_in_room("0-e-1", "400", b"body").unwrap());
     free.store(1 << 20, Relaxed);
@@ -57,7 +57,7 @@ fn no_key_leads_out_of_the_folder() {
     for key in ["", ".", "..", "../other", "a/b", "/etc/passwd", "a.b", "a\0b", "ä", &"a".repeat(129)] {
         assert!(dead.keep(key, "", b"").is_err(), "{key:?}");
         assert_eq!(dead.body(key).unwrap(), None);
-        assert!(!dead.drop_letter(key).unwrap());
+        assert!(!dead.end(key, Became::Dropped).unwrap());
     }
     assert!(folder.path().join("other.json").exists());
 }
@@ -92,7 +92,7 @@ fn a_changed_letter_is_named() {
     assert!(seconds().abs_diff(of("k").since) < 60 && of("k").bytes == 4);
     assert_eq!((&*of("l").reason, listed.len()), ("413", 2));
     assert!(matches!(dead.body("k"), Err(Fault::Damaged { .. })));
-    assert!(dead.drop_letter("k").unwrap());
+    assert!(dead.end("k", Became::Dropped).unwrap());
 }
 
 /// A slot's files were put back over themselves, and its keys come again.
@@ -114,7 +114,7 @@ fn another_request_under_the_same_key_is_kept_beside_the_first() {
     assert!(listed.contains(&"0-e-1_2".to_string()), "{listed:?}");
 
     // A name that is free again is taken again, and no body is kept twice.
-    assert!(dead.drop_letter("0-e-1").unwrap());
+    assert!(dead.end("0-e-1", Became::Dropped).unwrap());
     dead.keep("0-e-1", "400", b"two").unwrap();
     assert_eq!(dead.count(), 4);
     dead.keep("0-e-1", "400", b"ten").unwrap();
@@ -170,9 +170,9 @@ fn letters_that_are_moved_by_hand_are_counted_as_they_are() {
     let dead = open(folder.path());
     dead.keep("k", "400", b"body").unwrap();
     std::fs::copy(&inside, &outside).unwrap();
-    assert!(dead.drop_letter("k").unwrap());
+    assert!(dead.end("k", Became::Dropped).unwrap());
     std::fs::rename(&outside, &inside).unwrap();
-    assert!(dead.drop_letter("k").unwrap());
+    assert!(dead.end("k", Became::Dropped).unwrap());
     assert_eq!(dead.count(), 0);
     dead.keep("k", "400", b"body").unwrap();
     std::fs::rename(&inside, &outside).unwrap();
@@ -189,7 +189,7 @@ fn what_became_of_letters_is_known_to_the_next_owner_of_a_slot() {
         dead.keep(key, "400", b"body").unwrap();
     }
     assert_eq!(dead.became("0-e-1").unwrap(), None);
-    assert!(dead.drop_letter("0-e-1").unwrap());
+    assert!(dead.end("0-e-1", Became::Dropped).unwrap());
     dead.let_go("0-e-2", b"body").unwrap();
     let part = Became::TakenPartly("one was late".into());
     assert!(dead.end("0-e-3", part.clone()).unwrap());
@@ -202,7 +202,7 @@ fn what_became_of_letters_is_known_to_the_next_owner_of_a_slot() {
         ("0-e-4", None),
     ] {
         assert_eq!(dead.became(key).unwrap(), wanted, "{key}");
-        assert!(!dead.drop_letter(key).unwrap());
+        assert!(!dead.end(key, Became::Dropped).unwrap());
     }
     // It comes again, and goes otherwise; and the last ones alone are remembered.
     dead.keep("0-e-1", "400", b"body").unwrap();
@@ -211,7 +211,7 @@ fn what_became_of_letters_is_known_to_the_next_owner_of_a_slot() {
     for number in 10..10 + gone::MOST {
         let key = format!("0-e-{number}");
         dead.keep(&key, "400", b"body").unwrap();
-        assert!(dead.drop_letter(&key).unwrap());
+        assert!(dead.end(&key, Became::Dropped).unwrap());
     }
     let dead = open();
     assert_eq!(
@@ -239,7 +239,7 @@ fn no_letter_of_a_slot_is_gone_without_what_became_of_it() {
         let key = format!("0-e-{number}");
         dead.keep(&key, "400", b"body").unwrap();
         fails.store(number + 1, Relaxed);
-        let is_done = dead.drop_letter(&key).is_ok();
+        let is_done = dead.end(&key, Became::Dropped).is_ok();
         fails.store(u64::MAX, Relaxed);
         let next = open_on(&Disk::of_drive(store.take()), Path::new("dead"));
         let is_there = next.body(&key).unwrap().is_some();

@@ -4,7 +4,7 @@ use super::Drive;
 use crate::files::disk::Disk;
 use crate::files::free_space::FreeSpace;
 use crate::files::journal::Expected;
-use crate::files::{segment, Dead, Durability, Fault, Journal, Outbox};
+use crate::files::{segment, Dead, Durability, Fault, Journal, Left, Outbox};
 use std::path::Path;
 use std::sync::Arc;
 
@@ -30,7 +30,8 @@ pub fn open(drive: Arc<dyn Drive>, epoch: &str) -> Result<(Journal, Outbox, Dead
         begun: (!is_new).then_some(reach),
         by: outbox.ended(),
     };
-    let journal = Journal::open(&disk, journal, Durability::Disk, free_space.clone(), &expected)?;
+    let left = Left::read(&disk, journal)?;
+    let journal = Journal::go_on(&disk, journal, Durability::Disk, free_space.clone(), &expected, left)?;
     let dead = Dead::open(&disk, Path::new("dead"), free_space)?;
     Ok((journal, outbox, dead))
 }

@@ -7,7 +7,8 @@ use std::io::ErrorKind;
 use std::os::unix::fs::MetadataExt;
 use std::path::Path;
 
-/// Passes where there is nothing yet, too.
+/// Passes where a start could use what is there, by this user's rights and what is a file and what a folder; where there is
+/// nothing yet, too. Changes nothing, and does not look at what files say.
 pub fn look_at(folder: &Path) -> Result<(), FolderFault> {
     match std::fs::metadata(folder) {
         Ok(about) if about.is_dir() => {}

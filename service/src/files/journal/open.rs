@@ -30,18 +30,6 @@ impl Left {
 }
 
 impl Journal {
-    pub(in crate::files) fn open(
-        disk: &Disk,
-        folder: &Path,
-        durability: Durability,
-        free_space: Arc<FreeSpace>,
-        expected: &Expected,
-    ) -> Result<Journal, Fault> {
-        disk.make_folder(folder)?;
-        let left = Left::read(disk, folder)?;
-        Journal::go_on(disk, folder, durability, free_space, expected, left)
-    }
-
     /// Closes what an earlier run left, and begins a segment after it, of a number not before the first that counts.
     pub(in crate::files) fn go_on(
         disk: &Disk,

@@ -32,7 +32,9 @@ fn open_begun(
 ) -> Result<Journal, Fault> {
     let free_space = Arc::new(FreeSpace::new(Path::new("/"))?);
     let by = (PathBuf::from("outbox/1.seg"), 7);
-    Journal::open(disk, path, durability, free_space, &Expected { reach, begun, by })
+    disk.make_folder(path)?;
+    let left = Left::read(disk, path)?;
+    Journal::go_on(disk, path, durability, free_space, &Expected { reach, begun, by }, left)
 }
 
 fn open_on(disk: &Disk, path: &Path, durability: Durability) -> Result<Journal, Fault> {

@@ -48,7 +48,7 @@ fn it_is_at_most_a_fifth_of_what_is_forwarded() {
 fn room_for_the_next_snapshot_is_kept_back() {
     let folder = tempfile::tempdir().unwrap();
     let open = || {
-        let free_space = Arc::new(FreeSpace::with(|| Ok((66 << 20, 1 << 30, 1000))).unwrap());
+        let free_space = Arc::new(FreeSpace::of(|| Ok((66 << 20, 1 << 30, 1000))));
         let read = Outbox::read_with(&Disk::default(), folder.path(), "e", free_space, read_ends, u64::MAX);
         read.and_then(Outbox::begun).unwrap()
     };
