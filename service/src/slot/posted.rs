@@ -54,70 +54,59 @@ impl LeftOut {
     }
 }
 
-/// Reads a request. A plain one that is not as it seemed is read as any other.
-pub fn read(
-    core: &Arc<Core>,
-    numbers: &Numbers,
-    window: &Window,
-    sender: String,
-    request: Request,
-) -> Result<Posted, Refused> {
-    match request {
-        Request::Plain(plain) => match numbers.read_plain(core, window, &sender, &plain) {
-            Some(read) => fits(&read).map(|()| Posted::whole(read)),
-            None => read(core, numbers, window, sender, numbers.otherwise(core, plain)?),
-        },
-        Request::Text(body) => read_text(core, numbers, window, sender, body),
-        Request::Numbered(by) => read_numbered(core, numbers, window, sender, *by),
-    }
+/// Reads requests for a book.
+pub struct RequestReader<'a> {
+    pub core: &'a Arc<Core>,
+    pub numbers: &'a Numbers,
+    /// By one look at the clock.
+    pub window: Window,
 }
 
-/// The journal has no point by number that the book does not take, since it says whose a series is: where the library finds one
-/// the request is read as its text.
-fn read_numbered(
-    core: &Arc<Core>,
-    numbers: &Numbers,
-    window: &Window,
-    sender: String,
-    by: ByNumber,
-) -> Result<Posted, Refused> {
-    let (foreign, source) = (by.foreign, by.source.clone());
-    let mut posted = read_points(core, window, sender, by)?;
-    if posted.read.post.foreign == foreign {
-        return fits(&posted.read).map(|()| posted);
+impl RequestReader<'_> {
+    /// A plain one that is not as it seemed is read as any other.
+    pub fn read(&self, sender: String, request: Request) -> Result<Posted, Refused> {
+        match request {
+            Request::Plain(plain) => {
+                match self.numbers.read_plain(self.core, &self.window, &sender, &plain) {
+                    Some(read) => fits(&read).map(|()| Posted::whole(read)),
+                    None => self.read(sender, self.numbers.otherwise(self.core, plain)?),
+                }
+            }
+            Request::Text(body) => self.read_text(sender, body),
+            Request::Numbered(by) => self.read_numbered(sender, *by),
+        }
     }
-    let text = source.text().ok_or(Refused::NotJson)?; // it was one when it was read by number
-    read_text(core, numbers, window, take(&mut posted.read.post.sender), text)
-}
 
-fn read_text(
-    core: &Arc<Core>,
-    numbers: &Numbers,
-    window: &Window,
-    sender: String,
-    body: Bytes,
-) -> Result<Posted, Refused> {
-    let mut posted = Posted::whole(core.read(sender, body.clone())?);
-    let read = &mut posted.read;
-    if read.ends().is_none_or(|(first, last)| window.has_all(first, last)) {
-        numbers.number(core, read)?;
-    } else {
-        let by = numbers.read_text(core, &body)?.ok_or(Refused::WrongShape)?; // the library reads no other
-        posted = read_points(core, window, take(&mut read.post.sender), by.without_cumulative())?;
+    /// The journal has no point by number that the book does not take, since it says whose a series is: where the library finds
+    /// one the request is read as its text.
+    fn read_numbered(&self, sender: String, by: ByNumber) -> Result<Posted, Refused> {
+        let (foreign, source) = (by.foreign, by.source.clone());
+        let mut posted = self.read_points(sender, by)?;
+        if posted.read.post.foreign == foreign {
+            return fits(&posted.read).map(|()| posted);
+        }
+        let text = source.text().ok_or(Refused::NotJson)?; // it was one when it was read by number
+        self.read_text(take(&mut posted.read.post.sender), text)
     }
-    fits(&posted.read)?;
-    Ok(posted)
-}
 
-fn read_points(
-    core: &Arc<Core>,
-    window: &Window,
-    sender: String,
-    mut by: ByNumber,
-) -> Result<Posted, Refused> {
-    let left_out = LeftOut::of(&mut by, window);
-    let read = core.read_points(sender, by.points, by.names, by.foreign)?;
-    Ok(Posted { read, left_out })
+    fn read_text(&self, sender: String, body: Bytes) -> Result<Posted, Refused> {
+        let mut posted = Posted::whole(self.core.read(sender, body.clone())?);
+        let read = &mut posted.read;
+        if read.ends().is_none_or(|(first, last)| self.window.has_all(first, last)) {
+            self.numbers.number(self.core, read)?;
+        } else {
+            let by = self.numbers.read_text(self.core, &body)?.ok_or(Refused::WrongShape)?; // the library reads no other
+            posted = self.read_points(take(&mut read.post.sender), by.without_cumulative())?;
+        }
+        fits(&posted.read)?;
+        Ok(posted)
+    }
+
+    fn read_points(&self, sender: String, mut by: ByNumber) -> Result<Posted, Refused> {
+        let left_out = LeftOut::of(&mut by, &self.window);
+        let read = self.core.read_points(sender, by.points, by.names, by.foreign)?;
+        Ok(Posted { read, left_out })
+    }
 }
 
 /// A post of not too many hours.

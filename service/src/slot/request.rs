@@ -3,7 +3,7 @@
 //! Between the book and the journal nothing is waited for. So the journal has the book's order, each post is in both
 //! or in neither, and one whose sender goes away is whole.
 
-use super::posted::{read, Posted};
+use super::posted::{Posted, RequestReader};
 use super::verdict::Journalled;
 use super::{is_sender, Phase, Request, Slot, MOVED, NO_ROOM};
 use crate::core::{Locked, Read, Refused};
@@ -51,7 +51,8 @@ impl Slot {
                 let length = request.length();
                 let window = self.clock.window();
                 let mut posted = match request.is_short() {
-                    true => read(&self.core, &self.numbers, &window, sender, request),
+                    true => RequestReader { core: &self.core, numbers: &self.numbers, window }
+                        .read(sender, request),
                     false => self.read_long(window, sender, request).await,
                 };
                 match &mut posted {
@@ -95,7 +96,8 @@ impl Slot {
     /// Reads what is not read in place.
     async fn read_long(&self, window: Window, sender: String, request: Request) -> Result<Posted, Refused> {
         let (core, numbers) = (self.core.clone(), self.numbers.clone());
-        self.readers.read_long(move || read(&core, &numbers, &window, sender, request)).await
+        let reads = move || RequestReader { core: &core, numbers: &numbers, window }.read(sender, request);
+        self.readers.read_long(reads).await
     }
 
     /// Asks for what the sender of a request that is so long may have of points and series.

@@ -4,7 +4,7 @@ use super::*;
 use crate::core::{Across, Read};
 use crate::files::{self, Body, Durability, Folder};
 use crate::otlp::{posts_of_test, requests_of_test, taken_of_test, Choice, Clock, FinerUnits, Rule};
-use crate::slot::posted::{self, Posted};
+use crate::slot::posted::{Posted, RequestReader};
 use std::collections::HashSet;
 
 mod plain;
@@ -80,7 +80,7 @@ fn admitted(core: &Arc<Core>, numbers: &Numbers, sender: &str, request: Request)
 
 fn read(core: &Arc<Core>, numbers: &Numbers, sender: &str, request: Request) -> Result<Read, Refused> {
     let window = Clock::default().window();
-    posted::read(core, numbers, &window, sender.into(), request).map(|Posted { read, .. }| read)
+    RequestReader { core, numbers, window }.read(sender.into(), request).map(|Posted { read, .. }| read)
 }
 
 fn by_number(read: &Read) -> Option<&Points> {

@@ -1,7 +1,8 @@
 //! Requests in parts, to books and to slots that come and go.
 
 use super::super::numbers::Numbers;
-use super::super::{posted, Shared, Slot};
+use super::super::posted::RequestReader;
+use super::super::{Shared, Slot};
 use super::*;
 use crate::core::{Across, Core};
 use crate::files::{Durability, Folder};
@@ -47,7 +48,8 @@ impl Both {
         let text = prepare(encoding, body.clone(), &self.reading).ok()?.body;
         let window = Clock::default().window();
         let core = &self.books[book];
-        let mut read = posted::read(core, &self.numbers, &window, sender.into(), text.into()).ok()?;
+        let reader = RequestReader { core, numbers: &self.numbers, window };
+        let mut read = reader.read(sender.into(), text.into()).ok()?;
         core.lock().admit(&mut read.read).ok()?;
         Some(read.read.post.foreign)
     }

@@ -153,7 +153,8 @@ fn a_point_of_a_plain_body_that_is_off_by_its_clock_is_left_out() {
     let clock = Clock { most_ahead: Some(Duration::from_secs(600)), most_behind: None };
     let three = body(&[("a", HOUR, 5), ("b", i64::MAX as u64, 6), ("c", HOUR, 7)]);
     let request = plain(&core, &numbers, &three);
-    let posted = posted::read(&core, &numbers, &clock.window(), "A".into(), request).unwrap();
+    let reader = RequestReader { core: &core, numbers: &numbers, window: clock.window() };
+    let posted = reader.read("A".into(), request).unwrap();
     assert!(!posted.read.is_of_protobuf());
     assert_eq!((posted.read.points(), posted.left_out.off.points()), (2, 1));
     let [among_left, among_all] = [1, 2].map(|point| Refused::OtherWriter { point });
