@@ -6,6 +6,7 @@
 //! still have these posts, and a sender whose points were flushed is in the next segment's record no more.
 
 use super::name_records::NameWriter;
+use super::reading::Each;
 use super::record::{self, Posts, Wanted};
 use super::{locked, Journal, Post, Replayed, Shared, HELD};
 use crate::files::disk::{io_fault, Disk, File};
@@ -123,13 +124,44 @@ impl Shared {
             let source = io::Error::other("the journal turned while posts of quarantined senders were moved");
             return Err(io_fault(&place.segment.path)(source));
         }
-        let put = place.segment.put(&record);
-        put.map_err(|fault| Fault::Lost(self.disk.fail(fault)))?; // while nobody else can write
+        place.segment.put(&record).map_err(|fault| self.disk.fail(fault))?; // while nobody else can write
         place.ticket += 1;
         place.kept = place.ticket;
         drop(place);
         locked(&self.held).insert(next, list);
         Ok(())
+    }
+
+    /// Gives the posts that count: whether `each` wants more.
+    pub(super) fn held_posts(&self, list: &List, each: &mut Each) -> Result<bool, Fault> {
+        for (sender, part) in list {
+            if !self.held_posts_of(sender, part, each)? {
+                return Ok(false);
+            }
+        }
+        Ok(true)
+    }
+
+    fn held_posts_of(&self, sender: &str, part: &Part, each: &mut Each) -> Result<bool, Fault> {
+        let path = path(&self.folder, sender);
+        let (mut reader, _) = Reader::open(&self.disk, &path, Which::Held, 0, Some(part.end))?;
+        let (mut posts, mut left) = (Posts::new(Wanted::All), part.posts);
+        while let Next::Record { at, kind, bytes } = reader.next()? {
+            let read = posts.read(kind, bytes);
+            if let Some((since, post)) = read.map_err(|what| reader.damaged(at, what))? {
+                if post.post.sender != sender {
+                    return Err(reader.damaged(at, "is no post of its sender"));
+                }
+                left = left.saturating_sub(1);
+                if !each(since, post)? {
+                    return Ok(false);
+                }
+            }
+        }
+        match (left, reader.at == part.end) {
+            (0, true) => Ok(true),
+            _ => Err(reader.damaged(reader.at, crate::files::torn_tail::CHANGED)),
+        }
     }
 }
 
@@ -142,48 +174,6 @@ pub(super) fn list_of(bytes: &[u8]) -> Option<List> {
     let rows: Vec<(String, u64, u64)> = serde_json::from_slice(bytes).ok()?;
     let part = |(sender, posts, end)| (sender, Part { posts, end });
     Some(rows.into_iter().map(part).collect())
-}
-
-/// Gives the posts that count: whether `each` wants more.
-pub(super) fn posts(
-    disk: &Disk,
-    folder: &Path,
-    list: &List,
-    each: &mut impl FnMut(u64, Replayed) -> Result<bool, Fault>,
-) -> Result<bool, Fault> {
-    for (sender, part) in list {
-        if !posts_of(disk, folder, sender, part, each)? {
-            return Ok(false);
-        }
-    }
-    Ok(true)
-}
-
-fn posts_of(
-    disk: &Disk,
-    folder: &Path,
-    sender: &str,
-    part: &Part,
-    each: &mut impl FnMut(u64, Replayed) -> Result<bool, Fault>,
-) -> Result<bool, Fault> {
-    let (mut reader, _) = Reader::open(disk, &path(folder, sender), Which::Held, 0, Some(part.end))?;
-    let (mut posts, mut left) = (Posts::new(Wanted::All), part.posts);
-    while let Next::Record { at, kind, bytes } = reader.next()? {
-        let read = posts.read(kind, bytes);
-        if let Some((since, post)) = read.map_err(|what| reader.damaged(at, what))? {
-            if post.post.sender != sender {
-                return Err(reader.damaged(at, "is no post of its sender"));
-            }
-            left = left.saturating_sub(1);
-            if !each(since, post)? {
-                return Ok(false);
-            }
-        }
-    }
-    match (left, reader.at == part.end) {
-        (0, true) => Ok(true),
-        _ => Err(reader.damaged(reader.at, crate::files::torn_tail::CHANGED)),
-    }
 }
 
 /// Passes where the files of the first segment's record are there, and as long.

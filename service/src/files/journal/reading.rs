@@ -5,6 +5,9 @@ use super::{held, locked, Journal, Replayed, Shared, COPY, HELD};
 use crate::files::records::{self, Next, Reader, Which};
 use crate::files::{segment, Fault};
 
+/// Gets posts, each with the time of it: whether more is wanted.
+pub(super) type Each<'e> = dyn FnMut(u64, Replayed) -> Result<bool, Fault> + 'e;
+
 impl Journal {
     /// Gives the posts of the segments from `first` to before `end` that count, in order, until `each` is false. Those of
     /// quarantined senders' own files are among them where the segment `first` is there and says so.
@@ -28,7 +31,7 @@ impl Journal {
         let mut each = |_: u64, post: Replayed| Ok(each(post));
         // Ahead of the segments: behind some of their posts these files would say otherwise what their numbers stand for.
         let list = locked(&shared.held).get(&first).filter(|_| first < end).cloned();
-        match held::posts(&shared.disk, &shared.folder, &list.unwrap_or_default(), &mut each)? {
+        match shared.held_posts(&list.unwrap_or_default(), &mut each)? {
             true => shared.posts(first, end, wanted, &mut each),
             false => Ok(()),
         }
@@ -36,23 +39,15 @@ impl Journal {
 }
 
 impl Shared {
-    /// The posts of the segments alone, with the time of each.
-    pub(super) fn posts(
-        &self,
-        first: u64,
-        end: u64,
-        wanted: Wanted,
-        each: &mut impl FnMut(u64, Replayed) -> Result<bool, Fault>,
-    ) -> Result<(), Fault> {
-        let up_to = self.written(|place| (place.segment.number, place.segment.at));
-        let (last, at) = up_to.map_err(Fault::Lost)?;
+    /// The posts of the segments alone.
+    pub(super) fn posts(&self, first: u64, end: u64, wanted: Wanted, each: &mut Each) -> Result<(), Fault> {
+        let (last, at) = self.written(|place| (place.segment.number, place.segment.at))?;
         for number in segment::numbers(&self.disk, &self.folder)? {
             if !(first..end).contains(&number) || number > last {
                 continue;
             }
             let written = (number == last).then_some(at);
-            let segment = Read { number, written, is_first: number == first, wanted };
-            if !self.posts_of(segment, each)? {
+            if !self.posts_of(number, written, number == first, Posts::new(wanted), each)? {
                 break;
             }
         }
@@ -62,13 +57,14 @@ impl Shared {
     /// Whether `each` wants more. Only the segment that is written, up to where it is, has no end.
     fn posts_of(
         &self,
-        segment: Read,
-        each: &mut impl FnMut(u64, Replayed) -> Result<bool, Fault>,
+        number: u64,
+        written: Option<u64>,
+        is_first: bool,
+        mut posts: Posts,
+        each: &mut Each,
     ) -> Result<bool, Fault> {
-        let path = segment::path(&self.folder, segment.number);
-        let (number, written) = (segment.number, segment.written);
+        let path = segment::path(&self.folder, number);
         let (mut reader, mut next) = Reader::open(&self.disk, &path, Which::Journal, number, written)?;
-        let mut posts = Posts::new(segment.wanted);
         loop {
             match next {
                 Next::Record { kind: records::HEADER, .. } => {}
@@ -78,7 +74,7 @@ impl Shared {
                 Next::Record { at, kind, bytes } => {
                     let read = posts.read(kind, bytes);
                     let read = read.map_err(|what| reader.damaged(at, what))?;
-                    let counts = kind != COPY || segment.is_first;
+                    let counts = kind != COPY || is_first;
                     if let Some((since, post)) = read.filter(|_| counts) {
                         if !each(since, post)? {
                             return Ok(false);
@@ -86,19 +82,10 @@ impl Shared {
                     }
                 }
                 Next::Closed => return Ok(true),
-                Next::Stop if Some(reader.at) == segment.written => return Ok(true),
+                Next::Stop if Some(reader.at) == written => return Ok(true),
                 Next::Stop => return Err(reader.damaged(reader.at, crate::files::torn_tail::CHANGED)),
             }
             next = reader.next()?;
         }
     }
-}
-
-/// A segment that is read.
-struct Read {
-    number: u64,
-    /// Up to where it is written.
-    written: Option<u64>,
-    is_first: bool,
-    wanted: Wanted,
 }

@@ -91,7 +91,7 @@ impl Shared {
     /// The same, for who has the journal alone.
     pub(super) fn try_sync(&self) -> Result<(), Fault> {
         let _aboard = self.disk.board();
-        let brought = self.written(|place| {
+        let (ended, file, path, number, at, length, named, ticket) = self.written(|place| {
             let segment = &place.segment;
             (
                 std::mem::take(&mut place.ended),
@@ -103,8 +103,7 @@ impl Shared {
                 place.named,
                 place.ticket,
             )
-        });
-        let (ended, file, path, number, at, length, named, ticket) = brought.map_err(Fault::Lost)?;
+        })?;
         for (file, path) in &ended {
             self.disk.order(file, path)?;
         }
