@@ -179,11 +179,6 @@ impl Points {
         Some(&self.words[begin..end])
     }
 
-    /// Where a point begins.
-    pub(super) fn start(&self, place: u32) -> Option<u64> {
-        Some(self.point(place)?[1])
-    }
-
     /// All of them, as the library takes them.
     pub fn words(&self) -> &[u64] {
         &self.words

@@ -34,40 +34,38 @@ pub fn put(out: &mut Vec<u8>, points: &Points) {
     }
 }
 
-/// Of a run: its place, what it is, how far its start is before its point's, its words.
-type Read = (u32, u64, u64, Vec<u64>);
-
-/// Takes them off the front of the bytes of points. No more is kept at any time than a word for a byte.
-pub fn take(bytes: &mut &[u8]) -> Option<Vec<Read>> {
+/// Takes them off the front of the bytes of points, with how far the start of each is before its point's in the place of its
+/// start. No more is kept at any time than a word for a byte.
+pub fn take(bytes: &mut &[u8]) -> Option<Vec<(u32, OfRun)>> {
     let count = take_number(bytes)?;
     let (mut all, mut next) = (Vec::new(), 0u64);
     for _ in 0..count {
         let number = take_number(bytes)?;
         let place = next.checked_add(number / TAGS)?;
-        let tag = number % TAGS;
-        let before = if tag > 0 { take_signed(bytes)? } else { 0 };
-        let mut words = Vec::new();
-        for _ in 0..if tag == 2 { take_number(bytes)? } else { 0 } {
-            words.push(take_signed(bytes)?);
-        }
-        all.push((u32::try_from(place).ok()?, tag, before, words));
+        let of_run = match number % TAGS {
+            0 => OfRun::More,
+            1 => OfRun::Began(take_signed(bytes)?),
+            _ => OfRun::Noted { start: take_signed(bytes)?, words: take_words(bytes)? },
+        };
+        all.push((u32::try_from(place).ok()?, of_run));
         next = place + 1;
     }
     Some(all)
 }
 
+fn take_words(bytes: &mut &[u8]) -> Option<Vec<u64>> {
+    let count = take_number(bytes)?;
+    (0..count).map(|_| take_signed(bytes)).collect()
+}
+
 /// Puts what was taken to the points that are behind it. None where there is no such point.
-pub fn give(points: &mut Points, read: Vec<Read>) -> Option<()> {
-    for (place, tag, before, words) in read {
-        let start = points.start(place)?.wrapping_sub(before);
-        points.put_run(
-            place,
-            match tag {
-                0 => OfRun::More,
-                1 => OfRun::Began(start),
-                _ => OfRun::Noted { start, words },
-            },
-        );
+pub fn give(points: &mut Points, read: Vec<(u32, OfRun)>) -> Option<()> {
+    for (place, mut of_run) in read {
+        let of_point = points.point(place)?[1];
+        if let OfRun::Began(start) | OfRun::Noted { start, .. } = &mut of_run {
+            *start = of_point.wrapping_sub(*start);
+        }
+        points.put_run(place, of_run);
     }
     Some(())
 }
