@@ -225,7 +225,8 @@ impl Folder {
     fn read_outbox(&self, number: u16) -> Result<Outbox, Fault> {
         let slot = self.of_slot(number);
         let (journal, outbox) = (slot.join("journal"), slot.join("outbox"));
-        if locked(&self.version).begun.contains_key(&number) && !self.has_segments(&outbox)? {
+        let was_made = outbox.exists() && !segment::numbers(&self.disk, &outbox)?.is_empty();
+        if !was_made && locked(&self.version).begun.contains_key(&number) {
             return Err(Fault::Damaged { path: outbox, at: 0, what: LOST_SLOT.into() });
         }
         for path in [&slot, &journal, &outbox] {
@@ -233,17 +234,12 @@ impl Folder {
         }
         self.disk.sync_folder(&slot)?;
         self.disk.sync_folder(&self.path)?;
-        let epoch = match self.is_new || !segment::numbers(&self.disk, &outbox)?.is_empty() {
+        let epoch = match self.is_new || was_made {
             true => locked(&self.version).epoch.clone(),
             // It counts from 1 again, and an outbox that was there and is gone has used these keys.
             false => self.renew_epoch()?,
         };
         Outbox::read(&self.disk, &outbox, &epoch, self.free_space.clone())
-    }
-
-    /// Whether an outbox was made there.
-    fn has_segments(&self, folder: &Path) -> Result<bool, Fault> {
-        Ok(folder.exists() && !segment::numbers(&self.disk, folder)?.is_empty())
     }
 
     fn of_slot(&self, number: u16) -> PathBuf {
