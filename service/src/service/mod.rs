@@ -177,10 +177,8 @@ pub async fn run(settings: Settings) -> Result<(), Ended> {
     };
     watched.abort();
     supervisor.stopping(running.ends_within());
-    match ended {
-        Ok(()) => running.stop().await,
-        Err(cause) => Err(cause),
-    }
+    ended?;
+    running.stop().await
 }
 
 /// All parts, and the addresses; none where it was told to end meanwhile.

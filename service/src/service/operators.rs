@@ -85,15 +85,11 @@ impl Operators {
     pub async fn serve(self, limits: Limits, desk: Arc<Desk>, stop: watch::Receiver<bool>) {
         let at_tcp =
             AtTcp { desk: desk.clone(), orders_at: self.socket.shown(), tokens: self.tokens.clone() };
-        self.serve_both(limits, Arc::new(at_tcp), desk, stop).await;
+        self.serve_by(limits, Arc::new(at_tcp), desk, stop).await;
     }
 
-    /// The same, with one answer for both.
-    pub async fn serve_all<H: Handler>(self, limits: Limits, handler: Arc<H>, stop: watch::Receiver<bool>) {
-        self.serve_both(limits, handler.clone(), handler, stop).await;
-    }
-
-    async fn serve_both<T: Handler, H: Handler>(
+    /// The same, by others.
+    pub async fn serve_by<T: Handler, H: Handler>(
         self,
         limits: Limits,
         at_tcp: Arc<T>,

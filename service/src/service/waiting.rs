@@ -84,7 +84,7 @@ impl Waiting {
         let threads = Arc::new(Threads::new(1).context("no threads could be started")?);
         let limits = limits(settings);
         let posts = senders.serve(limits.clone(), Arc::new(intake), threads, stopped.clone());
-        let asked = operators.serve_all(limits, Arc::new(NoStore), stopped);
+        let asked = operators.serve_by(limits, Arc::new(NoStore), Arc::new(NoStore), stopped);
         Ok(Waiting { stop, serving: [tokio::spawn(posts), tokio::spawn(asked)] })
     }
 
