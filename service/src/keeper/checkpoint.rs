@@ -8,7 +8,7 @@
 //! have come meanwhile: without memory to write it, that is tried again, and then the process ends.
 
 use super::owners::find_owners;
-use super::{Keeper, Trouble};
+use super::{Carried, Keeper, Trouble};
 use crate::core::{Book, Flushed, Refused};
 use crate::files::{Fault, Runs, Ticket};
 use crate::runs::State;
@@ -29,9 +29,6 @@ pub(super) struct Group {
     /// The runs that are in no commit, as they were at the turn.
     runs: Runs,
 }
-
-/// What belongs to the next group, and what became of a checkpoint.
-type Checkpointed = (Vec<Vec<u8>>, Result<u64, Refused>);
 
 impl Keeper {
     /// Moves all that the book has to the outbox, as one group: how many requests. Where there is no memory now the book
@@ -65,7 +62,7 @@ impl Keeper {
     }
 }
 
-fn checkpoint(slot: &Slot, carried: Vec<Vec<u8>>) -> Result<Checkpointed, Trouble> {
+fn checkpoint(slot: &Slot, carried: Vec<Vec<u8>>) -> Result<Carried<u64>, Trouble> {
     let mut bodies = carried;
     let flushed = match flush(slot, &mut bodies)? {
         Err(Refused::NoMemory) => {

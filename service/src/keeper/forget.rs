@@ -8,7 +8,7 @@
 use super::checkpoint::{commit, flush_in_parts};
 use super::fill::fill;
 use super::series::SeriesOfPosts;
-use super::{not_now, Amend, Done, Keeper, Trouble};
+use super::{not_now, Amend, Carried, Done, Keeper, Trouble};
 use crate::core::Refused;
 use crate::files::Fault;
 use crate::otlp::series::{Digest, SeriesKey};
@@ -73,10 +73,7 @@ impl Keeper {
     }
 }
 
-/// What belongs to the next group, and what came of it.
-type Renewed<T> = (Vec<Vec<u8>>, Result<T, Refused>);
-
-fn renew<T>(slot: &Arc<Slot>, change: impl FnOnce(&Slot) -> Result<T, Fault>) -> Result<Renewed<T>, Trouble> {
+fn renew<T>(slot: &Arc<Slot>, change: impl FnOnce(&Slot) -> Result<T, Fault>) -> Result<Carried<T>, Trouble> {
     let began = Instant::now();
     let mut runs = slot.runs.lock();
     let mut book = slot.core.lock();

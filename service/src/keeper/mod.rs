@@ -152,6 +152,9 @@ impl Keeper {
     }
 }
 
+/// What was taken of the book and belongs to the next group, and what came of what was done.
+type Carried<T> = (Vec<Vec<u8>>, Result<T, Refused>);
+
 /// What the book did not do now. It may do it later.
 fn not_now(refused: Refused) -> Done {
     Done::Answered(refused.into())

@@ -1,7 +1,7 @@
 //! What an operator orders.
 
 use super::checkpoint::{commit, flush_in_parts};
-use super::{not_now, Done, Keeper, Order, Trouble};
+use super::{not_now, Carried, Done, Keeper, Order, Trouble};
 use crate::core::Refused;
 use crate::otlp::Outcome;
 use crate::slot::{is_sender, Slot};
@@ -59,11 +59,8 @@ impl Keeper {
     }
 }
 
-/// What belongs to the next group, and the book's answer.
-type Quarantined = (Vec<Vec<u8>>, Result<(), Refused>);
-
 /// In the book. Where something was taken meanwhile it is made a group of all that came, under the lock: it is little.
-fn quarantine(slot: &Slot, sender: &str) -> Result<Quarantined, Trouble> {
+fn quarantine(slot: &Slot, sender: &str) -> Result<Carried<()>, Trouble> {
     let runs = slot.runs.lock();
     let mut book = slot.core.lock();
     let (mut bodies, mut group) = (Vec::new(), None);
