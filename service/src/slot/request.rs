@@ -241,6 +241,8 @@ mod tests {
     use std::sync::Mutex;
     use std::time::Duration;
 
+    mod units;
+
     /// As where there is no memory to write it: what is in flight never lands, and the slot ends.
     #[tokio::test]
     async fn who_waits_behind_what_is_in_flight_is_told_that_the_slot_has_ended() {

@@ -1,0 +1,39 @@
+//! Posts whose units the outbox has to know first.
+
+use super::*;
+use crate::core::Core;
+use crate::files::{Disk, Durability, Folder};
+use crate::otlp::{taken_of_test, Encoding, FinerUnits};
+use std::sync::atomic::{AtomicBool, Ordering::SeqCst};
+
+/// Else another one would tell the outbox of the same units meanwhile, and neither would know what it has of them.
+#[tokio::test]
+async fn the_outbox_is_told_of_units_by_one_at_a_time_also_where_the_sender_goes_away() {
+    let (place, open) = (tempfile::tempdir().unwrap(), Arc::new(AtomicBool::new(true)));
+    let folder = Folder::open_on(Disk::held(open.clone()), place.path(), Durability::Process).unwrap();
+    let (journal, outbox) = folder.slot(0).unwrap();
+    let finer_units = FinerUnits::of(["auto", "ms"].map(|choice| choice.parse().unwrap())).unwrap();
+    let reading = Arc::new(Reading { finer_units, ..Reading::default() });
+    reading.finer_units.know(&outbox, &journal).unwrap();
+    for (unit, value) in [("s", r#""asDouble":0.25"#), ("ms", r#""asInt":"7""#)] {
+        let unit = format!(r#""unit":"{unit}","name""#);
+        let body = point(10).replace(r#""name""#, &unit).replace(r#""asInt":"1""#, value);
+        taken_of_test(Encoding::Json, body.into(), &reading).unwrap();
+    }
+    assert!(reading.finer_units.has_unkept());
+    let (core, shared) = (Core::new(10).unwrap(), Shared::of_test());
+    let slot = Slot::of(Some(reading.clone()), 0, journal, Arc::new(outbox), core, &shared);
+    slot.open();
+    open.store(false, SeqCst);
+    let outcome = tokio::select! {
+        biased;
+        outcome = slot.post("A".into(), point(10).into()) => Some(outcome),
+        () = std::future::ready(()) => None, // its sender goes away
+    };
+    let has_turn = slot.keeping.try_lock().is_err();
+    // Before a check that may fail: the end waits for the disk.
+    open.store(true, SeqCst);
+    assert!(outcome.is_none() && has_turn);
+    drop(slot.keeping.lock().await);
+    assert!(!reading.finer_units.has_unkept());
+}
