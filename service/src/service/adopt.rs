@@ -42,13 +42,14 @@ pub(crate) fn leave_others(outbox: &Outbox, number: u16, slots: u16) -> Result<(
 /// Makes one slot of all: false where `ending` came first. What changes a file is then done to its end, so that its
 /// fault is told; and what is not done is as a kill leaves it.
 pub(super) async fn slots(
-    folder: &Arc<Folder>,
+    folder: &Folder,
     most_series: usize,
     settings: &Settings,
     ending: impl Future<Output = ()>,
 ) -> Result<bool, Ended> {
     let (stop, stopped) = watch::channel(false);
-    let mut adopting = pin!(adopt(folder, most_series, settings, stopped));
+    let adopting = Adopting { folder, slots: folder.slots(), most_series, settings };
+    let mut adopting = pin!(adopting.adopt(stopped));
     tokio::select! {
         adopted = &mut adopting => return adopted.map(|()| true),
         () = ending => {}
@@ -60,37 +61,79 @@ pub(super) async fn slots(
     }
 }
 
-async fn adopt(
-    folder: &Arc<Folder>,
-    most_series: usize,
-    settings: &Settings,
-    stop: watch::Receiver<bool>,
-) -> Result<(), Ended> {
-    let slots = folder.slots();
-    if slots > 1 {
-        adopt_series(folder, slots, most_series, settings, stop).await?;
-    }
-    move_held(folder)
-}
-
-async fn adopt_series(
-    folder: &Arc<Folder>,
+/// A folder whose slots become one.
+struct Adopting<'a> {
+    folder: &'a Folder,
+    /// How many there are.
     slots: u16,
     most_series: usize,
-    settings: &Settings,
-    stop: watch::Receiver<bool>,
-) -> Result<(), Ended> {
-    tracing::info!(
-        slots,
-        "the folder has {slots} slots, as totxegun had them up to 0.5.0: their series come into one"
-    );
-    for number in 0..slots {
-        rest(folder, number, slots, most_series, settings, &stop).await?;
+    settings: &'a Settings,
+}
+
+impl Adopting<'_> {
+    async fn adopt(&self, stop: watch::Receiver<bool>) -> Result<(), Ended> {
+        if self.slots > 1 {
+            self.adopt_series(stop).await?;
+        }
+        move_held(self.folder)
     }
-    let moved = move_series(folder, slots, most_series)?;
-    folder.set_slots(1)?;
-    tracing::info!(slots, series_count = moved, "the number of slots was {slots} and is 1; series: {moved}");
-    Ok(())
+
+    async fn adopt_series(&self, stop: watch::Receiver<bool>) -> Result<(), Ended> {
+        let slots = self.slots;
+        tracing::info!(
+            slots,
+            "the folder has {slots} slots, as totxegun had them up to 0.5.0: their series come into one"
+        );
+        for number in 0..slots {
+            self.rest(number, stop.clone()).await?;
+        }
+        let moved = self.move_series()?;
+        self.folder.set_slots(1)?;
+        tracing::info!(
+            slots,
+            series_count = moved,
+            "the number of slots was {slots} and is 1; series: {moved}"
+        );
+        Ok(())
+    }
+
+    /// Brings a slot to rest: all that was taken is in its outbox then, but for posts of quarantined senders.
+    async fn rest(&self, number: u16, stop: watch::Receiver<bool>) -> Result<(), Ended> {
+        let (journal, outbox) = self.folder.slot(number)?;
+        leave_others(&outbox, number, self.slots)?;
+        let metrics = Arc::new(Metrics::new().context("metrics")?); // nobody sees them
+        let core = Core::new(self.most_series).context("there is no book")?;
+        let slot = Slot::new(number, journal, Arc::new(outbox), metrics, core);
+        match Keeper::new(slot, self.settings.clone()).0.drain(stop).await? {
+            true => Ok(()),
+            false => Err(refused(
+                "the number of slots is as it was, since a flush did not come to its end: the lines above say why".into(),
+            )),
+        }
+    }
+
+    /// Slot 0 adopts the others' series: how many. One without an owner stays: no book is primed with it.
+    fn move_series(&self) -> Result<usize, Ended> {
+        let Adopting { folder, slots, most_series, .. } = self;
+        let first = folder.outbox(0)?;
+        leave_others(&first, 0, *slots)?;
+        let mut moving = Vec::new();
+        for number in 1..*slots {
+            let outbox = folder.outbox(number)?;
+            leave_others(&outbox, number, *slots)?;
+            let owned = outbox.series().into_iter().filter(|(_, series)| series.owner.is_some());
+            moving.extend(owned);
+        }
+        let all = first.series_count() + moving.len();
+        if all > *most_series {
+            return Err(refused(format!(
+                "the folder's {slots} slots have {all} series, and --most-series is {most_series}: give a greater one"
+            )));
+        }
+        let moved = moving.len();
+        first.adopt(moving)?;
+        Ok(moved)
+    }
 }
 
 /// Slot 0 gets the posts of senders who are quarantined in other slots.
@@ -160,50 +203,6 @@ fn posts_of(
         true
     })?;
     Ok(there)
-}
-
-/// Brings a slot to rest: all that was taken is in its outbox then, but for posts of quarantined senders.
-async fn rest(
-    folder: &Arc<Folder>,
-    number: u16,
-    slots: u16,
-    most_series: usize,
-    settings: &Settings,
-    stop: &watch::Receiver<bool>,
-) -> Result<(), Ended> {
-    let (journal, outbox) = folder.slot(number)?;
-    leave_others(&outbox, number, slots)?;
-    let metrics = Arc::new(Metrics::new().context("metrics")?); // nobody sees them
-    let core = Core::new(most_series).context("there is no book")?;
-    let slot = Slot::new(number, journal, Arc::new(outbox), metrics, core);
-    match Keeper::new(slot, settings.clone()).0.drain(stop.clone()).await? {
-        true => Ok(()),
-        false => Err(refused(
-            "the number of slots is as it was, since a flush did not come to its end: the lines above say why".into(),
-        )),
-    }
-}
-
-/// Slot 0 adopts the others' series: how many. One without an owner stays: no book is primed with it.
-fn move_series(folder: &Folder, slots: u16, most_series: usize) -> Result<usize, Ended> {
-    let first = folder.outbox(0)?;
-    leave_others(&first, 0, slots)?;
-    let mut moving = Vec::new();
-    for number in 1..slots {
-        let outbox = folder.outbox(number)?;
-        leave_others(&outbox, number, slots)?;
-        let owned = outbox.series().into_iter().filter(|(_, series)| series.owner.is_some());
-        moving.extend(owned);
-    }
-    let all = first.series_count() + moving.len();
-    if all > most_series {
-        return Err(refused(format!(
-            "the folder's {slots} slots have {all} series, and --most-series is {most_series}: give a greater one"
-        )));
-    }
-    let moved = moving.len();
-    first.adopt(moving)?;
-    Ok(moved)
 }
 
 fn refused(why: String) -> Ended {
