@@ -21,7 +21,7 @@ use std::os::unix::fs::{fchown, DirBuilderExt, FileExt, MetadataExt, OpenOptions
 use std::path::Path;
 use std::sync::Arc;
 use std::time::Duration;
-use under_way::UnderWay;
+pub use under_way::UnderWay;
 
 #[derive(Clone, Copy, Debug, PartialEq, Eq)]
 pub enum Call {

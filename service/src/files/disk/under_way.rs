@@ -10,10 +10,10 @@ static BEGAN: LazyLock<Instant> = LazyLock::new(Instant::now);
 
 /// No lock is needed to look at them: who has one may be in such a call.
 #[derive(Default)]
-pub(super) struct UnderWay([AtomicU64; PLACES]);
+pub struct UnderWay([AtomicU64; PLACES]);
 
 /// A call that is under way until this is dropped.
-pub(super) struct Noted<'a>(Option<&'a AtomicU64>);
+pub struct Noted<'a>(Option<&'a AtomicU64>);
 
 impl UnderWay {
     /// In nanoseconds, and never 0.

@@ -1,6 +1,7 @@
 //! A store in memory, for tests: a slot's files as they were last synced, and the term of its owner.
 
 use super::{lost, Drive};
+use crate::files::disk::UnderWay;
 use crate::work::locked;
 use std::collections::{BTreeMap, HashMap};
 use std::ffi::OsString;
@@ -8,7 +9,7 @@ use std::io::{self, ErrorKind};
 use std::path::{Path, PathBuf};
 use std::sync::atomic::{AtomicBool, Ordering::SeqCst};
 use std::sync::{Arc, Mutex};
-use std::time::{Duration, Instant};
+use std::time::Duration;
 
 type Bytes = Arc<Vec<u8>>;
 
@@ -50,7 +51,7 @@ pub(crate) struct Owner {
     view: Mutex<View>,
     /// One at a time: an older view must not take the place of a later one.
     syncing: Mutex<()>,
-    waiting: Mutex<Vec<Instant>>,
+    waiting: UnderWay,
     aboard: AtomicBool,
 }
 
@@ -83,7 +84,7 @@ impl Store {
             hook: Box::new(hook),
             view: Mutex::new(view),
             syncing: Mutex::new(()),
-            waiting: Mutex::new(Vec::new()),
+            waiting: UnderWay::default(),
             aboard: AtomicBool::new(false),
         })
     }
@@ -201,18 +202,12 @@ impl Drive for Owner {
 
     fn sync(&self) -> io::Result<()> {
         self.leave();
-        let began = Instant::now();
-        locked(&self.waiting).push(began);
-        let synced = self.commit();
-        let mut waiting = locked(&self.waiting);
-        let place = waiting.iter().position(|other| *other == began);
-        place.map(|place| waiting.remove(place));
-        synced
+        let _noted = self.waiting.note();
+        self.commit()
     }
 
     fn under_way(&self) -> Duration {
-        let first = locked(&self.waiting).iter().min().copied();
-        first.map_or(Duration::ZERO, |first| first.elapsed())
+        self.waiting.longest()
     }
 }
 
