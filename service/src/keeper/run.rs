@@ -1,8 +1,8 @@
 //! Starts, waits for what is to be done, and does one thing after the other.
 
 use super::fill::{fill_primed, Filled};
-use super::{Done, Keeper, Order, Trouble};
-use crate::files::{Fault, Lost};
+use super::{Keeper, Trouble};
+use crate::files::Fault;
 use crate::latch::Latch;
 use crate::log::shown;
 use crate::post_reports::SERIES_SHOWN;
@@ -10,7 +10,7 @@ use crate::slot::Slot;
 use crate::work::blocking;
 use std::collections::HashSet;
 use std::time::{Duration, Instant, SystemTime, UNIX_EPOCH};
-use tokio::sync::{oneshot, watch};
+use tokio::sync::watch;
 use tokio::time::MissedTickBehavior;
 
 /// How often it is looked whether a checkpoint is due.
@@ -26,16 +26,6 @@ const BETWEEN_LOOKS_AT_AGES: Duration = Duration::from_secs(1);
 const BETWEEN_FORGETTING: Duration = Duration::from_secs(10);
 /// A series that ends so long after the clock's time is told of at the start.
 const AHEAD: Duration = Duration::from_secs(3600);
-
-/// What is to be done.
-enum Event {
-    Look,
-    Crowded,
-    Hurried,
-    Ordered(Order, oneshot::Sender<Done>),
-    Stop,
-    Lost(Lost),
-}
 
 impl Keeper {
     /// Returns once all that was taken is in the outbox after `stop`, or where it can't go on. A stop that comes
@@ -62,21 +52,25 @@ impl Keeper {
         let mut looks = tokio::time::interval(LOOK);
         looks.set_missed_tick_behavior(MissedTickBehavior::Delay);
         loop {
-            match self.next_event(&mut looks, stop).await {
-                Event::Look => self.look().await?,
-                Event::Crowded => self.forget_if_it_helps().await?,
-                // One that was put off has its own time.
-                Event::Hurried if self.put_off > 0 => {}
-                Event::Hurried => drop(self.checkpoint().await?),
-                Event::Ordered(order, to) => {
+            tokio::select! {
+                biased;
+                lost = self.slot.journal.lost() => return Err(lost.into()),
+                () = stop.wait_true() => return self.finish().await,
+                Some((order, to)) = self.orders.recv() => {
                     let done = self.carry_out(order).await?;
                     // Also of what was refused: by a slot that is another's nothing is said.
                     let outbox = self.slot.outbox.clone();
                     blocking(move || outbox.settle()).await?;
                     let _ = to.send(done); // who ordered it may not wait any more
                 }
-                Event::Stop => return self.finish().await,
-                Event::Lost(lost) => return Err(lost.into()),
+                () = self.slot.crowded.notified() => self.forget_if_it_helps().await?,
+                () = self.slot.hurried.notified() => {
+                    // One that was put off has its own time.
+                    if self.put_off == 0 {
+                        let _put_off = self.checkpoint().await?;
+                    }
+                }
+                _ = looks.tick() => self.look().await?,
             }
         }
     }
@@ -112,22 +106,6 @@ impl Keeper {
         );
         tell_ahead(&self.slot);
         Ok(true)
-    }
-
-    async fn next_event(
-        &mut self,
-        looks: &mut tokio::time::Interval,
-        stop: &mut watch::Receiver<bool>,
-    ) -> Event {
-        tokio::select! {
-            biased;
-            lost = self.slot.journal.lost() => Event::Lost(lost),
-            () = stop.wait_true() => Event::Stop,
-            Some((order, to)) = self.orders.recv() => Event::Ordered(order, to),
-            () = self.slot.crowded.notified() => Event::Crowded,
-            () = self.slot.hurried.notified() => Event::Hurried,
-            _ = looks.tick() => Event::Look,
-        }
     }
 
     async fn look(&mut self) -> Result<(), Trouble> {
