@@ -77,7 +77,6 @@ fn replay(
     stops: impl Fn() -> bool,
 ) -> Result<Option<Filled>, Trouble> {
     let mut filling = Filling {
-        slot,
         numbers: Numbers::new(slot.core.clone(), own),
         fresh: Fresh {
             slot,
@@ -108,7 +107,6 @@ fn replay(
 type Admit = fn(&mut Book, &mut Read) -> Result<(), Refused>;
 
 struct Filling<'a, S> {
-    slot: &'a Slot,
     numbers: Numbers,
     fresh: Fresh<'a>,
     /// Whether it was told to stop.
@@ -129,8 +127,8 @@ type Coming = Option<Again>;
 impl<S: Fn() -> bool> Filling<'_, S> {
     /// Puts the posts of the journal that are wanted, in its order.
     fn replay(&mut self, is_wanted: impl Fn(&Post) -> bool + Sync, admit: Admit) -> Result<(), Trouble> {
-        let (slot, fresh) = (self.slot, &mut self.fresh);
-        let (numbers, stops) = (&mut self.numbers, &self.stops);
+        let Filling { numbers, fresh, stops } = self;
+        let slot = fresh.slot;
         in_order(
             |coming: &mut Coming| coming.iter_mut().for_each(Again::be_read),
             |coming| match coming {
@@ -138,7 +136,7 @@ impl<S: Fn() -> bool> Filling<'_, S> {
                 None => fresh.make_room(),
             },
             |queue| {
-                let own = numbers.own();
+                let own = numbers.own.clone();
                 said(slot, &own, stops, |said| {
                     let mut groups = Groups::new(&slot.core);
                     for Said { named, mut post } in said {

@@ -9,7 +9,7 @@ use std::sync::{Arc, OnceLock};
 /// Takes posts one after the other, each in its turn: a later one does not say again what a number stands for.
 pub(super) struct Numbers {
     core: Arc<Core>,
-    own: Arc<Own>,
+    pub own: Arc<Own>,
     /// By the number in the file that is read.
     of_file: ByNumber<Option<Number>>,
 }
@@ -32,10 +32,6 @@ pub(super) enum Number {
 impl Numbers {
     pub fn new(core: Arc<Core>, own: Arc<Own>) -> Numbers {
         Numbers { core, own, of_file: ByNumber::default() }
-    }
-
-    pub fn own(&self) -> Arc<Own> {
-        self.own.clone()
     }
 
     /// From now on these numbers stand for these series.
@@ -79,10 +75,6 @@ impl Number {
         }
     }
 
-    fn try_own(&mut self, of: &Own) {
-        let _ = self.be_own(of);
-    }
-
     /// The book's number.
     pub fn be_own(&mut self, of: &Own) -> Result<u64, Refused> {
         let own = match self {
@@ -108,7 +100,7 @@ impl Own {
         self.names()?.number_of(text)
     }
 
-    /// Finds the numbers of these, of many at once where they have most in common. What is refused is asked for again in its turn.
+    /// Finds the numbers of these, of many at once where they have most in common.
     pub fn find(&self, mut said: &mut [&mut Number]) {
         let texts: Vec<Bytes> = said.iter().map_while(|number| number.text()).collect();
         let mut texts = &texts[..];
@@ -120,7 +112,9 @@ impl Own {
             if let Some(around) = around.filter(|_| alike > 1) {
                 self.find_alike(those, &around.with(&points));
             }
-            those.iter_mut().for_each(|number| number.try_own(self));
+            for number in those {
+                let _ = number.be_own(self); // it is asked for again in its turn
+            }
             (said, texts) = (left, &texts[alike..]);
         }
     }
