@@ -55,6 +55,9 @@ const POINTS: u8 = records::OWN + 4;
 const RUNS: u8 = records::OWN + 5;
 const NAME_AFTER: u8 = records::OWN + 6;
 
+/// How the thread is named that syncs.
+pub(super) const SYNCER: &str = "journal";
+
 /// A place in the journal: all that was appended before it.
 #[derive(Clone, Copy, Debug, PartialEq, Eq, PartialOrd, Ord)]
 pub struct Ticket(pub u64);

@@ -1,7 +1,7 @@
 //! What an earlier run left in the journal.
 
 use super::earlier_segment::{self, EarlierSegment};
-use super::{prepare, Expected, Journal, NamedNumbers, Place, Shared, Size, Waiters};
+use super::{prepare, Expected, Journal, NamedNumbers, Place, Shared, Size, Waiters, SYNCER};
 use crate::files::disk::{io_fault, Disk};
 use crate::files::free_space::FreeSpace;
 use crate::files::segment::{self, Dropped};
@@ -77,7 +77,7 @@ impl Journal {
         });
         shared.try_sync()?;
         let run = shared.clone();
-        let syncer = std::thread::Builder::new().name("journal".into()).spawn(move || run.run());
+        let syncer = std::thread::Builder::new().name(SYNCER.into()).spawn(move || run.run());
         let syncer = Some(syncer.map_err(io_fault(folder))?);
         Ok(Journal { shared, syncer, begun: number, dropped })
     }

@@ -86,10 +86,14 @@ fn texts(journal: &Journal, first: u64) -> Vec<String> {
 
 /// As `kill -9` leaves it.
 fn kill(mut journal: Journal) {
+    end_syncer(&mut journal);
+    std::mem::forget(journal);
+}
+
+fn end_syncer(journal: &mut Journal) {
     locked(&journal.shared.waiters).ending = true;
     journal.shared.work.notify_one();
     journal.syncer.take().map(|syncer| syncer.join());
-    std::mem::forget(journal);
 }
 
 fn bytes(path: &Path) -> Vec<u8> {

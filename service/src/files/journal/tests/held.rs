@@ -250,7 +250,7 @@ fn run(folder: &Path, left: &Path, chance: &mut TestRandom) -> (u64, Queues) {
     let disk = disk.ending(move |_| {
         let _ = ended.send(());
     });
-    let journal = Arc::new(open_on(&disk, folder, Durability::Disk).unwrap());
+    let mut journal = open_on(&disk, folder, Durability::Disk).unwrap();
     let (mut first, mut queues, mut held) = (1, Queues::new(), BTreeSet::new());
     for round in 0..2 + chance.below(4) {
         for step in 0..chance.below(8) {
@@ -275,7 +275,9 @@ fn run(folder: &Path, left: &Path, chance: &mut TestRandom) -> (u64, Queues) {
     let next = journal.turn().0;
     journal.shared.sync();
     held.insert("d".into());
+    end_syncer(&mut journal); // what it does, and when, hangs on the machine's load
     calls.store(chance.below(12), SeqCst);
+    let journal = Arc::new(journal);
     let holds = journal.clone();
     std::thread::spawn(move || {
         let _ = holds.hold(&held, first, next); // the power is lost in it, or after it
