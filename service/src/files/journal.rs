@@ -141,7 +141,22 @@ impl Journal {
             Body::Text(_) => Vec::new(),
             Body::Points(points) => place.said.say(points, names),
         };
-        shared.put(&mut place, post, now, &[&names, &record])
+        let length = (names.len() + record.len()) as u64;
+        shared.free_space.use_up(length);
+        let put = place.segment.append(&[&names, &record]).and_then(|()| match shared.disk.keeps_order() {
+            true => place.segment.write(), // what a drive has is in memory until its sync anyway
+            false => Ok(()),
+        });
+        if let Err(fault) = put {
+            let Lost = shared.disk.fail(fault);
+        }
+        place.ticket += 1;
+        place.moved.remove(&post.sender);
+        if let Some(size) = locked(&shared.sizes).last_mut() {
+            size.bytes += length;
+            size.first.get_or_insert(now);
+        }
+        Ticket(place.ticket)
     }
 
     /// Begins a segment: its number, and a ticket for all before it. Its name is durable with that ticket.
@@ -267,25 +282,6 @@ impl Journal {
 }
 
 impl Shared {
-    fn put(&self, place: &mut Place, post: &Post, now: u64, parts: &[&[u8]]) -> Ticket {
-        let length = parts.iter().map(|part| part.len() as u64).sum();
-        self.free_space.use_up(length);
-        let put = place.segment.append(parts).and_then(|()| match self.disk.keeps_order() {
-            true => place.segment.write(), // what a drive has is in memory until its sync anyway
-            false => Ok(()),
-        });
-        if let Err(fault) = put {
-            let Lost = self.disk.fail(fault);
-        }
-        place.ticket += 1;
-        place.moved.remove(&post.sender);
-        if let Some(size) = locked(&self.sizes).last_mut() {
-            size.bytes += length;
-            size.first.get_or_insert(now);
-        }
-        Ticket(place.ticket)
-    }
-
     fn begin(&self, place: &mut Place, number: u64) -> Result<(), Fault> {
         place.segment.end()?;
         let mut prepared = locked(&self.next);
