@@ -161,10 +161,11 @@ impl Journal {
 
     /// Begins a segment: its number, and a ticket for all before it. Its name is durable with that ticket.
     pub fn turn(&self) -> (u64, Ticket) {
-        let mut place = self.shared.to_write();
-        let next = place.segment.number + 1;
-        self.turn_to(&mut place, next);
-        (next, Ticket(place.ticket))
+        self.shared.alone(|place| {
+            let next = place.segment.number + 1;
+            self.turn_to(place, next);
+            (next, Ticket(place.ticket))
+        })
     }
 
     fn turn_to(&self, place: &mut Place, number: u64) {
@@ -224,10 +225,11 @@ impl Journal {
 
     /// Makes sure that the next segment's number is at least this: the outbox may know of a later segment than is left.
     pub fn reach(&self, segment: u64) {
-        let mut place = self.shared.to_write();
-        if place.segment.number < segment {
-            self.turn_to(&mut place, segment);
-        }
+        self.shared.alone(|place| {
+            if place.segment.number < segment {
+                self.turn_to(place, segment);
+            }
+        });
     }
 
     /// Makes the last turn and the last note of what is held durable before what comes next, whatever was asked for posts.
@@ -245,9 +247,10 @@ impl Journal {
         numbers.retain(|number| *number < before && *number < last);
         if !numbers.is_empty() {
             // A start that misses one of them is told so whether the outbox is older than this.
-            let mut place = shared.to_write();
-            let said = place.segment.say_forgotten(before);
-            said.map_err(|fault| Fault::Lost(shared.disk.fail(fault)))?; // while nobody else can write
+            shared.alone(|place| {
+                let said = place.segment.say_forgotten(before);
+                said.map_err(|fault| shared.disk.fail(fault)) // while nobody else can write
+            })?;
         }
         for number in numbers {
             shared.disk.remove(&segment::path(&shared.folder, number))?;

@@ -119,15 +119,17 @@ impl Shared {
         let bytes = serde_json::to_vec(&rows).map_err(io::Error::from).map_err(io_fault(&self.folder))?;
         let mut record = Vec::new();
         records::put(&mut record, HELD, &[&bytes]);
-        let mut place = self.to_write();
-        if place.segment.number != next {
-            let source = io::Error::other("the journal turned while posts of quarantined senders were moved");
-            return Err(io_fault(&place.segment.path)(source));
-        }
-        place.segment.put(&record).map_err(|fault| self.disk.fail(fault))?; // while nobody else can write
-        place.ticket += 1;
-        place.kept = place.ticket;
-        drop(place);
+        self.alone(|place| {
+            if place.segment.number != next {
+                let source =
+                    io::Error::other("the journal turned while posts of quarantined senders were moved");
+                return Err(io_fault(&place.segment.path)(source));
+            }
+            place.segment.put(&record).map_err(|fault| self.disk.fail(fault))?; // while nobody else can write
+            place.ticket += 1;
+            place.kept = place.ticket;
+            Ok(())
+        })?;
         locked(&self.held).insert(next, list);
         Ok(())
     }

@@ -185,9 +185,11 @@ impl Shared {
 
     /// Marks the last record, where nothing else is written. The mark itself need not be durable.
     fn mark_last(&self) {
-        if let Err(fault) = self.to_write().segment.mark_last() {
-            let Lost = self.disk.fail(fault);
-        }
+        self.alone(|place| {
+            if let Err(fault) = place.segment.mark_last() {
+                let Lost = self.disk.fail(fault);
+            }
+        });
     }
 
     /// Makes the segment that comes next, so that a turn has only to name it. With a drive it waits for nothing anyway.
@@ -244,7 +246,7 @@ impl Drop for Journal {
             self.shared.disk.discard(&next.path); // the next start does it too
         }
         self.shared.sync();
-        let ended = self.shared.to_write().segment.end();
+        let ended = self.shared.alone(|place| place.segment.end());
         if let Err(fault) = ended {
             self.shared.disk.end(&fault);
         }

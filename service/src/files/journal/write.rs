@@ -3,32 +3,10 @@
 use super::{locked, Journal, Place, Shared, Ticket};
 use crate::files::drive::Lost;
 use crate::work::others_first;
-use std::ops::{Deref, DerefMut};
 use std::sync::atomic::Ordering::SeqCst;
-use std::sync::MutexGuard;
 
 /// What is left of a write's memory for the next one.
 const KEPT: usize = 64 << 10;
-
-/// The place, for who writes into the segment by himself: no other write is under way.
-pub(super) struct ToWrite<'a> {
-    place: MutexGuard<'a, Place>,
-    _writing: MutexGuard<'a, Vec<u8>>,
-}
-
-impl Deref for ToWrite<'_> {
-    type Target = Place;
-
-    fn deref(&self) -> &Place {
-        &self.place
-    }
-}
-
-impl DerefMut for ToWrite<'_> {
-    fn deref_mut(&mut self) -> &mut Place {
-        &mut self.place
-    }
-}
 
 impl Journal {
     /// Has all before a ticket in a file: there it is also where the process ends now.
@@ -71,9 +49,10 @@ impl Journal {
 }
 
 impl Shared {
-    pub fn to_write(&self) -> ToWrite<'_> {
-        let writing = locked(&self.writing);
-        ToWrite { place: locked(&self.place), _writing: writing }
+    /// For who writes into the segment by himself: no other write is under way.
+    pub fn alone<T>(&self, writes: impl FnOnce(&mut Place) -> T) -> T {
+        let _writing = locked(&self.writing);
+        writes(&mut locked(&self.place))
     }
 
     /// Writes all that was appended until now: what `see` says of the place up to there. Who appends meanwhile does not wait.
