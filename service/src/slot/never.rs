@@ -18,22 +18,6 @@ const MOST: [u64; 4] = [i64::MAX as u64, i64::MAX as u64, 1 << 53, u64::MAX];
 /// How much of a metric's name is told, in characters.
 const NAME_SHOWN: usize = 100;
 
-#[derive(Debug, PartialEq, Eq, thiserror::Error)]
-enum Never {
-    #[error("too many series in a post: over {most}: post fewer series at a time")]
-    ManySeries { most: usize },
-    #[error(
-        "too large: a post's points of one series of {metric} add up to over {most}: post fewer at a time"
-    )]
-    Large { metric: String, most: u64 },
-}
-
-impl From<Never> for Outcome {
-    fn from(never: Never) -> Outcome {
-        Outcome::Refused { status: 413, message: never.to_string() }
-    }
-}
-
 impl Slot {
     /// What is said of a post that the book refuses.
     pub(super) fn refusal(&self, read: &Read, refused: Refused) -> Outcome {
@@ -42,29 +26,37 @@ impl Slot {
             Refused::TooLarge => too_large(read),
             _ => None,
         };
-        never.map_or_else(|| refused.into(), Outcome::from)
+        never.map_or_else(|| refused.into(), |message| Outcome::Refused { status: 413, message })
     }
 }
 
 /// Where they are unevenly among the books fewer are too many, which is not seen here.
-fn too_many(read: &Read, most: usize) -> Option<Never> {
+fn too_many(read: &Read, most: usize) -> Option<String> {
     let is_over = read.points() > most as u64
         && match &read.post.body {
             Body::Points(points) => points.numbers().collect::<HashSet<_>>().len() > most,
             Body::Text(text) => series::others(text, Profile::Deltas, most as u64, |_| false) > most as u64,
         };
-    is_over.then_some(Never::ManySeries { most })
+    is_over.then(|| format!("too many series in a post: over {most}: post fewer series at a time"))
 }
 
-fn too_large(read: &Read) -> Option<Never> {
+fn too_large(read: &Read) -> Option<String> {
     match &read.post.body {
         Body::Points(points) => {
             let (number, most) = large(points)?;
             let parts = series::only(&read.names().text(number))?.parts().ok()?;
-            Some(Never::Large { metric: shown(&parts.name, NAME_SHOWN), most })
+            Some(large_said(&parts.name, most))
         }
         Body::Text(text) => large_of_text(text),
     }
+}
+
+/// Of a metric with a series that is over this limit.
+fn large_said(metric: &str, most: u64) -> String {
+    let metric = shown(metric, NAME_SHOWN);
+    format!(
+        "too large: a post's points of one series of {metric} add up to over {most}: post fewer at a time"
+    )
 }
 
 /// The number of a series that is over a limit, and the limit.
@@ -74,11 +66,11 @@ fn large(points: &Points) -> Option<(u64, u64)> {
 }
 
 /// The same of a text, for whose series there was no room to have numbers. No key is kept.
-fn large_of_text(text: &[u8]) -> Option<Never> {
+fn large_of_text(text: &[u8]) -> Option<String> {
     let (hasher, mut rows, mut found) = (RandomState::new(), Rows::default(), None);
     taken_points(text, |key, metric, words| {
         if let (None, Some(most)) = (&found, rows.add(hasher.hash_one(key), &words[2..])) {
-            found = Some(Never::Large { metric: shown(metric, NAME_SHOWN), most });
+            found = Some(large_said(metric, most));
         }
     });
     found
