@@ -41,28 +41,17 @@ struct Making {
     is_of_text: bool,
 }
 
-impl Making {
-    fn new(sender: String, mut by: ByNumber, window: Window) -> Making {
-        Making {
-            sender,
-            left_out: LeftOut::of(&mut by, &window),
-            by,
-            window,
-            frontiers: HashMap::new(),
-            is_of_text: false,
-        }
-    }
-}
-
 impl Slot {
     /// As `put_in_turn`.
     pub(super) async fn put_cumulative(
         self: &Arc<Slot>,
         sender: String,
-        by: ByNumber,
+        mut by: ByNumber,
         mut claim: Claim<'_>,
     ) -> Result<Journalled, &'static str> {
-        let mut making = Making::new(sender, by, self.clock.window());
+        let window = self.clock.window();
+        let (left_out, frontiers) = (LeftOut::of(&mut by, &window), HashMap::new());
+        let mut making = Making { sender, by, window, left_out, frontiers, is_of_text: false };
         loop {
             let landed = self.landed.notified(); // from here on none is missed
             let put;

@@ -2,15 +2,11 @@
 //! wait for it too, and their senders would not know for how long.
 
 use super::Slot;
-use std::sync::atomic::{AtomicBool, Ordering::Relaxed};
+use std::sync::atomic::Ordering::Relaxed;
 use std::time::Duration;
 
 /// So long a call of the disk may take.
 const PATIENCE: Duration = Duration::from_secs(2);
-
-/// As it was found last, and told.
-#[derive(Default)]
-pub(super) struct Stall(AtomicBool);
 
 impl Slot {
     /// How long the call of the disk that began first has been under way; zero where none is. Never waits.
@@ -22,7 +18,7 @@ impl Slot {
     pub fn disk_answers(&self) -> bool {
         let stalls = self.disk_call() >= PATIENCE;
         // No post writes what others read, as long as it is as it was.
-        if self.told.0.load(Relaxed) != stalls && self.told.0.swap(stalls, Relaxed) != stalls {
+        if self.told.load(Relaxed) != stalls && self.told.swap(stalls, Relaxed) != stalls {
             let disk = if self.journal.is_in_store() { "store" } else { "disk" };
             match stalls {
                 true => tracing::error!(

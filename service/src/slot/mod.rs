@@ -27,7 +27,7 @@ use crate::shares::Shares;
 use crate::work::Readers;
 use bytes::Bytes;
 use phase::Phases;
-use std::sync::atomic::{AtomicU64, Ordering};
+use std::sync::atomic::{AtomicBool, AtomicU64, Ordering};
 use std::sync::Arc;
 use tokio::sync::Notify;
 
@@ -65,7 +65,8 @@ pub struct Slot {
     pub(crate) hurried: Notify,
     /// What was taken is not in flight any more.
     pub(crate) landed: Notify,
-    told: disk_stall::Stall,
+    /// Whether the disk stalls, as it was found last, and told.
+    told: AtomicBool,
     pub(crate) shares: Arc<Shares>,
     /// None where it reads as all others here, and keeps nothing of that.
     reading: Option<Arc<Reading>>,
@@ -137,7 +138,7 @@ impl Slot {
             crowded: Notify::new(),
             hurried: Notify::new(),
             landed: Notify::new(),
-            told: disk_stall::Stall::default(),
+            told: AtomicBool::new(false),
             shares: shared.shares.clone(),
             keeping: Arc::default(),
         })
