@@ -274,16 +274,12 @@ fn locks_of(folder: &Path) -> Result<Locks, FolderFault> {
     options.read(true).write(true).mode(0o600);
     // Only what is made here is given away: a link there may lead to any file of root's.
     let made = options.clone().create_new(true).open(&path);
+    let made = made.inspect(|made| super::disk::give_to_owner(made, &path));
     let file = match made {
-        Ok(made) => {
-            super::disk::give_to_owner(&made, &path);
-            made
-        }
-        Err(error) if error.kind() == ErrorKind::AlreadyExists => {
-            options.open(&path).map_err(io_fault(&path))?
-        }
-        Err(error) => return Err(io_fault(&path)(error).into()),
+        Err(error) if error.kind() == ErrorKind::AlreadyExists => options.open(&path),
+        made => made,
     };
+    let file = file.map_err(io_fault(&path))?;
     match take_lock(&file) {
         Ok(()) => {}
         Err(Errno::EWOULDBLOCK) => return Err(FolderFault::InUse(folder.into())),

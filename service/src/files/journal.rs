@@ -318,19 +318,14 @@ fn prepare(
     durability: Durability,
     forgotten: u64,
 ) -> Result<Segment, Fault> {
-    let ahead = ahead(disk, durability);
+    let ahead = match durability {
+        _ if disk.keeps_order() => Ahead::Nothing, // a drive is written by its syncs, and not in place
+        Durability::Disk => Ahead::Zeros(0),
+        Durability::Process => Ahead::Blocks(0),
+    };
     let segment = Segment::create(disk, folder, Which::Journal, number, ahead, Some(forgotten))?;
     disk.order(&segment.file, &segment.path)?;
     Ok(segment)
-}
-
-/// What a segment has ahead. A drive is written by its syncs, and not in place.
-fn ahead(disk: &Disk, durability: Durability) -> Ahead {
-    match durability {
-        _ if disk.keeps_order() => Ahead::Nothing,
-        Durability::Disk => Ahead::Zeros(0),
-        Durability::Process => Ahead::Blocks(0),
-    }
 }
 
 #[cfg(test)]

@@ -76,12 +76,10 @@ impl Folder {
 
     /// Passes where a service may start on it.
     pub fn counts(&self) -> Result<(), FolderFault> {
-        match self.mark() {
-            None => Ok(()),
-            Some(mark) => {
-                Err(FolderFault::Unusable { path: self.path.clone(), what: mark.refusal(&self.path) })
-            }
-        }
+        let Some(mark) = self.mark() else {
+            return Ok(());
+        };
+        Err(FolderFault::Unusable { path: self.path.clone(), what: mark.refusal(&self.path) })
     }
 
     /// Whether nothing was ever kept there.

@@ -61,11 +61,10 @@ pub(super) fn read(mut bytes: &[u8]) -> Option<Points> {
 
 /// The same of points that are of runs.
 pub(super) fn read_with_runs(mut bytes: &[u8]) -> Option<Points> {
-    let of_runs = runs::take(&mut bytes)?;
+    let of_runs = runs::take(&mut bytes).filter(|of_runs| !of_runs.is_empty())?; // else their form would be another
     let mut points = read(bytes)?;
-    let is_one_form = !of_runs.is_empty();
     runs::give(&mut points, of_runs)?;
-    is_one_form.then_some(points)
+    Some(points)
 }
 
 pub(super) fn put_number(out: &mut Vec<u8>, mut number: u64) {

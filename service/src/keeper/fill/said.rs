@@ -57,13 +57,11 @@ impl Part {
             Body::Text(text) => text.len(),
             Body::Points(points) => size_of_val(points.words()),
         };
-        let named = named.into_iter();
-        let named = named.map(|(number, text)| {
+        let named = named.into_iter().map(|(number, text)| {
             self.bytes += text.len();
             (number, Number::Said(text))
         });
-        let named = named.collect();
-        self.posts.push(Said { named, post });
+        self.posts.push(Said { named: named.collect(), post });
     }
 
     fn be_named(&mut self, own: &Own) {
