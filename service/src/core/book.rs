@@ -9,7 +9,7 @@ mod answer;
 mod declared;
 
 use super::memory::{self, Tried};
-use answer::{asked, written};
+use answer::{asked, forwarded, written};
 use declared::*;
 use std::ptr::null_mut;
 
@@ -156,30 +156,24 @@ impl Desk {
     pub fn take(&mut self, flushes: &mut Flushes, most: usize) -> Answer {
         let most = most.clamp(1, MOST_TAKEN);
         // SAFETY: both handles are live and lent for this call alone; the number is from 1 to 1,000.
-        let call = |answer: &mut Answer| unsafe { desk_take(&mut self.0, &mut flushes.0, most, answer) };
-        memory::forwarding(|| asked(call))
+        forwarded(|answer| unsafe { desk_take(&mut self.0, &mut flushes.0, most, answer) })
     }
 
     /// As `take`, of one book alone.
     pub fn take_book(&mut self, flushes: &mut Flushes, book: usize, most: usize) -> Answer {
         let most = most.clamp(1, MOST_TAKEN);
         // SAFETY: both handles are live and lent for this call alone; the number is from 1 to 1,000.
-        let call =
-            |answer: &mut Answer| unsafe { desk_take_book(&mut self.0, &mut flushes.0, book, most, answer) };
-        memory::forwarding(|| asked(call))
+        forwarded(|answer| unsafe { desk_take_book(&mut self.0, &mut flushes.0, book, most, answer) })
     }
 
     pub fn settle(&mut self, flushes: &mut Flushes) -> Answer {
         // SAFETY: both handles are live and lent for this call alone.
-        let call = |answer: &mut Answer| answer.status = unsafe { desk_settle(&mut self.0, &mut flushes.0) };
-        memory::forwarding(|| asked(call))
+        forwarded(|answer| answer.status = unsafe { desk_settle(&mut self.0, &mut flushes.0) })
     }
 
     pub fn give_back(&mut self, flushes: &mut Flushes) -> Answer {
         // SAFETY: both handles are live and lent for this call alone.
-        let call =
-            |answer: &mut Answer| answer.status = unsafe { desk_give_back(&mut self.0, &mut flushes.0) };
-        memory::forwarding(|| asked(call))
+        forwarded(|answer| answer.status = unsafe { desk_give_back(&mut self.0, &mut flushes.0) })
     }
 
     pub fn quarantine(&mut self, sender: &[u8]) -> Answer {
@@ -189,10 +183,7 @@ impl Desk {
 
     pub fn lift(&mut self, sender: &[u8]) -> Answer {
         // SAFETY: the handle is live and lent for this call alone, the slice is there through it.
-        let call = |answer: &mut Answer| {
-            answer.status = unsafe { desk_lift(&mut self.0, sender.as_ptr(), sender.len()) }
-        };
-        memory::forwarding(|| asked(call))
+        forwarded(|answer| answer.status = unsafe { desk_lift(&mut self.0, sender.as_ptr(), sender.len()) })
     }
 
     /// Whether the round of one book was closed: it has something, and nothing is open or live in it.
@@ -223,8 +214,7 @@ impl Flushes {
     /// Writes the request of one of them: its bytes can be copied then.
     pub fn text(&mut self, number: usize) -> Answer {
         // SAFETY: the handle is live and lent for this call alone.
-        let call = |answer: &mut Answer| unsafe { flushes_text(&mut self.0, number, answer) };
-        memory::forwarding(|| asked(call))
+        forwarded(|answer| unsafe { flushes_text(&mut self.0, number, answer) })
     }
 
     /// Copies the text that was written last: whether it has exactly so many bytes.

@@ -30,6 +30,11 @@ pub(super) fn asked(call: impl FnOnce(&mut Answer)) -> Answer {
     answer
 }
 
+/// The same of one that may use up the reserve.
+pub(super) fn forwarded(call: impl FnOnce(&mut Answer)) -> Answer {
+    memory::forwarding(|| asked(call))
+}
+
 /// Makes a call that writes to a slice, and once more where it says how long that has to be. `out` is what it has written.
 pub(super) fn written<T: Clone + Default>(
     out: &mut Vec<T>,
