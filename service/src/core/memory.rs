@@ -4,9 +4,10 @@
 //! Posts are read and admitted below a lower bound than what was taken is forwarded by: what lies between the two is a
 //! reserve for that. So posts are refused, and nothing of them is kept, before a flush would find too little.
 
+use crate::work::locked;
 use std::cell::Cell;
 use std::sync::atomic::{AtomicI64, AtomicU64, Ordering::Relaxed};
-use std::sync::{Mutex, PoisonError};
+use std::sync::Mutex;
 
 /// What a thread counts by itself before it counts with the others: the sum of all is off by as much for each.
 const DRIFT: i64 = 128 << 10;
@@ -178,7 +179,7 @@ impl Reserve {
     /// Keeps back what it takes to forward so many series beside those of the others, by texts as long as those before, up to
     /// half of all.
     pub fn be_for(&self, series: usize) {
-        let mut all = SERIES.lock().unwrap_or_else(PoisonError::into_inner); // a number is sound at any time
+        let mut all = locked(&SERIES);
         *all = *all + series as u64 - self.series.swap(series as u64, Relaxed);
         let most = MOST.load(Relaxed);
         let wanted = LEAST_RESERVE + RESERVE_OF_A_SERIES * *all + TEXTS * LONGEST_TEXT.load(Relaxed);

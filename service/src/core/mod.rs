@@ -33,14 +33,14 @@ pub use refusal::Refused;
 pub use stretch::Across;
 
 use crate::files::{Body, Points, Post};
+use crate::work::locked;
 use book::{Answer, Desk, Flushes, MOST_TAKEN};
 use bytes::Bytes;
 use earlier::Earlier;
 use flushed::copied;
 use refusal::check;
 use rounds::Rounds;
-use std::ops::{Deref, DerefMut};
-use std::sync::{Arc, Mutex, MutexGuard, PoisonError};
+use std::sync::{Arc, Mutex, MutexGuard};
 
 /// A book takes 10,000 series, and a series goes to one by a hash: so many on average leave room for the uneven.
 const SERIES_OF_A_BOOK: usize = 8_000;
@@ -68,7 +68,7 @@ pub struct Book {
 }
 
 /// The book, for who has its lock.
-pub struct Locked<'a>(MutexGuard<'a, Book>);
+pub type Locked<'a> = MutexGuard<'a, Book>;
 
 /// Gives all threads what this one keeps of free memory, where it has not used the library since it was asked `before`: an
 /// allocator has a store for each thread, and takes nothing out of one that does nothing. What to ask next time.
@@ -137,8 +137,7 @@ impl Core {
 
     /// Waits for the lock: nothing is waited for while it is held but a write of the journal's.
     pub fn lock(&self) -> Locked<'_> {
-        // A call of the library is whole or ends the process.
-        Locked(self.book.lock().unwrap_or_else(PoisonError::into_inner))
+        locked(&self.book) // a call of the library is whole or ends the process
     }
 }
 
@@ -312,20 +311,6 @@ impl Book {
 
 /// The last line of a report.
 const END: &[u8] = b"end\n";
-
-impl Deref for Locked<'_> {
-    type Target = Book;
-
-    fn deref(&self) -> &Book {
-        &self.0
-    }
-}
-
-impl DerefMut for Locked<'_> {
-    fn deref_mut(&mut self) -> &mut Book {
-        &mut self.0
-    }
-}
 
 #[cfg(test)]
 pub(crate) mod tests;

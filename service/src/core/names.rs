@@ -7,6 +7,7 @@ use super::refusal::{check, Refused};
 use super::texts::Texts;
 use crate::files::{self, Points};
 use crate::otlp::series::words_of;
+use crate::work::locked;
 use bytes::Bytes;
 use std::alloc::{handle_alloc_error, Layout};
 use std::sync::atomic::{AtomicBool, AtomicU64, AtomicUsize, Ordering::Relaxed};
@@ -216,7 +217,7 @@ impl Names {
     }
 
     fn handle(&self) -> MutexGuard<'_, book::Names> {
-        self.handle.lock().unwrap_or_else(PoisonError::into_inner) // a call of the library is whole
+        locked(&self.handle) // a call of the library is whole
     }
 
     /// How long the requests of these numbers are, all together.

@@ -3,8 +3,9 @@
 
 use super::book::Reader;
 use super::Refused;
+use crate::work::locked;
 use std::sync::atomic::{AtomicU64, Ordering::Relaxed};
-use std::sync::{Arc, Mutex, MutexGuard, PoisonError, Weak};
+use std::sync::{Arc, Mutex, Weak};
 use std::time::{Duration, Instant};
 
 /// So many a thread keeps: a post has one no longer than its thread reads it and puts it in, unless it has to wait.
@@ -105,10 +106,6 @@ fn idle(pool: &Pool, turn: u64) -> Vec<Kept> {
     let (used, idle) = pool.drain(..).partition(|kept| kept.turn == turn);
     *pool = used;
     idle
-}
-
-fn locked<T>(mutex: &Mutex<T>) -> MutexGuard<'_, T> {
-    mutex.lock().unwrap_or_else(PoisonError::into_inner) // a list is sound at any time
 }
 
 #[cfg(test)]

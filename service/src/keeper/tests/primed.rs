@@ -32,6 +32,7 @@ async fn a_book_is_primed_once_all_owners_are_known() {
 
 /// It takes as long as many series need, and nobody waits for it then.
 #[tokio::test(flavor = "multi_thread")]
+#[allow(clippy::await_holding_lock)] // whoever waits for it is no task
 async fn who_is_told_to_stop_while_it_is_primed_ends_soon() {
     let place = tempfile::tempdir().unwrap();
     let folder = Folder::open(&place.path().join("data"), Durability::Process).unwrap();
