@@ -4,7 +4,7 @@ use super::who::{By, Certified};
 use super::{Tokens, Who};
 use crate::metrics::Metrics;
 use crate::reloaded::{Reader, Reloaded};
-use crate::tls::{Files, Shaken, Tls, WithoutCertificate};
+use crate::tls::{ClientChain, Files, Shaken, Tls, WithoutCertificate};
 use anyhow::Result;
 use std::fmt;
 use std::net::IpAddr;
@@ -47,15 +47,14 @@ impl Door {
 
     /// By whom the requests of a connection are, which may be behind a handshake, and comes from `peer`.
     pub fn who(&self, shaken: Option<&Shaken>, peer: Option<IpAddr>) -> Who {
-        let shown = shaken.and_then(Shaken::shown);
-        let by = match (&self.tls, shown, &self.tokens) {
-            (Some(tls), Some((chain, contexts)), tokens) => {
-                By::Certificate(Certified::new(chain, contexts, tls.clone(), tokens.clone()))
-            }
-            (_, None, Some(tokens)) => By::Token(tokens.clone()),
+        let chain = shaken.zip(self.tls.as_ref()).and_then(|(shaken, tls)| shaken.chain(tls));
+        let by = match (chain, &self.tls, &self.tokens) {
+            (Some(chain), _, tokens) => By::Certificate(Certified::new(chain, tokens.clone())),
+            (None, _, Some(tokens)) => By::Token(tokens.clone()),
             // No handshake ends so. If one did, nobody would be believed.
-            (Some(tls), None, None) if self.by_certificate => {
-                By::Certificate(Certified::new(Vec::new(), tls.contexts(), tls.clone(), None))
+            (None, Some(tls), None) if self.by_certificate => {
+                let chain = ClientChain::new(Vec::new(), tls.contexts(), tls.clone());
+                By::Certificate(Certified::new(chain, None))
             }
             _ => By::Believed,
         };

@@ -1,13 +1,11 @@
 //! Who the sender of a connection is, and of each of its requests.
 
 use super::{Sender, Stranger, Tokens};
-use crate::log::seconds;
 use crate::otlp::{self, NO_NAME};
 use crate::reloaded::Reloaded;
-use crate::tls::{Certificate, Contexts, Tls};
-use crate::work::locked;
+use crate::tls::ClientChain;
 use std::net::IpAddr;
-use std::sync::{Arc, Mutex};
+use std::sync::Arc;
 
 /// Who posts on a connection.
 pub struct Who {
@@ -121,68 +119,28 @@ fn bearer(value: &[u8]) -> Option<&[u8]> {
     (scheme.eq_ignore_ascii_case(SCHEME) && !token.is_empty()).then_some(token)
 }
 
-/// A sender by its certificate, which was believed when its connection began.
+/// A sender by its certificate.
 pub struct Certified {
-    chain: Vec<rustls::Certificate>,
+    chain: ClientChain,
     sender: Option<Arc<Sender>>,
-    tls: Arc<Tls>,
-    judged: Mutex<Judged>,
     tokens: Option<Arc<Reloaded<Tokens>>>,
 }
 
-/// Whether a chain was found to be believed, by what, and up to when.
-struct Judged {
-    by: Arc<Contexts>,
-    is_believed: bool,
-    /// Seconds since 1970 at which the next of its certificates ends.
-    until: i64,
-}
-
 impl Certified {
-    pub fn new(
-        chain: Vec<rustls::Certificate>,
-        believed_by: Arc<Contexts>,
-        tls: Arc<Tls>,
-        tokens: Option<Arc<Reloaded<Tokens>>>,
-    ) -> Certified {
-        let read = chain.first().and_then(|first| Certificate::read(&first.0));
-        let is_believed = read.is_some();
-        let name = read.and_then(|read| read.name).map(|name| otlp::legal(&name));
+    pub fn new(chain: ClientChain, tokens: Option<Arc<Reloaded<Tokens>>>) -> Certified {
+        let name = chain.name().map(|name| otlp::legal(&name));
         let sender = name.map(|name| Sender { name, others: Vec::new() });
-        let judged = Judged { by: believed_by, is_believed, until: next_end(&chain, now()) };
-        Certified { chain, sender: sender.map(Arc::new), tls, judged: Mutex::new(judged), tokens }
+        Certified { chain, sender: sender.map(Arc::new), tokens }
     }
 
     fn sender(&self) -> Result<Arc<Sender>, Stranger> {
-        if !self.is_believed() {
+        if !self.chain.is_believed() {
             return Err(Stranger::NotBelieved);
         }
         let sender = self.sender.as_ref().ok_or(Stranger::Nameless)?;
         let with_others = self.tokens.as_ref().and_then(|tokens| tokens.now().certified(&sender.name));
         Ok(with_others.unwrap_or_else(|| sender.clone()))
     }
-
-    /// Whether it still is: it or one between it and its root may have ended, and its root may have been taken out of the file
-    /// since. A chain is looked at once for each of that: it takes longer than a post, on the thread of others' posts.
-    fn is_believed(&self) -> bool {
-        let (now, contexts) = (now(), self.tls.contexts());
-        let mut judged = locked(&self.judged);
-        if now > judged.until || !Arc::ptr_eq(&judged.by, &contexts) {
-            let is_believed = contexts.believes(&self.chain);
-            *judged = Judged { by: contexts, is_believed, until: next_end(&self.chain, now) };
-        }
-        judged.is_believed
-    }
-}
-
-fn now() -> i64 {
-    seconds() as i64
-}
-
-/// When the first of these certificates ends that has not ended by now.
-fn next_end(chain: &[rustls::Certificate], now: i64) -> i64 {
-    let ends = chain.iter().filter_map(|shown| Some(Certificate::read(&shown.0)?.ends));
-    ends.filter(|end| *end >= now).min().unwrap_or(i64::MAX)
 }
 
 #[cfg(test)]
@@ -198,35 +156,15 @@ mod tests {
         let tls = tls(at.path(), Some(WithoutCertificate::Refused));
         let made = Made { name: "c", subject, names, by: Some("ca"), ..Made::default() };
         let chain = vec![rustls::Certificate(certificate(at.path(), made))];
-        Certified::new(chain, tls.contexts(), tls, None)
+        Certified::new(ClientChain::new(chain, tls.contexts(), tls), None)
     }
 
     /// The digits are those of `printf spiffe://d/shop | sha256sum`.
     #[test]
-    fn a_certificate_counts_until_it_ends() {
-        let mut uri = shown("/CN=x", Some("URI:spiffe://d/shop"));
+    fn a_certificate_names_its_sender() {
+        let uri = shown("/CN=x", Some("URI:spiffe://d/shop"));
         let name = "spiffe---d-shop.670deb13c283c1a0157c1bc0a623e9338a3f2cb6";
         assert_eq!(uri.sender().unwrap().name, name);
-        let days = |judged: &Judged| (judged.until - now()) / 86_400;
-        assert!((19..=20).contains(&days(uri.judged.get_mut().unwrap())));
-        // Since then one has ended between it and its root.
-        let first = std::mem::take(&mut uri.chain);
-        assert!(uri.sender().is_ok(), "it is not looked at for each post");
-        uri.judged.get_mut().unwrap().until = now() - 1;
-        assert_eq!(uri.sender(), Err(Stranger::NotBelieved));
-        let ends = Certificate::read(&first[0].0).unwrap().ends;
-        assert_eq!([next_end(&first, ends), next_end(&first, ends + 1)], [ends, i64::MAX]);
-    }
-
-    /// Else who was let in before posts on, and has its chain looked at for each post.
-    #[test]
-    fn a_certificate_is_judged_once_by_each_file() {
-        let (of, other) = (shown("/CN=x", None), shown("/CN=x", None));
-        let moved = Certified { tls: other.tls.clone(), ..of };
-        for _ in 0..2 {
-            assert_eq!(moved.sender(), Err(Stranger::NotBelieved), "another root of that name");
-            assert!(Arc::ptr_eq(&moved.judged.lock().unwrap().by, &other.tls.contexts()));
-        }
     }
 
     #[test]

@@ -8,7 +8,7 @@ use super::{Intake, Listener, Taker, Threads};
 use crate::identity::{Door, Who};
 use crate::latch::Latch;
 use crate::log::RateLimit;
-use crate::tls::{self, Tls};
+use crate::tls::{self, ClientChain, Tls};
 use hyper::server::conn::Http;
 use hyper::service::service_fn;
 use hyper::{Body, Request, Response};
@@ -266,7 +266,8 @@ pub async fn serve<L: Listener, H: Handler>(
     ended_in_time(accept(listener, permits, stop, begin).await).await;
 }
 
-/// The same over TLS, where there is some: each connection begins with a handshake, which has its place too.
+/// The same over TLS, where there is some, and clients show certificates: each connection begins with a handshake, which has
+/// its place too, and ends with what was shown.
 pub async fn serve_over<H: Handler>(
     listener: Arc<TcpListener>,
     tls: Option<Arc<Tls>>,
@@ -294,12 +295,12 @@ pub async fn serve_over<H: Handler>(
                 _ = stop.wait_true() => None, // nothing is owed to it
             };
             if let Some(shaken) = shaken {
-                let believed_by = shaken.contexts();
+                let chain = shaken.chain(&tls);
                 let (end, ended) = watch::channel(false);
                 let ends = async {
                     tokio::select! {
                         _ = stop.wait_true() => {}
-                        () = has_changed(&tls, &believed_by) => {}
+                        () = is_over(chain) => {}
                     }
                     end.send_replace(true);
                     std::future::pending().await
@@ -317,9 +318,9 @@ pub async fn serve_over<H: Handler>(
     ended_in_time(accept(listener, permits, stop.clone(), begin).await).await;
 }
 
-/// Waits until certificates are believed by other files: then who was let in by the former ones comes anew.
-async fn has_changed(tls: &Tls, believed_by: &Arc<tls::Contexts>) {
-    while Arc::ptr_eq(&tls.contexts(), believed_by) {
+/// Waits until the certificate that a client has shown expires, or is no longer trusted because the files have changed.
+async fn is_over(chain: Option<ClientChain>) {
+    while chain.as_ref().is_some_and(ClientChain::is_believed) {
         tokio::time::sleep(LOOK).await;
     }
 }

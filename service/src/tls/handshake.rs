@@ -1,7 +1,7 @@
 //! A handshake, within its time: who stalls holds up nobody who posts.
 
 use super::socket::Socket;
-use super::{Contexts, Protocol, Tls};
+use super::{ClientChain, Contexts, Protocol, Tls};
 use crate::log::RateLimit;
 use rustls::internal::msgs::enums::AlertDescription::{BadCertificate, CertificateUnknown, UnknownCA};
 use std::future::Future;
@@ -38,15 +38,10 @@ impl Shaken {
         Ok(self.stream)
     }
 
-    /// What it was believed by.
-    pub fn contexts(&self) -> Arc<Contexts> {
-        self.contexts.clone()
-    }
-
-    /// The certificates that the sender has shown, its own first, and what they were believed by.
-    pub fn shown(&self) -> Option<(Vec<rustls::Certificate>, Arc<Contexts>)> {
-        let chain = self.stream.get_ref().1.peer_certificates()?;
-        Some((chain.to_vec(), self.contexts.clone()))
+    /// The certificates that the client has shown: none where it may go without.
+    pub fn chain(&self, tls: &Arc<Tls>) -> Option<ClientChain> {
+        let shown = self.stream.get_ref().1.peer_certificates()?;
+        Some(ClientChain::new(shown.to_vec(), self.contexts.clone(), tls.clone()))
     }
 }
 

@@ -1,10 +1,11 @@
 //! TLS at the senders' addresses: 1.2 and 1.3, by files that are read anew when they change.
 //!
 //! `pair` is our certificate with its key, `certificate` (by `der`) what one says of its owner, `handshake` is done on a
-//! thread of its own, from which the `socket` goes to the thread that serves it. `senders` believes those that they show.
-//! `expiry` tells when ours ends. `peers` is the same between instances, where both sides show one.
+//! thread of its own, from which the `socket` goes to the thread that serves it. `senders` believes those that they show, and
+//! `chain` says later whether it still does. `expiry` tells when ours ends. `peers` is the same between instances, where both sides show one.
 
 mod certificate;
+mod chain;
 mod der;
 mod expiry;
 mod handshake;
@@ -13,15 +14,16 @@ mod peers;
 mod senders;
 mod socket;
 
-pub use certificate::Certificate;
+pub use chain::ClientChain;
 pub use handshake::{Shaken, Stream};
 
 use crate::intake::Threads;
 use crate::metrics::Metrics;
 use crate::reloaded::{Reader, Reading, Reloaded};
 use anyhow::Context;
+use certificate::Certificate;
 use pair::{certificates, Pair};
-use rustls::server::{ClientCertVerifier, NoClientAuth};
+use rustls::server::{ClientCertVerifier, NoClientAuth, NoServerSessionStorage};
 use rustls::{ClientConfig, RootCertStore, ServerConfig};
 use senders::Senders;
 use std::path::PathBuf;
@@ -176,6 +178,8 @@ fn config(
         .with_single_cert(pair.chain.clone(), pair.key.clone())
         .map_err(|error| format!("{} can't be used: {error}", named.certificate))?;
     config.alpn_protocols = vec![protocol.name().to_vec()];
+    // A resumed session keeps the certificates of its first handshake without verifying them again.
+    config.session_storage = Arc::new(NoServerSessionStorage {});
     Ok(config)
 }
 

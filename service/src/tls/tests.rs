@@ -54,6 +54,33 @@ pub fn certificate(at: &Path, made: Made) -> Vec<u8> {
     std::fs::read(at.join(format!("{name}.der"))).unwrap()
 }
 
+/// Of `openssl ca`, which alone says to the second when a certificate ends.
+const TO_THE_SECOND: &str =
+    "[ca]\ndefault_ca=d\n[d]\nnew_certs_dir=.\ndatabase=index\nrand_serial=yes\ndefault_md=sha256\n\
+    policy=p\n[p]\ncommonName=optional\n";
+
+/// Makes NAME.pem and NAME.key for localhost, signed by `ca` of the folder, which end after so many seconds.
+pub fn certificate_for(at: &Path, name: &str, seconds: u64) -> Vec<u8> {
+    std::fs::write(at.join("to-the-second"), TO_THE_SECOND).unwrap();
+    std::fs::write(at.join("names"), "subjectAltName=DNS:localhost\nbasicConstraints=CA:FALSE\n").unwrap();
+    std::fs::write(at.join("index"), "").unwrap();
+    let ends = format!("{seconds} seconds");
+    let ends = Command::new("date").args(["-u", "-d", &ends, "+%Y%m%d%H%M%SZ"]).output().unwrap().stdout;
+    let ends = String::from_utf8(ends).unwrap();
+    let key = Made::default().key;
+    openssl(at, &format!("req -newkey {key} -nodes -keyout {name}.key -out {name}.csr -subj /CN={name}"));
+    openssl(
+        at,
+        &format!(
+            "ca -batch -notext -config to-the-second -cert ca.pem -keyfile ca.key -extfile names \
+             -startdate 20200101000000Z -enddate {} -in {name}.csr -out {name}.pem",
+            ends.trim()
+        ),
+    );
+    openssl(at, &format!("x509 -in {name}.pem -outform DER -out {name}.der"));
+    std::fs::read(at.join(format!("{name}.der"))).unwrap()
+}
+
 /// The same in PEM, and its key.
 pub fn pem(at: &Path, made: Made) -> (Vec<u8>, Vec<u8>) {
     let name = made.name;

@@ -3,6 +3,7 @@
 use std::path::Path;
 use std::process::{Command, Stdio};
 use std::sync::Arc;
+use std::time::Duration;
 use totxegun::identity::Door;
 use totxegun::metrics::Metrics;
 use totxegun::tls::{Files, Named};
@@ -43,6 +44,26 @@ pub fn signed(at: &Path, root: &str, name: &str, days: &str) {
     openssl(at, &[&words[..], &["-extfile", "names", "-days", days, "-out", &chain]].concat());
 }
 
+/// Of `openssl ca`, which alone says to the second when a certificate ends.
+const TO_THE_SECOND: &str =
+    "[ca]\ndefault_ca=d\n[d]\nnew_certs_dir=.\ndatabase=index\nrand_serial=yes\ndefault_md=sha256\n\
+    policy=p\n[p]\ncommonName=optional\n";
+
+/// NAME.pem and NAME.key, signed by a root, for so many seconds from now.
+pub fn signed_for(at: &Path, root: &str, name: &str, time: Duration) {
+    signed(at, root, name, "20");
+    std::fs::write(at.join("to-the-second"), TO_THE_SECOND).unwrap();
+    std::fs::write(at.join("index"), "").unwrap();
+    let ends = format!("{} seconds", time.as_secs());
+    let ends = Command::new("date").args(["-u", "-d", &ends, "+%Y%m%d%H%M%SZ"]).output().unwrap().stdout;
+    let ends = String::from_utf8(ends).unwrap();
+    let (by, by_key) = (format!("{root}.pem"), format!("{root}.key"));
+    let (asked, chain) = (format!("{name}.csr"), format!("{name}.pem"));
+    let words = ["ca", "-batch", "-notext", "-config", "to-the-second", "-cert", &by, "-keyfile", &by_key];
+    let times = ["-startdate", "20200101000000Z", "-enddate", ends.trim()];
+    openssl(at, &[&words[..], &times, &["-extfile", "names", "-in", &asked, "-out", &chain]].concat());
+}
+
 /// A folder with the root `ca` and the certificate `localhost`.
 pub fn folder() -> tempfile::TempDir {
     let at = tempfile::tempdir().unwrap();
@@ -72,9 +93,21 @@ fn chain(at: &Path, name: &str) -> Vec<rustls::Certificate> {
 
 /// A client that believes a root, and may show a certificate.
 pub fn client(at: &Path, root: &str, shown: Option<&str>) -> rustls::ClientConfig {
+    client_of(rustls::DEFAULT_VERSIONS, at, root, shown)
+}
+
+/// The same that speaks some versions of TLS alone.
+pub fn client_of(
+    versions: &[&'static rustls::SupportedProtocolVersion],
+    at: &Path,
+    root: &str,
+    shown: Option<&str>,
+) -> rustls::ClientConfig {
     let mut roots = rustls::RootCertStore::empty();
     roots.add(&chain(at, root)[0]).unwrap();
-    let config = rustls::ClientConfig::builder().with_safe_defaults().with_root_certificates(roots);
+    let config =
+        rustls::ClientConfig::builder().with_safe_default_cipher_suites().with_safe_default_kx_groups();
+    let config = config.with_protocol_versions(versions).unwrap().with_root_certificates(roots);
     let Some(shown) = shown else {
         return config.with_no_client_auth();
     };

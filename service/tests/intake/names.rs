@@ -1,8 +1,9 @@
 //! Who a sender is: by its certificate, by its token, and what it may call itself.
 
-use crate::certificates::{client, door, folder, root, root_that_says, signed};
+use crate::certificates::{client, client_of, door, folder, root, root_that_says, signed, signed_for};
 use crate::support::{post, Answer, Client, Served, BODY};
 use std::path::Path;
+use std::sync::Arc;
 use std::time::{Duration, Instant};
 use tokio::io::{AsyncRead, AsyncWrite};
 
@@ -187,6 +188,29 @@ async fn certificates_of_strangers_end_the_handshake() {
         assert_eq!(is_taken, wanted, "{shown:?}");
     }
     assert_eq!(senders(&served), ["sound"]);
+}
+
+/// A session that is resumed shows no certificate, and has the name that the first handshake proved.
+#[tokio::test]
+async fn a_certificate_that_has_ended_posts_no_more_by_an_earlier_session() {
+    let at = folder();
+    let served = Served::behind(door(at.path(), Some("ca.pem"), None)).await;
+    let short = Duration::from_secs(4);
+    signed_for(at.path(), "ca", "short", short);
+    let made = Instant::now();
+    let versions = [&rustls::version::TLS12, &rustls::version::TLS13];
+    let clients = versions.map(|version| Arc::new(client_of(&[version], at.path(), "ca", Some("short"))));
+    let taken = async |client: &Arc<rustls::ClientConfig>| match served.secure(client.clone()).await {
+        Err(_) => false,
+        Ok(mut client) => client.takes(&post("Content-Type: application/json\r\n", BODY.as_bytes())).await,
+    };
+    for client in &clients {
+        assert!(taken(client).await && taken(client).await, "until it ends");
+    }
+    tokio::time::sleep((short + Duration::from_secs(1)).saturating_sub(made.elapsed())).await;
+    for (client, version) in clients.iter().zip(versions) {
+        assert!(!taken(client).await, "{version:?}");
+    }
 }
 
 /// Else all ways through thirty of one name are tried, on the one thread of handshakes, and nobody gets in any more.

@@ -15,14 +15,18 @@ use totxegun::otlp::Outcome;
 pub type Secure = Client<TlsStream<TcpStream>>;
 
 impl Served {
-    pub async fn secure(&self, config: rustls::ClientConfig) -> std::io::Result<Secure> {
+    pub async fn secure(&self, config: impl Into<Arc<rustls::ClientConfig>>) -> std::io::Result<Secure> {
         self.secure_to("localhost", config).await
     }
 
     /// A connection to who shows a certificate for this name.
-    async fn secure_to(&self, name: &str, config: rustls::ClientConfig) -> std::io::Result<Secure> {
+    async fn secure_to(
+        &self,
+        name: &str,
+        config: impl Into<Arc<rustls::ClientConfig>>,
+    ) -> std::io::Result<Secure> {
         let stream = TcpStream::connect(self.address).await?;
-        let connector = TlsConnector::from(Arc::new(config));
+        let connector = TlsConnector::from(config.into());
         let stream = connector.connect(name.try_into().unwrap(), stream).await?;
         let read = Vec::new();
         Ok(Client { stream, read })

@@ -96,3 +96,24 @@ async fn files_that_change_count_for_connections_that_are_kept() {
     }
     within(Outcome::taken(0)).await;
 }
+
+/// A connection that is kept is made by nobody anew: so it would last for as long as posts come.
+#[tokio::test(flavor = "multi_thread", worker_threads = 2)]
+async fn a_connection_that_is_kept_ends_with_its_certificate() {
+    let at = peers_folder();
+    let peer = |name: &str| {
+        tokio::task::block_in_place(|| crate::tls::peer_tests::peer(at.path(), name, "ca").unwrap())
+    };
+    let (port, _, _stop) = over_tls(peer("server")).await;
+    crate::tls::tests::certificate_for(at.path(), "short", 4);
+    let made = Instant::now();
+    let forward = asks_over(Some(peer("short")), port, "of all");
+    while made.elapsed() < Duration::from_secs(3) {
+        assert_eq!(posted(&forward, "{}").await, Outcome::taken(0));
+        sleep(Duration::from_millis(50)).await;
+    }
+    while posted(&forward, "{}").await != unavailable(BROKEN) {
+        assert!(made.elapsed() < Duration::from_secs(8), "it goes on behind its end");
+        sleep(Duration::from_millis(50)).await;
+    }
+}
