@@ -103,9 +103,10 @@ def make_machines(stack: contextlib.ExitStack) -> list[str]:
 def commands(folder: str, program: str) -> str:
     """Those of the page, for a shell: with other folders, and no unit that is started anew."""
     with open(PAGE, encoding="utf-8") as file:
-        block = re.search(r"^```\n(# cd /var/lib/private/totxegun.*?)^```$", file.read(), re.DOTALL | re.MULTILINE)[1]
+        block = re.search(r"^```\n(# umask 077; mkdir -p /root/totxegun-ca.*?)^```$", file.read(), re.DOTALL | re.MULTILINE)[1]
     text = re.sub(r"^# ", "", block, flags=re.MULTILINE)
-    for old, new in (("/var/lib/private/totxegun", f"{folder}/data"), ("/var/lib/totxegun", f"{folder}/data"),
+    for old, new in (("/root/totxegun-ca", f"{folder}/ca"), ("/var/lib/private/totxegun", f"{folder}/data"),
+                     ("/var/lib/totxegun", f"{folder}/data"),
                      ("/etc/totxegun/totxegun.env", f"{folder}/totxegun.env"), ("systemctl restart totxegun\n", ""),
                      ("totxegun token", f"{program} token"), ("localhost", NAME)):
         if old not in text:
@@ -192,10 +193,11 @@ def post_by_java(checks: Checks, folder: str, at: str, machine: str, token: str 
 
 def run(checks: Checks, totxegun: str, seconds: float, folder: str, stack: contextlib.ExitStack) -> None:
     gateway, shop = make_machines(stack)
-    data, at = f"{folder}/data", f"{folder}/data/tls"
+    data, at = f"{folder}/data", f"{folder}/ca"
     os.mkdir(data)
     made = subprocess.run(["bash", "-e"], input=commands(folder, totxegun), capture_output=True, text=True, timeout=60, check=False)
     checks.same("the page's commands are done", 0, made.returncode)
+    checks.same("what the service may read", sorted(["ca.pem", f"{NAME}.crt", f"{NAME}.key", "tokens"]), sorted(os.listdir(f"{data}/tls")))
     token = next((line for line in made.stderr.splitlines() if re.fullmatch(r"[\w-]{43}", line)), None)
     checks.true("one of them shows a token", token, made.stderr[-800:])
     with open(f"{folder}/log", "wb") as log:
