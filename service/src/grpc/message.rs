@@ -20,7 +20,7 @@ pub async fn receive(body: &mut Body, hold: &mut Hold) -> Result<Message, Refusa
     let mut first: Option<Bytes> = None;
     let mut arrival = Arrival::of(hold);
     while let Some(part) = arrival.next(body.data()).await? {
-        let part = part.map_err(|_| Refusal::Malformed)?;
+        let part = part.map_err(|_| Refusal::Gone)?; // the call was given up, or its connection has ended
         let have = first.as_ref().map_or(whole.len(), Bytes::len) + part.len();
         arrival.has(have)?;
         match first.take() {

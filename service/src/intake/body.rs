@@ -207,7 +207,7 @@ pub(super) mod tests {
         let most = 64 << 20;
         assert_eq!(received(Framing::Length(2), &[b"a", b"b"], most).await, Ok(Bytes::from_static(b"ab")));
         assert_eq!(received(Framing::Length(0), &[], most).await, Ok(Bytes::new()));
-        assert_eq!(received(Framing::Length(2), &[b"a"], most).await, Err(400));
+        assert_eq!(received(Framing::Length(2), &[b"a"], most).await, Err(503));
         assert_eq!(received(Framing::Length(MOST as u64 + 1), &[], most).await, Err(413));
         assert_eq!(received(Framing::Length(100), &[&[0; 100]], 100).await, Err(413));
         let long = vec![7; MOST];
@@ -226,7 +226,7 @@ pub(super) mod tests {
         let bytes: Vec<&[u8]> = chunks.chunks(1).collect();
         assert_eq!(received(Framing::Line, &bytes, most).await, expected);
         for cut in 0..chunks.len() {
-            assert_eq!(received(Framing::Line, &[&chunks[..cut]], most).await, Err(400), "{cut}");
+            assert_eq!(received(Framing::Line, &[&chunks[..cut]], most).await, Err(503), "{cut}");
         }
         for wrong in [
             &b"x\r\n"[..],

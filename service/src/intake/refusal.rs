@@ -41,6 +41,10 @@ pub enum Refusal {
     /// Its framing is wrong, or its connection ended within it.
     #[error("malformed request")]
     Malformed,
+    /// Its connection ended, or its sender gave it up, before it had come whole. Nothing was taken, and a sender that still
+    /// reads is to send it again.
+    #[error("the sender has gone away")]
+    Gone,
     /// Its end is too far away, or it says too much.
     #[error("head too long: over {READ_AHEAD} bytes or {HEADERS} fields")]
     HeadTooLong,
@@ -87,6 +91,7 @@ impl Refusal {
             Refusal::HeadTooLong => 431,
             Refusal::Deadline => DEADLINE,
             Refusal::Late
+            | Refusal::Gone
             | Refusal::Full(Full::Now)
             | Refusal::Slow
             | Refusal::NoMemory
@@ -96,7 +101,10 @@ impl Refusal {
 
     /// Whether more of the body may come: it is read and thrown away, so that the sender can read its answer.
     pub fn leaves_a_body(&self) -> bool {
-        !matches!(self, Refusal::Late | Refusal::Deadline | Refusal::Malformed | Refusal::HeadTooLong)
+        !matches!(
+            self,
+            Refusal::Late | Refusal::Deadline | Refusal::Malformed | Refusal::Gone | Refusal::HeadTooLong
+        )
     }
 }
 

@@ -180,7 +180,7 @@ impl<S: AsyncRead + AsyncWrite + Unpin> Wire<S> {
 
     async fn some_more(&mut self) -> Result<(), Refusal> {
         match self.fill().await? {
-            0 => Err(Refusal::Malformed),
+            0 => Err(Refusal::Gone),
             _ => Ok(()),
         }
     }
@@ -226,7 +226,7 @@ fn is_size_line(line: &[u8]) -> bool {
 impl From<io::Error> for Refusal {
     /// A connection that fails within a request is one that ends there.
     fn from(_: io::Error) -> Refusal {
-        Refusal::Malformed
+        Refusal::Gone
     }
 }
 

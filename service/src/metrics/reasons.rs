@@ -7,7 +7,7 @@ use crate::otlp::Outcome;
 const UNREADABLE: &str = "unreadable";
 
 /// What an answer's text begins with, and what is to be done.
-const REASONS: [(&str, &str); 41] = [
+const REASONS: [(&str, &str); 42] = [
     (
         "out of order",
         "right for a repeat: it was taken before. If each post of a sender gets it, its clock was set back, or it sends a series twice",
@@ -73,7 +73,11 @@ const REASONS: [(&str, &str); 41] = [
     ),
     (
         "malformed request",
-        "what came is no request of HTTP, or its connection ended within it",
+        "what came is no request of HTTP, or of gRPC",
+    ),
+    (
+        "the sender has gone away",
+        "nothing is lost: a sender repeats what it gave up. If this stays, its timeout is short, or the network breaks off",
     ),
     ("head too long", "the sender has too many headers"),
     ("bad gzip", "the sender says gzip, and packs otherwise"),
@@ -209,6 +213,7 @@ mod tests {
             Refusal::Late,
             Refusal::Deadline,
             Refusal::Malformed,
+            Refusal::Gone,
             Refusal::HeadTooLong,
             Refusal::BadGzip,
             Refusal::TooLong,

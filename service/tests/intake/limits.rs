@@ -1,7 +1,7 @@
 //! Bytes, times and connections that are bounded, and the end.
 
 use crate::support::{gzip, json, post, Served, BODY, LATE, PATIENCE};
-use std::time::Instant;
+use std::time::{Duration, Instant};
 use tokio::io::AsyncWriteExt;
 use tokio::net::TcpStream;
 use totxegun::otlp::Outcome;
@@ -75,9 +75,36 @@ async fn a_cut_body_is_no_post() {
     half.write(b"POST /v1/metrics HTTP/1.1\r\nHost: a\r\nContent-Type: application/json\r\nContent-Length: 9\r\n\r\n{}")
         .await;
     half.stream.shutdown().await.unwrap();
-    assert_eq!(half.answer().await.status, 400);
+    let answer = half.answer().await;
+    assert_eq!((answer.status, answer.message().as_str()), (503, "the sender has gone away"));
     assert!(served.bodies().is_empty());
     assert_eq!(served.budget.used(), 0);
+}
+
+/// It repeats the post: so nothing of it is lost, and nobody has to do anything.
+#[tokio::test]
+async fn a_sender_that_goes_away_within_a_body_is_no_malformed_request() {
+    let served = Served::start().await;
+    let chunked = "POST /v1/metrics HTTP/1.1\r\nHost: a\r\nContent-Type: application/json\r\n\
+                   Transfer-Encoding: chunked\r\n\r\n2\r\n{";
+    for begun in [&json(BODY.as_bytes())[..90], chunked.as_bytes()] {
+        for is_reset in [false, true] {
+            let mut client = served.client().await;
+            client.write(begun).await;
+            tokio::time::sleep(LATE / 8).await;
+            if is_reset {
+                client.stream.set_linger(Some(Duration::ZERO)).unwrap();
+            }
+        }
+    }
+    let counted = "totxegun_posts_total{reason=\"the sender has gone away\",status=\"503\"} 4";
+    let begun = Instant::now();
+    let page = || String::from_utf8(served.metrics.page()).unwrap();
+    while !page().lines().any(|line| line == counted) {
+        assert!(begun.elapsed() < PATIENCE, "{}", page());
+        tokio::time::sleep(LATE / 8).await;
+    }
+    assert!(!page().contains("malformed request"), "{}", page());
 }
 
 #[tokio::test]
