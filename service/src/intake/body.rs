@@ -6,7 +6,7 @@ use super::refusal::Refusal;
 use super::weight::Hold;
 use super::wire::Wire;
 use bytes::Bytes;
-use flate2::bufread::MultiGzDecoder;
+use flate2::bufread::GzDecoder;
 use std::io::Read;
 use std::time::Duration;
 use tokio::io::{AsyncRead, AsyncWrite};
@@ -69,6 +69,10 @@ pub async fn throw_away<S: AsyncRead + AsyncWrite + Unpin>(wire: &mut Wire<S>) {
     let _ = tokio::time::timeout(LEFT_TIME, reading).await; // who takes longer loses the answer
 }
 
+/// How many gzip members a body may have (RFC 1952, 2.2). Even an empty one costs some microseconds. A packer that makes a
+/// member of each 64 KiB makes 65 of the longest body.
+pub const MAX_MEMBERS: usize = 100;
+
 /// How gzip begins, and neither JSON nor a message of protobuf.
 const GZIP: &[u8] = &[0x1f, 0x8b];
 
@@ -91,15 +95,26 @@ fn unpacked(packed: &[u8], most: usize, hold: &mut Hold) -> Result<Bytes, Refusa
     Ok(plain.into())
 }
 
-fn gunzip(packed: &[u8], most: usize) -> Result<Vec<u8>, Refusal> {
+fn gunzip(mut packed: &[u8], most: usize) -> Result<Vec<u8>, Refusal> {
     let mut plain = Vec::with_capacity((4 * packed.len()).clamp(1024, most));
-    let mut reader = MultiGzDecoder::new(packed);
+    for _ in 0..MAX_MEMBERS {
+        gunzip_member(&mut packed, &mut plain, most)?;
+        if packed.is_empty() {
+            return Ok(plain);
+        }
+    }
+    Err(Refusal::TooManyMembers)
+}
+
+/// Unpacks the first member, behind what earlier ones gave, and leaves the rest.
+fn gunzip_member(packed: &mut &[u8], plain: &mut Vec<u8>, most: usize) -> Result<(), Refusal> {
+    let mut reader = GzDecoder::new(packed);
     loop {
         let room = plain.capacity().min(most) - plain.len();
         let mut part = reader.by_ref().take(room as u64);
-        let read = part.read_to_end(&mut plain).map_err(|_| Refusal::BadGzip)?;
+        let read = part.read_to_end(plain).map_err(|_| Refusal::BadGzip)?;
         if read < room {
-            return Ok(plain);
+            return Ok(());
         }
         if plain.len() == most {
             break;
@@ -107,7 +122,7 @@ fn gunzip(packed: &[u8], most: usize) -> Result<Vec<u8>, Refusal> {
         plain.reserve_exact(plain.capacity().min(most - plain.len())); // never over `most`
     }
     match reader.read(&mut [0]) {
-        Ok(0) => Ok(plain),
+        Ok(0) => Ok(()),
         Ok(_) => Err(Refusal::TooLong),
         Err(_) => Err(Refusal::BadGzip),
     }
@@ -163,6 +178,17 @@ pub(super) mod tests {
     fn two_packed_parts_are_one_body() {
         let both = [gzip(b"[1,"), gzip(b"2]")].concat();
         assert_eq!(read(both.into(), 64 << 20), Ok(Bytes::from_static(b"[1,2]")));
+    }
+
+    /// Otherwise two megabytes of empty members would take a reader for a second.
+    #[test]
+    fn too_many_gzip_members_are_refused_at_once() {
+        let parts = |count: usize| read(gzip(b"ab").repeat(count).into(), 64 << 20);
+        assert_eq!(parts(MAX_MEMBERS), Ok(b"ab".repeat(MAX_MEMBERS).into()));
+        assert_eq!(parts(MAX_MEMBERS + 1), Err(400));
+        let begun = std::time::Instant::now();
+        assert_eq!(read(gzip(b"").repeat(100_000).into(), 64 << 20), Err(400));
+        assert!(begun.elapsed() < Duration::from_millis(200), "{:?}", begun.elapsed());
     }
 
     #[test]

@@ -21,6 +21,7 @@ mod weight;
 mod wire;
 
 pub(crate) use arrival::Arrival;
+use body::MAX_MEMBERS;
 pub(crate) use body::{LEFT_BYTES, LEFT_TIME, MOST};
 pub use connections::Limits;
 pub use listen::{listen, listen_at_socket, Listener};

@@ -2,7 +2,7 @@
 
 pub use super::weight::Full;
 use super::wire::{HEADERS, READ_AHEAD};
-use super::MOST;
+use super::{MAX_MEMBERS, MOST};
 use crate::core;
 use crate::identity::Stranger;
 use crate::otlp::{Outcome, Refused};
@@ -38,7 +38,7 @@ pub enum Refusal {
     /// Of gRPC: the call is over, and its post may be taken.
     #[error("the deadline has passed")]
     Deadline,
-    /// Its framing is wrong, or its connection ended within it.
+    /// Its framing is wrong.
     #[error("malformed request")]
     Malformed,
     /// Its connection ended, or its sender gave it up, before it had come whole. Nothing was taken, and a sender that still
@@ -50,6 +50,8 @@ pub enum Refusal {
     HeadTooLong,
     #[error("bad gzip")]
     BadGzip,
+    #[error("bad gzip: over {MAX_MEMBERS} members: pack the body as one")]
+    TooManyMembers,
     #[error("body too long: over {MOST} bytes, packed or unpacked: post fewer points at a time")]
     TooLong,
     /// All posts together may not have the memory that it takes to read it.
@@ -86,7 +88,11 @@ impl Refusal {
             Refusal::WrongMethod => 405,
             Refusal::ContentType | Refusal::ContentEncoding => 415,
             Refusal::NoLength => 411,
-            Refusal::BadSender | Refusal::Malformed | Refusal::BadGzip | Refusal::Unreadable(_) => 400,
+            Refusal::BadSender
+            | Refusal::Malformed
+            | Refusal::BadGzip
+            | Refusal::TooManyMembers
+            | Refusal::Unreadable(_) => 400,
             Refusal::TooLong | Refusal::Full(Full::Ever) | Refusal::LongSeries => 413,
             Refusal::HeadTooLong => 431,
             Refusal::Deadline => DEADLINE,
