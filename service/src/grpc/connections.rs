@@ -4,6 +4,7 @@ use super::answer;
 use super::guard::Guarded;
 use crate::identity::Who;
 use crate::intake::connections::{Protocol, Shared, Transport};
+use crate::intake::permits::ConnectionPermit;
 use crate::intake::Taker;
 use crate::latch::Latch;
 use crate::tls;
@@ -27,16 +28,20 @@ const TO_ANSWER: Duration = Duration::from_secs(20);
 /// How long a client that was told that the connection ends has to end it.
 const TO_END: Duration = Duration::from_secs(5);
 
-/// How many calls are under way, and when the last one ended.
-struct Calls(Mutex<(usize, Instant)>);
+/// How many calls are under way, and when the last one ended; and the permit of their connection, which idles meanwhile.
+struct Calls {
+    state: Mutex<(usize, Instant)>,
+    permit: Arc<ConnectionPermit>,
+}
 
 impl Calls {
-    fn new() -> Arc<Calls> {
-        Arc::new(Calls(Mutex::new((0, Instant::now()))))
+    fn new(permit: Arc<ConnectionPermit>) -> Arc<Calls> {
+        permit.mark_idle();
+        Arc::new(Calls { state: Mutex::new((0, Instant::now())), permit })
     }
 
     fn with<T>(&self, change: impl FnOnce(&mut (usize, Instant)) -> T) -> T {
-        change(&mut locked(&self.0))
+        change(&mut locked(&self.state))
     }
 
     fn idle(&self) -> Duration {
@@ -49,14 +54,22 @@ struct Call(Arc<Calls>);
 
 impl Call {
     fn begin(calls: &Arc<Calls>) -> Call {
-        calls.with(|(calls, _)| *calls += 1);
+        calls.with(|all| {
+            all.0 += 1;
+            calls.permit.mark_busy();
+        });
         Call(calls.clone())
     }
 }
 
 impl Drop for Call {
     fn drop(&mut self) {
-        self.0.with(|all| *all = (all.0 - 1, Instant::now()));
+        self.0.with(|all| {
+            *all = (all.0 - 1, Instant::now());
+            if all.0 == 0 {
+                self.0.permit.mark_idle();
+            }
+        });
     }
 }
 
@@ -79,10 +92,15 @@ pub struct Grpc;
 impl Protocol for Grpc {
     const OVER_TLS: tls::Protocol = tls::Protocol::Grpc;
 
-    async fn connection<S: Transport, T: Taker>(stream: S, shared: Arc<Shared<T>>, who: Who) {
+    async fn connection<S: Transport, T: Taker>(
+        stream: S,
+        shared: Arc<Shared<T>>,
+        who: Who,
+        permit: Arc<ConnectionPermit>,
+    ) {
         let Shared { limits, permits, .. } = &*shared;
         let (intake, mut stop, who) = (shared.intake.clone(), shared.stop.clone(), Arc::new(who));
-        let calls = Calls::new();
+        let calls = Calls::new(permit.clone());
         let of_calls = calls.clone();
         let service = service_fn(move |request| {
             let (intake, who, call) = (intake.clone(), who.clone(), Call::begin(&of_calls));
@@ -103,10 +121,13 @@ impl Protocol for Grpc {
                     ending = Some(Instant::now());
                     std::pin::Pin::new(&mut served).graceful_shutdown();
                 }
+                () = permit.evicted(), if ending.is_none() => {
+                    ending = Some(Instant::now());
+                    std::pin::Pin::new(&mut served).graceful_shutdown();
+                }
                 _ = tokio::time::sleep(look) => match ending {
                     Some(since) if since.elapsed() >= TO_END && calls.idle() >= TO_END => return,
-                    // Sooner while others wait for its place.
-                    None if calls.idle() >= limits.idle || permits.is_full() && calls.idle() >= look => {
+                    None if calls.idle() >= limits.idle || permits.has_to_close() => {
                         ending = Some(Instant::now());
                         std::pin::Pin::new(&mut served).graceful_shutdown();
                     }

@@ -1,7 +1,8 @@
-//! How connections of an address are accepted, in a bounded number; and those of the operators' address: each serves many
-//! requests, slow and idle ones are closed, and these at once where others wait. The senders' are in `front`.
+//! How connections of an address are accepted, in a bounded number (`permits`); and those of the operators' address: each serves
+//! many requests, slow and idle ones are closed, and these at once where others wait. The senders' are in `front`.
 
 use super::pace::{Overdue, Pace, Watched};
+use super::permits::{ConnectionPermit, ConnectionPermits};
 use super::user::User;
 use super::wire::READ_AHEAD;
 use super::{Intake, Listener, Taker, Threads};
@@ -15,12 +16,12 @@ use hyper::{Body, Request, Response};
 use std::convert::Infallible;
 use std::future::{poll_fn, Future};
 use std::net::IpAddr;
-use std::sync::atomic::{AtomicBool, Ordering::Relaxed};
+use std::pin::pin;
 use std::sync::Arc;
 use std::time::Duration;
 use tokio::io::{AsyncRead, AsyncWrite, AsyncWriteExt};
 use tokio::net::{TcpListener, TcpStream};
-use tokio::sync::{watch, OwnedSemaphorePermit, Semaphore};
+use tokio::sync::watch;
 use tokio::task::JoinSet;
 
 /// How long to wait where the system has no connection to give, for want of file descriptors.
@@ -55,63 +56,20 @@ pub struct Limits {
     pub idle: Duration,
 }
 
-/// The places of an address's connections.
-pub(crate) struct ConnectionPermits {
-    places: Arc<Semaphore>,
-    most: usize,
-    is_full: AtomicBool,
-    was_full: AtomicBool,
-}
-
-/// A connection's place, until it is dropped.
-type Held = Option<OwnedSemaphorePermit>;
-
-impl ConnectionPermits {
-    pub fn new(most: usize) -> Arc<ConnectionPermits> {
-        Arc::new(ConnectionPermits {
-            places: Arc::new(Semaphore::new(most)),
-            most,
-            is_full: AtomicBool::new(false),
-            was_full: AtomicBool::new(false),
-        })
-    }
-
-    /// Whether somebody may wait for a place. Who has one and does not need it now leaves it then.
-    pub fn is_full(&self) -> bool {
-        self.is_full.load(Relaxed)
-    }
-
-    async fn place(&self, listener: &impl Listener) -> Held {
-        let free = self.places.clone().try_acquire_owned();
-        self.is_full.store(free.is_err(), Relaxed);
-        if let Ok(place) = free {
-            return Some(place);
-        }
-        if !self.was_full.swap(true, Relaxed) {
-            let (most, address) = (self.most, listener.shown());
-            tracing::warn!(
-                address,
-                connections = most,
-                "all {most} connections are taken that {address} may have: further ones wait"
-            );
-        }
-        let place = self.places.clone().acquire_owned().await.ok(); // it is never closed
-        self.is_full.store(false, Relaxed);
-        place
-    }
-
-    async fn accepted<L: Listener>(&self, listener: &L) -> (L::Stream, Held) {
-        let place = self.place(listener).await;
-        loop {
-            match listener.accepted().await {
-                Ok(stream) => return (stream, place),
-                Err(error) => {
-                    if TOLD.is_due() {
-                        let reason = error.to_string();
-                        tracing::warn!(reason, "no connection could be accepted: {reason}");
-                    }
-                    tokio::time::sleep(NO_CONNECTION).await;
+/// Accepts the next connection, and then waits for its permit: so it is known whether a client waits for one.
+async fn accepted<L: Listener>(
+    permits: &ConnectionPermits,
+    listener: &L,
+) -> (L::Stream, Arc<ConnectionPermit>) {
+    loop {
+        match listener.accepted().await {
+            Ok(stream) => return (stream, permits.acquire(listener).await),
+            Err(error) => {
+                if TOLD.is_due() {
+                    let reason = error.to_string();
+                    tracing::warn!(reason, "no connection could be accepted: {reason}");
                 }
+                tokio::time::sleep(NO_CONNECTION).await;
             }
         }
     }
@@ -123,14 +81,18 @@ async fn accept<L: Listener>(
     listener: Arc<L>,
     permits: Arc<ConnectionPermits>,
     mut stop: watch::Receiver<bool>,
-    begin: impl Fn(&mut JoinSet<()>, L::Stream, Held),
+    begin: impl Fn(&mut JoinSet<()>, L::Stream, Arc<ConnectionPermit>),
 ) -> JoinSet<()> {
     let mut open = JoinSet::new();
+    let mut next = pin!(accepted(&permits, &*listener));
     loop {
         tokio::select! {
             _ = stop.wait_true() => break,
             Some(_) = open.join_next(), if !open.is_empty() => {}
-            (stream, held) = permits.accepted(&*listener) => begin(&mut open, stream, held),
+            (stream, permit) = &mut next => {
+                begin(&mut open, stream, permit);
+                next.set(accepted(&permits, &*listener));
+            }
         }
     }
     open
@@ -162,6 +124,7 @@ pub trait Protocol: 'static {
         stream: S,
         shared: Arc<Shared<T>>,
         who: Who,
+        permit: Arc<ConnectionPermit>,
     ) -> impl Future<Output = ()> + Send;
 }
 
@@ -193,7 +156,7 @@ pub async fn spread<P: Protocol, T: Taker>(
     threads: Arc<Threads>,
 ) {
     let (permits, stop) = (shared.permits.clone(), shared.stop.clone());
-    let begin = |open: &mut JoinSet<()>, stream: TcpStream, held: Held| {
+    let begin = |open: &mut JoinSet<()>, stream: TcpStream, permit: Arc<ConnectionPermit>| {
         // Its thread's runtime takes it over from this one.
         let peer = stream.peer_addr().ok().map(|peer| peer.ip());
         let Ok(stream) = stream.into_std() else { return };
@@ -201,16 +164,16 @@ pub async fn spread<P: Protocol, T: Taker>(
         match shared.door.tls.clone() {
             Some(tls) => {
                 let runtime = tls.runtime();
-                open.spawn_on(over_tls::<P, T>(stream, peer, shared, threads, tls, held), &runtime);
+                open.spawn_on(over_tls::<P, T>(stream, peer, shared, threads, tls, permit), &runtime);
             }
             None => {
-                let (thread, place) = threads.place();
+                let (thread, turn) = threads.place();
                 let serving = async move {
                     if let Ok(stream) = TcpStream::from_std(stream) {
                         let who = shared.door.who(None, peer);
-                        P::connection(stream, shared, who).await;
+                        P::connection(stream, shared, who, permit).await;
                     }
-                    drop((held, place));
+                    drop(turn);
                 };
                 open.spawn_on(serving, &thread);
             }
@@ -226,21 +189,21 @@ async fn over_tls<P: Protocol, T: Taker>(
     shared: Arc<Shared<T>>,
     threads: Arc<Threads>,
     tls: Arc<Tls>,
-    held: Held,
+    permit: Arc<ConnectionPermit>,
 ) {
     let mut stop = shared.stop.clone();
     let shaken = tokio::select! {
-        shaken = tls.handshake(stream, P::OVER_TLS, || shared.permits.is_full()) => shaken,
+        shaken = tls.handshake(stream, P::OVER_TLS, || shared.permits.has_waiter()) => shaken,
         _ = stop.wait_true() => None, // nothing is owed to it
     };
     let Some(shaken) = shaken else { return };
-    let (thread, place) = threads.place();
+    let (thread, turn) = threads.place();
     let serving = thread.spawn(async move {
         let who = shared.door.who(Some(&shaken), peer);
         if let Ok(stream) = shaken.arrive() {
-            P::connection(stream, shared, who).await;
+            P::connection(stream, shared, who, permit).await;
         }
-        drop((held, place));
+        drop(turn);
     });
     let _ = serving.await; // it fails only where it panics
 }
@@ -254,13 +217,13 @@ pub async fn serve<L: Listener, H: Handler>(
 ) {
     let permits = ConnectionPermits::new(limits.connections);
     let (stopped, of_address) = (stop.clone(), permits.clone());
-    let begin = |open: &mut JoinSet<()>, stream: L::Stream, held: Held| {
+    let begin = |open: &mut JoinSet<()>, stream: L::Stream, permit: Arc<ConnectionPermit>| {
         let user = L::user(&stream);
         let serving =
             connection(stream, user, of_address.clone(), limits.clone(), handler.clone(), stopped.clone());
         open.spawn(async move {
             serving.await;
-            drop(held);
+            drop(permit);
         });
     };
     ended_in_time(accept(listener, permits, stop, begin).await).await;
@@ -280,14 +243,14 @@ pub async fn serve_over<H: Handler>(
     };
     let permits = ConnectionPermits::new(limits.connections);
     let of_address = permits.clone();
-    let begin = |open: &mut JoinSet<()>, stream: TcpStream, held: Held| {
+    let begin = |open: &mut JoinSet<()>, stream: TcpStream, permit: Arc<ConnectionPermit>| {
         let Ok(stream) = stream.into_std() else { return };
         let (tls, permits, limits) = (tls.clone(), of_address.clone(), limits.clone());
         let (handler, mut stop) = (handler.clone(), stop.clone());
         open.spawn(async move {
             let (shaking, full) = (tls.clone(), permits.clone());
             let shaking = async move {
-                let is_full = || full.is_full();
+                let is_full = || full.has_waiter();
                 shaking.handshake(stream, tls::Protocol::Http, is_full).await
             };
             let shaken = tokio::select! {
@@ -312,7 +275,7 @@ pub async fn serve_over<H: Handler>(
                     }
                 }
             }
-            drop(held);
+            drop(permit);
         });
     };
     ended_in_time(accept(listener, permits, stop.clone(), begin).await).await;
@@ -363,7 +326,7 @@ async fn connection<S: Transport, H: Handler>(
                 closing = true;
                 std::pin::Pin::new(&mut served).graceful_shutdown();
             }
-            _ = tokio::time::sleep(LOOK.min(limits.head / 4)) => match pace.overdue(&limits, permits.is_full()) {
+            _ = tokio::time::sleep(LOOK.min(limits.head / 4)) => match pace.overdue(&limits, permits.has_waiter()) {
                 None => {}
                 Some(Overdue::Idle) => break,
                 Some(Overdue::Head) => {

@@ -1,8 +1,9 @@
 //! A connection of a sender over HTTP: it serves many requests one after another, and is closed where it is slow or idle. All
 //! else of HTTP is hyper's, with which a post takes more processor time.
 
-use super::connections::{ConnectionPermits, Limits, Protocol, Shared, Transport};
+use super::connections::{Limits, Protocol, Shared, Transport};
 use super::head::{self, Connection};
+use super::permits::{ConnectionPermit, ConnectionPermits};
 use super::refusal::Refusal;
 use super::wire::Wire;
 use super::{answer, Intake, Taker};
@@ -29,8 +30,13 @@ pub struct Http;
 impl Protocol for Http {
     const OVER_TLS: tls::Protocol = tls::Protocol::Http;
 
-    async fn connection<S: Transport, T: Taker>(stream: S, shared: Arc<Shared<T>>, who: Who) {
-        let mut waiting = Waiting::new(&shared.limits, shared.stop.clone(), shared.permits.clone());
+    async fn connection<S: Transport, T: Taker>(
+        stream: S,
+        shared: Arc<Shared<T>>,
+        who: Who,
+        permit: Arc<ConnectionPermit>,
+    ) {
+        let mut waiting = Waiting::new(&shared.limits, shared.stop.clone(), permit, shared.permits.clone());
         let mut wire = Wire::new(stream);
         let intake = &shared.intake;
         while let Some(asked) = next(&mut wire, &mut waiting, &who).await {
@@ -133,42 +139,55 @@ struct Waiting {
     looks: u32,
     most_idle: u32,
     look: Pin<Box<Sleep>>,
+    /// The service ends, or the connection is evicted.
     stop: Pin<Box<dyn Future<Output = ()> + Send>>,
     /// Both are waited for once, and not with each request: all connections wait for the end by one lock.
     are_waited_for: bool,
     stopped: watch::Receiver<bool>,
     ending: bool,
+    permit: Arc<ConnectionPermit>,
     permits: Arc<ConnectionPermits>,
 }
 
 impl Waiting {
-    fn new(limits: &Limits, stop: watch::Receiver<bool>, permits: Arc<ConnectionPermits>) -> Waiting {
+    fn new(
+        limits: &Limits,
+        stop: watch::Receiver<bool>,
+        permit: Arc<ConnectionPermit>,
+        permits: Arc<ConnectionPermits>,
+    ) -> Waiting {
         let period = (limits.head / LOOKS).max(Duration::from_millis(1));
-        let mut stopped = stop.clone();
+        let (mut stopped, of_permit) = (stop.clone(), permit.clone());
         Waiting {
             period,
             looks: 0,
             most_idle: (limits.idle.as_millis() / period.as_millis()) as u32,
             look: Box::pin(tokio::time::sleep(period)),
-            stop: Box::pin(async move { stopped.wait_true().await }),
+            stop: Box::pin(async move {
+                tokio::select! {
+                    () = stopped.wait_true() => {}
+                    () = of_permit.evicted() => {}
+                }
+            }),
             are_waited_for: false,
             stopped: stop,
             ending: false,
+            permit,
             permits,
         }
     }
 
     /// Whether a next request may come after an answer.
     fn may_go_on(&self) -> bool {
-        !self.has_stopped() && !self.permits.is_full()
+        !self.has_stopped() && !self.permits.has_to_close()
     }
 
     /// Nobody has seen a change by this receiver, and the first one is the end; so is it where the sender has gone.
     fn has_stopped(&self) -> bool {
-        !matches!(self.stopped.has_changed(), Ok(false))
+        self.permit.is_evicted() || !matches!(self.stopped.has_changed(), Ok(false))
     }
 
-    /// Whether the service ends: whoever waits here is woken then.
+    /// Whether nothing more is to be waited for: whoever waits here is woken then.
     fn is_ending(&mut self, context: &mut Context<'_>) -> bool {
         if !self.ending && (!self.are_waited_for || self.has_stopped()) {
             self.ending = self.stop.as_mut().poll(context).is_ready();
@@ -176,22 +195,15 @@ impl Waiting {
         self.ending
     }
 
-    /// How often it looks for a next request: only once while others wait for its place.
-    fn most_idle(&self) -> u32 {
-        match self.permits.is_full() {
-            true => 1,
-            false => self.most_idle,
-        }
-    }
-
-    /// Whether an answer is sent. Who does not read it is waited for no longer than who sends nothing.
+    /// Whether an answer is sent. Who does not read it is waited for no longer than who sends nothing; for one look, while
+    /// others wait for its place.
     async fn is_sent(&mut self, sending: impl Future<Output = std::io::Result<()>>) -> bool {
         let mut sending = pin!(sending);
         let mut looks = 0;
         loop {
             match within(self.period, sending.as_mut()).await {
                 Some(sent) => return sent.is_ok(),
-                None if looks >= self.most_idle() => return false,
+                None if looks >= self.most_idle || looks > 0 && self.permits.has_waiter() => return false,
                 None => looks += 1,
             }
         }
@@ -199,8 +211,12 @@ impl Waiting {
 
     async fn for_bytes<S: Transport>(&mut self, wire: &mut Wire<S>) -> Came {
         let was_idle = is_blank(&wire.input);
+        if was_idle {
+            self.permit.mark_idle();
+        }
         let came = self.filled(wire).await;
         if was_idle && !is_blank(&wire.input) {
+            self.permit.mark_busy();
             self.looks = 0; // now the head's time begins
         }
         came
@@ -224,7 +240,7 @@ impl Waiting {
                     self.look.as_mut().reset(Instant::now() + self.period);
                     self.looks += 1; // the first of them may have come at once
                     match is_idle {
-                        true if self.looks > self.most_idle() => return Poll::Ready(Came::Nothing),
+                        true if self.looks > self.most_idle => return Poll::Ready(Came::Nothing),
                         false if self.looks > LOOKS => return Poll::Ready(Came::TooLate),
                         _ => {}
                     }
@@ -268,7 +284,9 @@ mod tests {
         }
         let (_going, stop) = watch::channel(false);
         let limits = Limits { connections: 1, head: short, idle: short };
-        let mut waiting = Waiting::new(&limits, stop, ConnectionPermits::new(1));
+        let permits = ConnectionPermits::new(1);
+        let permit = permits.acquire(&listener).await;
+        let mut waiting = Waiting::new(&limits, stop, permit, permits);
         let mut wire = Wire::new(stream);
         let refused = refused(&mut wire, &Refusal::Malformed, &mut waiting);
         assert!(tokio::time::timeout(400 * short, refused).await.is_ok());

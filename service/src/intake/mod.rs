@@ -1,6 +1,6 @@
 //! Where senders post: OTLP/HTTP in protobuf or JSON, packed or not, on kept connections, and nothing else.
 //!
-//! `front` serves the connections on `threads` of their own, `wire` reads them, `head` and `body` say what came, `answer`
+//! `front` serves the connections on `threads` of their own, each with one of so many `permits`, `wire` reads them, `head` and `body` say what came, `answer`
 //! is what goes back. A request is refused here before a book is asked, or read whole, put into the book's form by `otlp`, and
 //! given to its slot, or in parts to several (`post`). Whoever can post can't operate: every path but `/v1/metrics` is 404.
 
@@ -12,6 +12,7 @@ pub mod front;
 pub(crate) mod head;
 mod listen;
 mod pace;
+pub(crate) mod permits;
 mod post;
 pub(crate) mod refusal;
 pub(crate) mod sender;

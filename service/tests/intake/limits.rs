@@ -4,6 +4,7 @@ use crate::support::{gzip, json, post, Served, BODY, LATE, PATIENCE};
 use std::time::{Duration, Instant};
 use tokio::io::AsyncWriteExt;
 use tokio::net::TcpStream;
+use totxegun::intake::Limits;
 use totxegun::otlp::Outcome;
 
 const TOO_LONG: &str = "body too long: over 4194304 bytes, packed or unpacked: post fewer points at a time";
@@ -186,6 +187,42 @@ async fn idle_connections_leave_their_places_to_those_that_wait() {
     let begun = Instant::now();
     assert_eq!(served.ask(&json(BODY.as_bytes())).await.status, 200);
     assert!(begun.elapsed() < 2 * patience, "alone it is kept for {:?}", 3 * patience);
+}
+
+/// Else who posts pays for who only holds a place.
+#[tokio::test]
+async fn who_idles_leaves_a_place_before_who_posts() {
+    let limits = Limits { connections: 4, head: Duration::from_secs(60), idle: Duration::from_secs(600) };
+    let served = Served::limited(limits, PATIENCE, Outcome::taken(0), 1 << 20).await;
+    let request = json(BODY.as_bytes());
+    let mut active = served.client().await;
+    let mut posts = async |what: &str| {
+        active.write(&request).await;
+        let answer = active.answer().await;
+        assert!(answer.status == 200 && !answer.has("connection: close"), "{what}: {}", answer.head);
+    };
+    let mut idle = vec![served.client().await, served.client().await, served.client().await];
+    for _ in 0..20 {
+        posts("all places are taken, and nobody waits for one").await;
+        tokio::time::sleep(LATE / 20).await;
+    }
+    let begun = Instant::now();
+    for _ in 0..6 {
+        let mut new = served.client().await;
+        new.write(&request).await;
+        while new.read.is_empty() {
+            posts("others idle").await;
+            let reading = tokio::time::timeout(LATE / 20, new.more()).await;
+            assert_ne!(reading, Ok(false), "it is not served");
+        }
+        assert_eq!(new.answer().await.status, 200);
+        idle.push(new);
+    }
+    assert!(begun.elapsed() < PATIENCE / 2, "{:?}", begun.elapsed());
+    assert!(
+        idle[0].ends().await && idle[1].ends().await && idle[2].ends().await,
+        "the first ones idled longest"
+    );
 }
 
 #[tokio::test]

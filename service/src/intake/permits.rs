@@ -1,0 +1,161 @@
+//! Connection permits of an address, and which connection is closed when all are taken and one more client has connected.
+//!
+//! The longest idle connection is closed, so that clients that only hold connections keep no sender out. A sender that posts
+//! often is closed only if no connection is idle, and then with an answer that says so.
+
+use super::Listener;
+use crate::work::{locked, within};
+use std::pin::pin;
+use std::sync::atomic::{AtomicBool, AtomicU64, Ordering::Relaxed};
+use std::sync::{Arc, Mutex, Weak};
+use std::time::{Duration, Instant};
+use tokio::sync::{Notify, OwnedSemaphorePermit, Semaphore};
+
+/// A connection that has waited for its next request for less than this is not closed: its sender may just be about to post.
+const MIN_IDLE: Duration = Duration::from_secs(1);
+/// How often the acceptor looks for an idle connection while a client waits.
+const LOOK: Duration = Duration::from_millis(100);
+/// How long an evicted connection has to end before another one is evicted.
+const TO_END: Duration = Duration::from_secs(1);
+
+/// All permits of an address.
+pub struct ConnectionPermits {
+    free: Arc<Semaphore>,
+    max: usize,
+    opened: Instant,
+    taken: Mutex<Vec<Weak<ConnectionPermit>>>,
+    /// A client has connected and waits for a permit.
+    has_waiter: AtomicBool,
+    /// No connection is idle, so the next one that is answered closes.
+    wants_close: AtomicBool,
+    was_full: AtomicBool,
+}
+
+/// The permit of one connection, held until it is dropped.
+pub struct ConnectionPermit {
+    opened: Instant,
+    /// `BUSY`, `EVICTED`, or since when the connection is idle, in milliseconds after `opened`.
+    state: AtomicU64,
+    evicted: Notify,
+    /// None once the address is closed.
+    _permit: Option<OwnedSemaphorePermit>,
+}
+
+const BUSY: u64 = u64::MAX;
+const EVICTED: u64 = u64::MAX - 1;
+
+impl ConnectionPermit {
+    /// The connection waits for its next request.
+    pub fn mark_idle(&self) {
+        let now = self.opened.elapsed().as_millis() as u64;
+        let _ = self.state.compare_exchange(BUSY, now, Relaxed, Relaxed); // an evicted one stays so
+    }
+
+    /// A request has begun.
+    pub fn mark_busy(&self) {
+        let change = |state| (state != EVICTED).then_some(BUSY);
+        let _ = self.state.fetch_update(Relaxed, Relaxed, change);
+    }
+
+    /// Whether the connection has to close as soon as it has answered what it has begun.
+    pub fn is_evicted(&self) -> bool {
+        self.state.load(Relaxed) == EVICTED
+    }
+
+    /// Waits until the connection is evicted.
+    pub async fn evicted(&self) {
+        self.evicted.notified().await
+    }
+
+    fn idle_since(&self) -> Option<u64> {
+        Some(self.state.load(Relaxed)).filter(|state| *state < EVICTED)
+    }
+
+    /// Evicts the connection unless it has had a request since.
+    fn try_evict(&self, idle_since: u64) -> bool {
+        let is_evicted = self.state.compare_exchange(idle_since, EVICTED, Relaxed, Relaxed).is_ok();
+        if is_evicted {
+            self.evicted.notify_one();
+        }
+        is_evicted
+    }
+}
+
+impl ConnectionPermits {
+    pub fn new(max: usize) -> Arc<ConnectionPermits> {
+        Arc::new(ConnectionPermits {
+            free: Arc::new(Semaphore::new(max)),
+            max,
+            opened: Instant::now(),
+            taken: Mutex::default(),
+            has_waiter: AtomicBool::new(false),
+            wants_close: AtomicBool::new(false),
+            was_full: AtomicBool::new(false),
+        })
+    }
+
+    /// Whether a client has connected and waits for a permit.
+    pub fn has_waiter(&self) -> bool {
+        self.has_waiter.load(Relaxed)
+    }
+
+    /// Whether the connection that asks has to close for a waiting client. True once for each: no other one closes for it.
+    pub fn has_to_close(&self) -> bool {
+        self.wants_close.load(Relaxed) && self.wants_close.swap(false, Relaxed)
+    }
+
+    /// A permit for a client that has connected to this address.
+    pub async fn acquire(&self, listener: &impl Listener) -> Arc<ConnectionPermit> {
+        let permit = match self.free.clone().try_acquire_owned() {
+            Ok(permit) => Some(permit),
+            Err(_) => self.wait_for_permit(listener).await,
+        };
+        let (opened, state, evicted) = (self.opened, AtomicU64::new(BUSY), Notify::new());
+        let permit = Arc::new(ConnectionPermit { opened, state, evicted, _permit: permit });
+        let mut taken = locked(&self.taken);
+        if taken.len() >= 2 * self.max {
+            taken.retain(|permit| permit.strong_count() > 0);
+        }
+        taken.push(Arc::downgrade(&permit));
+        permit
+    }
+
+    async fn wait_for_permit(&self, listener: &impl Listener) -> Option<OwnedSemaphorePermit> {
+        if !self.was_full.swap(true, Relaxed) {
+            let (most, address) = (self.max, listener.shown());
+            tracing::warn!(
+                address,
+                connections = most,
+                "all {most} connections are taken that {address} may have: each further one waits until the longest idle one is closed"
+            );
+        }
+        self.has_waiter.store(true, Relaxed);
+        let (waits_since, mut freed) = (Instant::now(), pin!(self.free.clone().acquire_owned()));
+        let permit = loop {
+            let time = match self.evict_longest_idle(waits_since) {
+                true => TO_END,
+                false => LOOK,
+            };
+            if let Some(permit) = within(time, freed.as_mut()).await {
+                break permit.ok(); // the semaphore is never closed
+            }
+        };
+        self.has_waiter.store(false, Relaxed);
+        self.wants_close.store(false, Relaxed);
+        permit
+    }
+
+    /// Evicts the longest idle connection. Whether one was evicted.
+    fn evict_longest_idle(&self, waits_since: Instant) -> bool {
+        let taken: Vec<_> = locked(&self.taken).iter().filter_map(Weak::upgrade).collect();
+        let idle = taken.iter().filter_map(|permit| Some((permit.idle_since()?, permit)));
+        let longest = idle.min_by_key(|(since, _)| *since);
+        let time = |since| self.opened.elapsed().saturating_sub(Duration::from_millis(since));
+        match longest {
+            Some((since, permit)) if time(since) >= MIN_IDLE => return permit.try_evict(since),
+            Some(_) if waits_since.elapsed() < MIN_IDLE => {} // it may be idle for long enough soon
+            _ => self.wants_close.store(true, Relaxed),
+        }
+        false
+    }
+}
