@@ -5,11 +5,13 @@
 //! place says how many there were. `form` is how a line is written, `shown` what is shown of others' texts.
 
 mod form;
+mod once_an_hour;
 mod rate_limit;
 mod shown;
 mod time;
 
 pub use form::{Events, Form};
+pub use once_an_hour::OnceAnHour;
 pub use rate_limit::RateLimit;
 pub use shown::{all_shown, cut, shown};
 pub use time::{date, days, now, of_nanoseconds, seconds, since_1970, utc};

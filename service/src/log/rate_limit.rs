@@ -25,7 +25,7 @@ impl RateLimit {
         self.is_due_at(Instant::now())
     }
 
-    fn is_due_at(&self, now: Instant) -> bool {
+    pub(super) fn is_due_at(&self, now: Instant) -> bool {
         let mut last = locked(&self.last);
         let is_due = last.is_none_or(|last: Instant| now >= last + self.between);
         if is_due {

@@ -42,7 +42,7 @@ pub struct OfReason {
 }
 
 impl SenderActivity {
-    /// Notes an answer. The reason of a refusal that is the first of its sender and reason.
+    /// Notes an answer: the reason of a refusal.
     pub fn note(&self, sender: &str, outcome: &Outcome) -> Option<&'static str> {
         self.note_at(sender, outcome, seconds())
     }
@@ -68,7 +68,7 @@ impl SenderActivity {
         if let Some(message) = outcome.refusal() {
             (of_reason.status, of_reason.text) = (outcome.status(), shown(message, TEXT));
         }
-        (of_reason.posts == 1).then_some(reason)
+        Some(reason)
     }
 
     /// Those that posted last, the last one first.
@@ -114,13 +114,13 @@ mod tests {
     fn a_sender_s_posts_and_refusals_are_noted() {
         let activity = SenderActivity::default();
         assert_eq!(activity.note_at("A", &Outcome::taken(2), 5), None);
-        let first = activity.note_at("A", &refused("out of order: point 0, frontier 5"), 6);
-        assert_eq!(first, Some("out of order"));
-        assert_eq!(activity.note_at("A", &refused("out of order: point 9, frontier 7"), 7), None);
-        assert_eq!(
-            activity.note_at("B", &refused("out of order: point 9, frontier 7"), 6),
-            Some("out of order")
-        );
+        for (sender, message, now) in [
+            ("A", "out of order: point 0, frontier 5", 6),
+            ("A", "out of order: point 9, frontier 7", 7),
+            ("B", "out of order: point 9, frontier 7", 6),
+        ] {
+            assert_eq!(activity.note_at(sender, &refused(message), now), Some("out of order"));
+        }
         let last = activity.last(9);
         assert_eq!(last.iter().map(|(name, _)| &**name).collect::<Vec<_>>(), ["A", "B"]);
         let wanted =

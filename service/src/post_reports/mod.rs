@@ -12,7 +12,7 @@ pub use activity::{OfReason, OfSender, SenderActivity};
 pub(crate) use texts::SERIES_SHOWN;
 
 use crate::intake::{Hears, Taker};
-use crate::log::shown;
+use crate::log::{shown, OnceAnHour};
 use crate::metrics::{reason_of, Metrics};
 use crate::otlp::series::SeriesKey;
 use crate::otlp::{foreign_points, point_at, Cause, Causes, Original, Outcome, Profile, NO_NAME};
@@ -20,14 +20,14 @@ use crate::pass::Pass;
 use crate::slot::{is_sender, Request, Slot, Source};
 use crate::work::{locked, Readers};
 use bytes::Bytes;
-use std::collections::{HashMap, HashSet};
+use std::collections::HashSet;
 use std::sync::atomic::{AtomicBool, Ordering::Relaxed};
 use std::sync::{Arc, Mutex};
 use texts::{late_at, of_late, of_other_writer, of_twice, other_writer, place_of, reason};
 
 /// How many senders, series and refusals are remembered as told.
 const REMEMBERED: usize = 1000;
-/// How many addresses of strangers: further ones count as who names none, so that they hide no sender.
+/// How many addresses of strangers are named within an hour: further ones count as who names none, so that they hide no sender.
 const STRANGERS: usize = 100;
 
 /// How many long bodies are read at a time.
@@ -57,16 +57,28 @@ pub struct Reporter {
     logged: Mutex<Logged>,
 }
 
-/// What the log has of each sender, so that it is told once.
-#[derive(Default)]
+/// What the log has of each sender, so that it is told once an hour.
 struct Logged {
-    foreign: HashMap<String, LoggedOf>,
+    foreign: OnceAnHour<String, LoggedOf>,
     /// Senders whose clock is off.
-    clocks: HashSet<String>,
-    series: HashSet<SeriesKey>,
+    clocks: OnceAnHour<String>,
+    series: OnceAnHour<SeriesKey>,
     /// Addresses of who has no name.
-    strangers: HashSet<String>,
-    refusals: usize,
+    strangers: OnceAnHour<String>,
+    /// By sender and reason.
+    refusals: OnceAnHour<(String, &'static str)>,
+}
+
+impl Default for Logged {
+    fn default() -> Logged {
+        Logged {
+            foreign: OnceAnHour::new(REMEMBERED),
+            clocks: OnceAnHour::new(REMEMBERED),
+            series: OnceAnHour::new(REMEMBERED),
+            strangers: OnceAnHour::new(STRANGERS),
+            refusals: OnceAnHour::new(REMEMBERED),
+        }
+    }
 }
 
 #[derive(Default)]
@@ -214,22 +226,20 @@ impl Reporter {
         self.readers.read(length, move || source.text().map(|body| read(&body))).await
     }
 
-    /// Notes an answer. The first refusal of a sender for each reason is in the log; those that the service itself is
-    /// the reason of have a line of their own.
+    /// Notes an answer. The first refusal of a sender for each reason within an hour is in the log; those that the service
+    /// itself is the reason of have a line of their own.
     fn note(&self, sender: &str, outcome: &Outcome) {
         let (Some(reason), Some(message)) = (self.activity.note(sender, outcome), outcome.refusal()) else {
             return;
         };
-        let (mut logged, status) = (locked(&self.logged), outcome.status());
-        if status < 500 && logged.refusals < REMEMBERED {
-            logged.refusals += 1;
-            drop(logged);
+        let status = outcome.status();
+        if status < 500 && locked(&self.logged).refusals.is_due(&(sender.to_string(), reason)) {
             let answer = shown(message, ANSWER_SHOWN);
             tracing::warn!(sender, reason, status, "a post of {sender} is refused with {status}: {answer}");
         }
     }
 
-    /// A sender whose clock is off is in the log, once.
+    /// A sender whose clock is off is in the log, once an hour.
     fn note_clock(&self, sender: &str, outcome: &Outcome) {
         let Outcome::Taken { off, .. } = outcome else {
             return;
@@ -237,9 +247,7 @@ impl Reporter {
         if off.points() == 0 {
             return;
         }
-        let mut logged = locked(&self.logged);
-        if logged.clocks.len() < REMEMBERED && logged.clocks.insert(sender.to_string()) {
-            drop(logged);
+        if locked(&self.logged).clocks.is_due(&sender.to_string()) {
             let (points, reason) = (off.points(), off.to_string());
             tracing::warn!(sender, points, reason, "points of {sender} are not taken: {reason}");
         }
@@ -247,28 +255,26 @@ impl Reporter {
 
     /// Whether the address of who has no name is one of those that are remembered.
     fn is_known_stranger(&self, address: &str) -> bool {
-        let mut logged = locked(&self.logged);
-        if logged.strangers.len() < STRANGERS {
-            logged.strangers.insert(address.to_string());
-        }
-        logged.strangers.contains(address)
+        let (mut logged, address) = (locked(&self.logged), address.to_string());
+        let strangers = &mut logged.strangers;
+        strangers.get_mut(&address).is_some() || (!strangers.is_full() && strangers.is_due(&address))
     }
 
     fn may_tell_more(&self, sender: &str) -> bool {
         if self.options.log_foreign == 0 {
             return false;
         }
-        let logged = locked(&self.logged);
-        match logged.foreign.get(sender) {
-            None => logged.foreign.len() < REMEMBERED,
-            Some(of) => of.reasons.len() < self.options.log_foreign && of.read < MOST_READ,
-        }
+        let (mut logged, sender) = (locked(&self.logged), sender.to_string());
+        logged.foreign.is_due(&sender);
+        let of = logged.foreign.get_mut(&sender);
+        of.is_some_and(|of| of.reasons.len() < self.options.log_foreign && of.read < MOST_READ)
     }
 
     /// Nobody who posts waits while a body is read: one at a time is.
     fn tell_reasons(&self, sender: &str, body: &Bytes) {
-        let known = |logged: &Logged| logged.foreign.get(sender).map(|of| of.reasons.clone());
-        let mut reasons = known(&locked(&self.logged)).unwrap_or_default();
+        let sender = sender.to_string();
+        let known = |logged: &mut Logged| logged.foreign.get_mut(&sender).map(|of| of.reasons.clone());
+        let mut reasons = known(&mut locked(&self.logged)).unwrap_or_default();
         foreign_points(body, self.options.profile, |point| {
             let is_expected = |cause| self.options.expected.contains(&cause);
             if point.cause.is_some_and(is_expected) || (self.pass.is_some() && point.is_passed()) {
@@ -280,25 +286,23 @@ impl Reporter {
             }
             reasons.len() >= self.options.log_foreign
         });
-        let mut logged = locked(&self.logged);
-        let of = logged.foreign.entry(sender.to_string()).or_default();
-        of.read += 1;
-        of.reasons = reasons;
+        if let Some(of) = locked(&self.logged).foreign.get_mut(&sender) {
+            of.read += 1;
+            of.reasons = reasons;
+        }
     }
 
     fn tell_owner(&self, sender: &str, series: SeriesKey, owner: &Owner) {
-        {
-            let logged = locked(&self.logged);
-            if logged.series.contains(&series) || logged.series.len() >= REMEMBERED {
-                return;
-            }
+        if locked(&self.logged).series.get_mut(&series).is_some() {
+            return;
         }
         let Some(owner) = owner(&series) else {
             return;
         };
-        let line = other_writer(sender, &owner, &series);
-        tracing::warn!(sender, owner, series = shown(&series.0, SERIES_SHOWN), "{line}");
-        locked(&self.logged).series.insert(series);
+        if locked(&self.logged).series.is_due(&series) {
+            let line = other_writer(sender, &owner, &series);
+            tracing::warn!(sender, owner, series = shown(&series.0, SERIES_SHOWN), "{line}");
+        }
     }
 }
 

@@ -42,11 +42,12 @@ async fn told(
             tokio::time::sleep(Duration::from_millis(1)).await;
         }
     }
-    let told = locked(&reported.reporter.logged);
-    let of = told.foreign.get("a");
-    let mut reasons: Vec<String> = of.into_iter().flat_map(|of| of.reasons.clone()).collect();
+    let mut told = locked(&reported.reporter.logged);
+    let of = told.foreign.get_mut(&"a".to_string());
+    let (read, reasons) = of.map_or((0, HashSet::new()), |of| (of.read, of.reasons.clone()));
+    let mut reasons = Vec::from_iter(reasons);
     reasons.sort();
-    (reasons, of.map_or(0, |of| of.read), told.series.len())
+    (reasons, read, told.series.count())
 }
 
 const GAUGES: &str =
@@ -163,7 +164,7 @@ async fn a_sender_whose_clock_is_off_is_told_by_how_much() {
     let wanted = "points outside the profile: 3 gauges, 1 point ahead of time: its clock is ";
     assert!(answer.starts_with(wanted) && answer.contains("d ahead: see"), "{answer}");
     answered(&reported, GAUGES).await;
-    assert_eq!(locked(&reported.reporter.logged).clocks.len(), 1, "it is in the log once");
+    assert_eq!(locked(&reported.reporter.logged).clocks.count(), 1, "it is in the log once");
     let page = String::from_utf8(reported.reporter.metrics.page()).unwrap();
     let line = "totxegun_foreign_points_total{cause=\"clock-ahead\",sender=\"a\"} 2";
     assert!(page.lines().any(|found| found == line), "{page}");
@@ -238,16 +239,71 @@ async fn refusals_are_noted() {
     while expected.reporter.is_reading.load(Relaxed) {
         tokio::time::sleep(Duration::from_millis(1)).await;
     }
-    assert!(locked(&expected.reporter.logged).foreign["a"].reasons.is_empty());
+    let mut logged = locked(&expected.reporter.logged);
+    assert!(logged.foreign.get_mut(&"a".to_string()).unwrap().reasons.is_empty());
+    drop(logged);
     let late = Outcome::Refused { status: 400, message: "out of order: point 0, frontier 5".into() };
     let busy = Outcome::Refused { status: 503, message: "too many bytes in flight".into() };
     let refused = reported(late.clone(), None, ReportOptions::default()).reporter.clone();
     refused.answered("a", &late);
     refused.part_refused("a", &late);
     refused.answered("b", &busy);
-    assert_eq!(locked(&refused.logged).refusals, 1, "503 is not the sender's");
+    assert_eq!(locked(&refused.logged).refusals.count(), 1, "503 is not the sender's");
     let of_a = &refused.activity.last(9).into_iter().find(|(name, _)| name == "a").unwrap().1;
     assert_eq!((of_a.taken, of_a.refused["out of order"].posts), (0, 2));
+}
+
+/// The lines of the log, as who reads it sees them.
+#[derive(Clone, Default)]
+struct Lines(Arc<Mutex<Vec<String>>>);
+
+impl tracing::field::Visit for Lines {
+    fn record_debug(&mut self, field: &tracing::field::Field, value: &dyn std::fmt::Debug) {
+        if field.name() == "message" {
+            locked(&self.0).push(format!("{value:?}"));
+        }
+    }
+}
+
+impl<S: tracing::Subscriber> tracing_subscriber::Layer<S> for Lines {
+    fn on_event(&self, event: &tracing::Event<'_>, _: tracing_subscriber::layer::Context<'_, S>) {
+        event.record(&mut self.clone());
+    }
+}
+
+/// Else who makes up names would silence the log for all others, for good.
+#[test]
+fn who_is_refused_behind_a_thousand_others_is_told_of() {
+    use tracing_subscriber::prelude::*;
+    let lines = Lines::default();
+    let _here = tracing_subscriber::registry().with(lines.clone()).set_default();
+    let reporter = reported(Outcome::taken(0), None, ReportOptions::default()).reporter.clone();
+    let late = Outcome::Refused { status: 400, message: "out of order: point 0, frontier 5".into() };
+    let off = {
+        let clock = Clock { most_ahead: Some(Duration::from_secs(600)), most_behind: None };
+        let mut off = OffClock::default();
+        off.count(clock.window().off(u64::MAX).unwrap());
+        Outcome::taken_but(1, off)
+    };
+    let tell = |sender: &str| {
+        reporter.answered(sender, &late);
+        reporter.note_clock(sender, &off);
+    };
+    for number in 0..3 * REMEMBERED {
+        tell(&format!("made-up-{number}"));
+    }
+    let flood = locked(&lines.0).len();
+    assert!(flood >= 2 * REMEMBERED && flood < 2 * REMEMBERED + 100, "{flood}: nor may they fill the disk");
+    std::thread::sleep(Duration::from_millis(1100));
+    tell("shop-1");
+    tell("shop-1");
+    let told = locked(&lines.0)[flood..].to_vec();
+    let begins = ["a post of shop-1 is refused with 400", "points of shop-1 are not taken"];
+    assert!(
+        told.len() == 2 && begins.iter().zip(&told).all(|(begin, line)| line.starts_with(begin)),
+        "{told:?}"
+    );
+    assert!((2..=REMEMBERED).contains(&reporter.activity.count()));
 }
 
 /// Else they would fill the log, and hide the refusals of senders.
@@ -259,7 +315,7 @@ async fn so_many_strangers_are_told_of() {
         reported.reporter.answered(&format!("address 10.0.{}.{}", number / 256, number % 256), &unknown);
     }
     reported.reporter.answered("shop-1", &unknown);
-    assert_eq!(locked(&reported.reporter.logged).refusals, STRANGERS + 2);
+    assert_eq!(locked(&reported.reporter.logged).refusals.count(), STRANGERS + 2);
     let activity = reported.reporter.activity.last(1000);
     let of = |name: &str| activity.iter().find(|(activity, _)| activity == name).unwrap().1.clone();
     let posts = |name: &str| of(name).refused["the token is not known"].posts;
