@@ -9,7 +9,9 @@ use crate::otlp::NO_NAME;
 use crate::shares::{Share, MOST_POINTS};
 use crate::slot::is_sender;
 use sha2::{Digest, Sha256};
-use std::collections::{HashMap, HashSet};
+use std::collections::hash_map::Entry;
+use std::collections::HashMap;
+use std::hash::{Hash, Hasher};
 use std::sync::Arc;
 use subtle::ConstantTimeEq;
 
@@ -36,15 +38,27 @@ impl Sender {
     }
 }
 
-struct Token {
-    digest: [u8; 32],
-    owner: Arc<Sender>,
+/// The SHA-256 of a token. Comparing two takes the same time wherever they differ.
+struct TokenDigest([u8; 32]);
+
+impl PartialEq for TokenDigest {
+    fn eq(&self, other: &TokenDigest) -> bool {
+        self.0.ct_eq(&other.0).into()
+    }
+}
+
+impl Eq for TokenDigest {}
+
+impl Hash for TokenDigest {
+    fn hash<H: Hasher>(&self, state: &mut H) {
+        self.0.hash(state);
+    }
 }
 
 /// What the file says.
 #[derive(Default)]
 pub struct Tokens {
-    tokens: Vec<Token>,
+    owners: HashMap<TokenDigest, Arc<Sender>>,
     /// By name: senders of certificates that may use others' names.
     certified: HashMap<String, Arc<Sender>>,
     /// By name.
@@ -70,16 +84,11 @@ impl Tokens {
     /// Reads the file's contents. The error has the number of the line, and nothing of what is in it.
     pub fn read(contents: &[u8]) -> Result<Tokens, String> {
         let text = std::str::from_utf8(contents).map_err(|_| "it is no text in UTF-8".to_string())?;
-        let (mut tokens, mut known) = (Tokens::default(), HashSet::new());
+        let mut tokens = Tokens::default();
         let lines = text.lines().enumerate();
         for (number, line) in lines.filter(|(_, line)| !line.trim().is_empty() && !line.starts_with('#')) {
             let in_line = |why: &str| format!("line {}: {why}", number + 1);
             let line = read_line(line).map_err(in_line)?;
-            if let Proof::Token(digest) = line.proof {
-                if !known.insert(digest) {
-                    return Err(in_line("its token has a line already"));
-                }
-            }
             tokens.add(line).map_err(in_line)?;
         }
         Ok(tokens)
@@ -92,7 +101,10 @@ impl Tokens {
             return Err("its name has series= or points= in a line already");
         }
         match proof {
-            Proof::Token(digest) => self.tokens.push(Token { digest, owner: sender.into() }),
+            Proof::Token(digest) => match self.owners.entry(TokenDigest(digest)) {
+                Entry::Occupied(_) => return Err("its token has a line already"),
+                Entry::Vacant(place) => drop(place.insert(sender.into())),
+            },
             Proof::Certificate if sender.others.is_empty() => {}
             Proof::Certificate if self.certified.contains_key(&name) => {
                 return Err("its name has a line for certificates already")
@@ -110,9 +122,9 @@ impl Tokens {
 
     /// The same as a file of operators, whose names stand alone.
     pub fn of_operators(self) -> Result<Tokens, String> {
-        let is_of_senders = |token: &Token| !token.owner.others.is_empty();
+        let is_of_senders = |owner: &Arc<Sender>| !owner.others.is_empty();
         let has_names_alone = self.certified.is_empty() && self.shares.is_empty();
-        match has_names_alone && !self.tokens.iter().any(is_of_senders) {
+        match has_names_alone && !self.owners.values().any(is_of_senders) {
             true => Ok(self),
             false => {
                 Err("it has a line for senders: write `NAME sha256:HEX`, as `totxegun token NAME` prints it"
@@ -123,7 +135,7 @@ impl Tokens {
 
     /// Why nobody has a token, and what to do, where no line has one.
     pub fn shut(&self) -> Option<&'static str> {
-        let is_empty = self.tokens.is_empty() && self.certified.is_empty();
+        let is_empty = self.owners.is_empty() && self.certified.is_empty();
         is_empty.then_some(
             "it has no line of a token, so nobody gets in by one: add what `totxegun token NAME` prints",
         )
@@ -134,16 +146,9 @@ impl Tokens {
         self.shut().filter(|_| self.shares.is_empty())
     }
 
-    /// Whose a token is. It is compared with all, each time for as long.
+    /// Whose a token is.
     pub fn owner(&self, token: &[u8]) -> Option<Arc<Sender>> {
-        let digest = Sha256::digest(token);
-        let mut found = None;
-        for token in &self.tokens {
-            if token.digest[..].ct_eq(&digest).into() {
-                found = Some(&token.owner);
-            }
-        }
-        found.cloned()
+        self.owners.get(&TokenDigest(Sha256::digest(token).into())).cloned()
     }
 
     /// The sender of a certificate's name, where it may use others'.
@@ -306,6 +311,20 @@ mod tests {
         for text in [format!("ann/bob {OF_ABC}"), "ann/* certificate".to_string()] {
             assert!(of(text).is_err_and(|why| why.contains("a line for senders")));
         }
+    }
+
+    /// Else each post of one sender takes as long as all others' tokens.
+    #[test]
+    fn a_token_is_found_among_many_at_once() {
+        let others: String =
+            (0..20_000).map(|number| format!("shop-{number} sha256:{number:064x}\n")).collect();
+        let tokens = Tokens::read(format!("{others}last {OF_ABC}\n").as_bytes()).unwrap();
+        let begun = std::time::Instant::now();
+        for _ in 0..500 {
+            assert_eq!(tokens.owner(b"abc").unwrap().name, "last");
+            assert_eq!(tokens.owner(b"none"), None);
+        }
+        assert!(begun.elapsed() < std::time::Duration::from_secs(1), "{:?}", begun.elapsed());
     }
 
     #[test]
