@@ -3,12 +3,14 @@
 //! A thread of its own looks at them, so that a file system that does not answer holds nobody else up. Files that can't be
 //! used leave what was used before in its place.
 
+use crate::log::seconds;
 use crate::metrics::Metrics;
 use anyhow::{anyhow, Context};
 use prometheus::IntGauge;
 use sha2::{Digest, Sha256};
 use std::fs::File;
 use std::io::Read;
+use std::os::unix::fs::MetadataExt;
 use std::path::{Path, PathBuf};
 use std::sync::{Arc, PoisonError, RwLock, Weak};
 use std::time::Duration;
@@ -16,6 +18,9 @@ use std::time::Duration;
 /// How often files are looked at. What has changed is used once two looks have found the same: so not while it is being
 /// written, nor a certificate whose key is not there yet.
 const LOOK: Duration = Duration::from_millis(250);
+
+/// After this time the next change of a file gives it other times, also on a file system with coarse timestamps.
+const STEADY: Duration = Duration::from_secs(2);
 
 /// The longest file, in bytes.
 const MOST: u64 = 4 << 20;
@@ -60,7 +65,7 @@ impl<T: Send + Sync + 'static> Reloaded<T> {
         let reloaded = Arc::new(Reloaded(RwLock::new(Arc::new(first))));
         let (judged, into) = (seen.clone(), Arc::downgrade(&reloaded));
         let stale = metrics.stale_files.with_label_values(&[option]);
-        let mut files = Files { files, reader, judged, seen, stale, into };
+        let mut files = Files { files, reader, judged, seen, read_at: None, stale, into };
         std::thread::Builder::new()
             .name(option.trim_matches('-').to_string())
             .spawn(move || while files.look() {})
@@ -89,6 +94,8 @@ struct Files<T> {
     judged: Digests,
     /// What the last look found.
     seen: Digests,
+    /// The files' times when they were last read, if a change since then is sure to show in them.
+    read_at: Option<Vec<Stamp>>,
     stale: IntGauge,
     into: Weak<Reloaded<T>>,
 }
@@ -97,18 +104,23 @@ impl<T: Send + Sync + 'static> Files<T> {
     /// Whether somebody still wants what is in them.
     fn look(&mut self) -> bool {
         std::thread::sleep(LOOK);
+        let Some(into) = self.into.upgrade() else {
+            return false;
+        };
+        let now = stamps(&self.files);
+        if now.is_some() && now == self.read_at {
+            return true; // they are unchanged, and were judged before
+        }
         let contents = all_contents(&self.files);
         let found = digests(&contents);
         let is_settled = found == self.seen;
         self.seen = found;
-        let Some(into) = self.into.upgrade() else {
-            return false;
-        };
         if is_settled && self.seen != self.judged {
             let changed = self.changed();
             self.judged = self.seen.clone();
             self.judge(contents, &changed, &into);
         }
+        self.read_at = now.filter(|stamps| is_settled && stamps.iter().all(Stamp::is_steady));
         true
     }
 
@@ -142,6 +154,39 @@ impl<T: Send + Sync + 'static> Files<T> {
             }
         }
     }
+}
+
+/// What `stat` says of a file. `changed` differs after each change, also if `modified` was set back.
+#[derive(PartialEq, Eq)]
+struct Stamp {
+    device: u64,
+    inode: u64,
+    size: u64,
+    modified: (i64, i64),
+    changed: (i64, i64),
+}
+
+impl Stamp {
+    fn of(path: &Path) -> Option<Stamp> {
+        let found = std::fs::metadata(path).ok()?;
+        Some(Stamp {
+            device: found.dev(),
+            inode: found.ino(),
+            size: found.size(),
+            modified: (found.mtime(), found.mtime_nsec()),
+            changed: (found.ctime(), found.ctime_nsec()),
+        })
+    }
+
+    /// Whether the next change will have another time than this one.
+    fn is_steady(&self) -> bool {
+        self.changed.0 + (STEADY.as_secs() as i64) < seconds() as i64
+    }
+}
+
+/// None if one of the files is missing.
+fn stamps(files: &[(&str, PathBuf)]) -> Option<Vec<Stamp>> {
+    files.iter().map(|(_, path)| Stamp::of(path)).collect()
 }
 
 fn all_contents(files: &[(&str, PathBuf)]) -> Contents {
@@ -195,6 +240,7 @@ mod tests {
             reader: Reader { read: Box::new(|contents| Ok(contents.concat())), shut: |_| None },
             judged: Vec::new(),
             seen: Vec::new(),
+            read_at: None,
             stale: metrics.stale_files.with_label_values(&["--number"]),
             into: Weak::new(),
         }
@@ -266,6 +312,37 @@ mod tests {
         assert_eq!(*reloaded.now(), b"1234");
         drop(reloaded);
         assert!(!files.look());
+    }
+
+    /// How much this thread has read so far, by Linux' account of it.
+    fn bytes_read() -> u64 {
+        let account = std::fs::read_to_string("/proc/thread-self/io").unwrap();
+        let all = account.lines().find_map(|line| line.strip_prefix("rchar: ")?.parse().ok());
+        all.unwrap()
+    }
+
+    /// Else all files are read and hashed four times a second.
+    #[test]
+    fn a_file_that_stays_as_it_is_is_not_read_again() {
+        let at = tempfile::tempdir().unwrap();
+        let path = at.path().join("number");
+        let length = 1 << 20;
+        std::fs::write(&path, vec![b'1'; length]).unwrap();
+        std::thread::sleep(STEADY + Duration::from_secs(1)); // what was written just now may be written again within its time
+        let mut files = files(vec![("--number", path.clone())]);
+        let reloaded = Arc::new(Reloaded(RwLock::new(Arc::new(Vec::new()))));
+        files.into = Arc::downgrade(&reloaded);
+        assert!(files.look() && files.look());
+        assert_eq!(reloaded.now().len(), length);
+        let before = bytes_read();
+        assert!(files.look() && files.look() && files.look());
+        assert!(bytes_read() - before < length as u64, "{}", bytes_read() - before);
+        // Of the same length, and made to look as old.
+        let old = std::fs::metadata(&path).unwrap().modified().unwrap();
+        std::fs::write(&path, vec![b'2'; length]).unwrap();
+        std::fs::File::options().write(true).open(&path).unwrap().set_modified(old).unwrap();
+        assert!(files.look() && files.look());
+        assert_eq!(reloaded.now()[0], b'2');
     }
 
     /// Else who renews a certificate is told that another file has changed.
