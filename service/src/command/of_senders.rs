@@ -1,7 +1,7 @@
 //! Options of TLS at the senders' addresses, and of who a sender is.
 
 use crate::core::MOST_SERIES;
-use crate::identity::Door;
+use crate::identity::{AllowedHosts, Door};
 use crate::metrics::Metrics;
 use crate::shares::{Share, MOST_POINTS};
 use crate::tls::{Files, Named};
@@ -30,6 +30,9 @@ pub(super) struct OfSenders {
     /// The most points a second of a sender whose line has no points=, with a minute's at once [default: any number]
     #[arg(long, env = "TOTXEGUN_SENDER_POINTS", value_name = "N", value_parser = value_parser!(u64).range(1..=MOST_POINTS))]
     sender_points: Option<u64>,
+    /// Names by which senders may post beside IP addresses, localhost and the host of --listen, where nothing proves who they are
+    #[arg(long, env = "TOTXEGUN_ALLOWED_HOSTS", value_name = "NAME", value_delimiter = ',')]
+    allowed_hosts: Vec<String>,
     /// Takes posts beyond loopback without TLS or names: where nobody but a proxy that has both reaches the addresses
     #[arg(long, env = "TOTXEGUN_BEHIND_PROXY")]
     pub behind_proxy: bool,
@@ -51,8 +54,8 @@ impl OfSenders {
         Share { series: self.sender_series, points: self.sender_points }
     }
 
-    /// Reads the files.
-    pub fn door(&self, metrics: &Arc<Metrics>) -> anyhow::Result<Door> {
+    /// Reads the files, for these addresses.
+    pub fn door(&self, listen: [Option<&String>; 2], metrics: &Arc<Metrics>) -> anyhow::Result<Door> {
         let client_ca = self.client_ca.clone();
         let tls = self.pair().map(|(certificate, key)| Files {
             named: Named::OF_SENDERS,
@@ -60,6 +63,7 @@ impl OfSenders {
             key,
             client_ca,
         });
-        Door::open(tls.as_ref(), self.tokens.clone(), metrics)
+        let hosts = AllowedHosts::new(listen.into_iter().flatten().chain(&self.allowed_hosts).cloned());
+        Ok(Door::open(tls.as_ref(), self.tokens.clone(), metrics)?.with_allowed_hosts(hosts))
     }
 }

@@ -279,10 +279,10 @@ impl Options {
         Ok(Settings {
             data,
             store,
+            door: self.of_senders.door([Some(&self.listen), self.listen_grpc.as_ref()], &metrics)?,
             listen: self.listen,
             listen_grpc: self.listen_grpc,
             operate,
-            door: self.of_senders.door(&metrics)?,
             behind_proxy: self.of_senders.behind_proxy,
             of_each: self.of_senders.of_each(),
             sink,

@@ -69,10 +69,13 @@ fn is_grpc(headers: &HeaderMap) -> bool {
 
 /// The head of a call that may have a message. Whether this is packed is said by its frame.
 fn call(parts: &Parts, who: &Who) -> Result<Head, Turned> {
+    let of = |name: &str| parts.headers.get_all(name).iter().map(|value| value.as_bytes());
+    let authority = parts.uri.authority().map(|authority| authority.as_str().as_bytes());
+    let looked = who.check_hosts(of("host").chain(authority));
+    looked.map_err(|stranger| Turned { sender: who.unnamed(), refusal: stranger.into() })?;
     if parts.uri.path() != METHOD || parts.method != Method::POST {
         return Err(Turned { sender: who.unnamed(), refusal: Refusal::NoSuchMethod });
     }
-    let of = |name: &str| parts.headers.get_all(name).iter().map(|value| value.as_bytes());
     let sender = sender(who, of("authorization"), of("x-sender"))?;
     let packing = match parts.headers.get(&ENCODING).map(|value| value.as_bytes()) {
         None | Some(b"identity") => Packing::Plain,

@@ -2,7 +2,7 @@
 
 use super::reply::{code, RetryInfo};
 use super::*;
-use crate::identity::Door;
+use crate::identity::{AllowedHosts, Door};
 use crate::intake::connections::{spread, Limits, Shared};
 use crate::intake::{Budget, Hears, Threads};
 use crate::metrics::Metrics;
@@ -273,6 +273,18 @@ async fn a_stranger_is_told_so() {
     let stranger = "address 127.0.0.1";
     let turned = served.kept.turned.lock().unwrap().clone();
     assert_eq!(turned, ["shop-1", "shop-1", stranger, stranger, stranger]);
+}
+
+/// As over HTTP. The authority of each call here is `h`.
+#[tokio::test]
+async fn a_call_to_a_name_that_is_none_of_ours_is_refused() {
+    for (ours, code) in [("h:4317", 0), ("box-1:4317", 7)] {
+        let door = Door::default().with_allowed_hosts(AllowedHosts::new([ours.to_string()]));
+        let served = Served::behind(door, Some(Outcome::taken(0)), 1 << 20).await;
+        let answer = served.export(&[], frame(0, b"")).await;
+        assert_eq!(answer.code(), code, "{ours}");
+        assert_eq!(answer.text("grpc-message").starts_with("another host: `h`"), code == 7);
+    }
 }
 
 #[tokio::test]

@@ -1,7 +1,7 @@
 //! TLS and names at the senders' addresses.
 
 use super::who::{By, Certified};
-use super::{Tokens, Who};
+use super::{AllowedHosts, Tokens, Who};
 use crate::metrics::Metrics;
 use crate::reloaded::{Reader, Reloaded};
 use crate::tls::{ClientChain, Files, Shaken, Tls, WithoutCertificate};
@@ -11,12 +11,13 @@ use std::net::IpAddr;
 use std::path::PathBuf;
 use std::sync::Arc;
 
-/// What stands between a sender and its address. The default believes all, without TLS.
+/// What stands between a sender and its address. The default believes all, without TLS, whatever host they name.
 #[derive(Clone, Default)]
 pub struct Door {
     pub(crate) tls: Option<Arc<Tls>>,
     by_certificate: bool,
     tokens: Option<Arc<Reloaded<Tokens>>>,
+    hosts: Option<Arc<AllowedHosts>>,
 }
 
 /// The file of `--operate-tokens`.
@@ -42,7 +43,12 @@ impl Door {
             shut: if by_certificate { Tokens::shut_beside_certificates } else { Tokens::shut },
         };
         let tokens = tokens.map(|path| Reloaded::open(vec![("--tokens", path)], reader(), metrics));
-        Ok(Door { tls: tls.map(Arc::new), by_certificate, tokens: tokens.transpose()? })
+        Ok(Door { tls: tls.map(Arc::new), by_certificate, tokens: tokens.transpose()?, hosts: None })
+    }
+
+    /// The same door. Requests that prove nothing have to name one of these hosts.
+    pub fn with_allowed_hosts(self, hosts: AllowedHosts) -> Door {
+        Door { hosts: Some(Arc::new(hosts)), ..self }
     }
 
     /// By whom the requests of a connection are, which may be behind a handshake, and comes from `peer`.
@@ -56,7 +62,7 @@ impl Door {
                 let chain = ClientChain::new(Vec::new(), tls.contexts(), tls.clone());
                 By::Certificate(Certified::new(chain, None))
             }
-            _ => By::Believed,
+            _ => By::Believed(self.hosts.clone()),
         };
         Who { by, peer }
     }

@@ -1,10 +1,13 @@
 //! Who a sender is: by the certificate that it shows, else by its token, else by its own word (`who`). `tokens` is the
-//! file that says which tokens there are, and who may use the names of others. `door` has all of it for the addresses.
+//! file that says which tokens there are, and who may use the names of others. Where its own word is enough, `allowed_hosts`
+//! keeps web pages out. `door` has all of it for the addresses.
 
+mod allowed_hosts;
 mod door;
 mod tokens;
 mod who;
 
+pub use allowed_hosts::AllowedHosts;
 pub use door::{operators, Door};
 pub use tokens::{line, Sender, Tokens};
 pub use who::{by_token, Who};
@@ -31,6 +34,11 @@ pub enum Stranger {
          `{name}/{other} certificate`"
     )]
     OtherName { name: String, other: String },
+    #[error(
+        "another host: `{host}` is no name of this address: post to an IP address, localhost or the host of --listen, or allow \
+         the name by --allowed-hosts"
+    )]
+    OtherHost { host: String },
     /// The other name is somebody's token, which is shown nowhere.
     #[error("{name} {MAY_NOT} a token: leave x-sender out")]
     TokenAsName { name: String },
@@ -49,7 +57,7 @@ impl Stranger {
     /// That of HTTP.
     pub fn status(&self) -> u16 {
         match self {
-            Stranger::OtherName { .. } | Stranger::TokenAsName { .. } => 403,
+            Stranger::OtherName { .. } | Stranger::OtherHost { .. } | Stranger::TokenAsName { .. } => 403,
             _ => 401,
         }
     }

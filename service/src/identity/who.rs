@@ -1,6 +1,6 @@
 //! Who the sender of a connection is, and of each of its requests.
 
-use super::{Sender, Stranger, Tokens};
+use super::{AllowedHosts, Sender, Stranger, Tokens};
 use crate::otlp::{self, NO_NAME};
 use crate::reloaded::Reloaded;
 use crate::tls::ClientChain;
@@ -15,8 +15,8 @@ pub struct Who {
 
 /// By what the requests of a connection are named.
 pub enum By {
-    /// By their own word.
-    Believed,
+    /// By their own word, if they name one of these hosts.
+    Believed(Option<Arc<AllowedHosts>>),
     /// By the token of each.
     Token(Arc<Reloaded<Tokens>>),
     /// By the certificate that the connection has shown.
@@ -32,10 +32,18 @@ pub enum Proved {
 }
 
 impl Who {
+    /// Refuses a request that names a host which is not allowed.
+    pub fn check_hosts<'h>(&self, named: impl Iterator<Item = &'h [u8]>) -> Result<(), Stranger> {
+        match &self.by {
+            By::Believed(Some(hosts)) => hosts.check(named),
+            _ => Ok(()),
+        }
+    }
+
     /// Whose a request is that has these values of the header `Authorization`.
     pub fn proved<'h>(&self, authorization: impl Iterator<Item = &'h [u8]>) -> Result<Proved, Stranger> {
         match &self.by {
-            By::Believed => Ok(Proved::Anybody),
+            By::Believed(_) => Ok(Proved::Anybody),
             By::Token(tokens) => by_token(&tokens.now(), authorization).map(Proved::Sender),
             By::Certificate(certified) => certified.sender().map(Proved::Sender),
         }
@@ -45,7 +53,7 @@ impl Who {
     /// the address that it came from, which is no sender's name.
     pub fn unnamed(&self) -> String {
         let certified = match &self.by {
-            By::Believed => return NO_NAME.into(),
+            By::Believed(_) => return NO_NAME.into(),
             By::Token(_) => None,
             By::Certificate(certified) => certified.sender.as_ref(),
         };
@@ -59,7 +67,7 @@ impl Who {
     /// The same refusal without a token in it: some senders give theirs as their name.
     pub fn without_token(&self, stranger: Stranger) -> Stranger {
         let tokens = match &self.by {
-            By::Believed => None,
+            By::Believed(_) => None,
             By::Token(tokens) => Some(tokens),
             By::Certificate(certified) => certified.tokens.as_ref(),
         };

@@ -79,8 +79,13 @@ pub fn read(input: &[u8], who: &Who) -> Result<Option<(usize, Asked)>, Refusal> 
 }
 
 impl Head {
-    /// Looks at a head in order: the path, the method, the sender, the content.
+    /// Looks at a head in order: the host, the path, the method, the sender, the content.
     fn read(request: &Request, who: &Who) -> Result<Head, Turned> {
+        let target = request.path.filter(|target| !target.starts_with('/'));
+        let target = target.and_then(|target| target.parse::<hyper::Uri>().ok());
+        let named_twice = target.as_ref().and_then(|target| Some(target.authority()?.as_str().as_bytes()));
+        let looked = who.check_hosts(named(request.headers, "host").chain(named_twice));
+        looked.map_err(|stranger| Turned { sender: who.unnamed(), refusal: stranger.into() })?;
         if !request.path.is_some_and(is_of_metrics) {
             return Err(Turned { sender: who.unnamed(), refusal: Refusal::NoSuchPath });
         }

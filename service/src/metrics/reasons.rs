@@ -7,7 +7,7 @@ use crate::otlp::Outcome;
 const UNREADABLE: &str = "unreadable";
 
 /// What an answer's text begins with, and what is to be done.
-const REASONS: [(&str, &str); 42] = [
+const REASONS: [(&str, &str); 43] = [
     (
         "out of order",
         "right for a repeat: it was taken before. If each post of a sender gets it, its clock was set back, or it sends a series twice",
@@ -48,6 +48,10 @@ const REASONS: [(&str, &str); 42] = [
     (
         OTHER_NAME,
         "the sender leaves x-sender out, or a line NAME/OTHER of --tokens allows it",
+    ),
+    (
+        "another host",
+        "a web page, by a name that it made to mean this machine; or senders name it otherwise: --allowed-hosts NAME",
     ),
     (
         "no sender",
@@ -227,6 +231,7 @@ mod tests {
             Stranger::WrongToken,
             Stranger::NotBelieved,
             Stranger::Nameless,
+            Stranger::OtherHost { host: "evil.example".into() },
             other("shop-1"),
         ];
         let texts = of_book.iter().map(ToString::to_string);

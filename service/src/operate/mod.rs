@@ -34,6 +34,7 @@ pub use status::{
 pub use tcp::AtTcp;
 pub use totals::Totals;
 pub use units::{Undelivered, Unit, Units};
+pub(crate) use web::is_ours;
 
 use crate::intake::connections::Handler;
 use crate::intake::user::User;

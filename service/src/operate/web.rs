@@ -49,7 +49,7 @@ fn of_a_page(headers: &HeaderMap, sites: &[&[u8]]) -> Option<String> {
 }
 
 /// Whether a host, with or without its port, is an IP address, a name of the loopback, or what is listened on.
-fn is_ours(host: &str, ours: &str) -> bool {
+pub fn is_ours(host: &str, ours: &str) -> bool {
     let name = without_port(host);
     let is_name = |other: &str| name.eq_ignore_ascii_case(other);
     let address = name.strip_prefix('[').and_then(|name| name.strip_suffix(']'));

@@ -74,6 +74,7 @@ fn help_names_each_command_and_option() {
         "listen",
         "operate",
         "operate-tokens",
+        "allowed-hosts",
         "sender-series",
         "sender-points",
         "store",

@@ -6,6 +6,8 @@ use std::path::Path;
 use std::sync::Arc;
 use std::time::{Duration, Instant};
 use tokio::io::{AsyncRead, AsyncWrite};
+use totxegun::identity::{AllowedHosts, Door};
+use totxegun::metrics::Metrics;
 
 /// By `printf t0ken-N | sha256sum`.
 const OF_1: &str = "sha256:8380bfcbf4fc84857bd24cfcd1f2632ffb6185c54aaf33d2d2ad4fb2468b7611";
@@ -118,6 +120,46 @@ async fn a_certificate_names_its_sender() {
     assert_eq!(asked(&mut without, "").await.status, 401);
     assert_eq!(asked(&mut without, "Authorization: Bearer t0ken-2\r\n").await.status, 200);
     assert_eq!(senders(&served), ["shop-1", "shop-1", "shop-1", "shop-7", "shop-2"]);
+}
+
+/// Else a web page whose own name is made to mean this machine has a browser post under any name.
+#[tokio::test]
+async fn who_proves_nothing_posts_to_a_name_of_ours() {
+    let hosts = || AllowedHosts::new(["box-1:4318".to_string(), "totxegun".to_string()]);
+    let request = |target: &str, host: &str, more: &str| {
+        let length = BODY.len();
+        format!("POST {target} HTTP/1.1\r\nHost: {host}\r\n{more}Content-Type: application/json\r\nContent-Length: {length}\r\n\r\n{BODY}")
+    };
+    let served = Served::behind(Door::default().with_allowed_hosts(hosts())).await;
+    let mut kept = served.client().await;
+    for (target, host, status) in [
+        ("/v1/metrics", "127.0.0.1:4318", 200),
+        ("/v1/metrics", "localhost:4318", 200),
+        ("/v1/metrics", "Box-1", 200),
+        ("/v1/metrics", "totxegun:4318", 200),
+        ("http://totxegun/v1/metrics", "totxegun", 200),
+        ("/v1/metrics", "evil.example:4318", 403),
+        ("http://evil.example/v1/metrics", "totxegun", 403),
+    ] {
+        kept.write(request(target, host, "").as_bytes()).await;
+        let answer = kept.answer().await;
+        assert_eq!(answer.status, status, "{target} {host}");
+        let names_it = answer.message().starts_with("another host: `evil.example");
+        assert!(
+            status == 200 || names_it && answer.message().contains("--allowed-hosts"),
+            "{}",
+            answer.message()
+        );
+    }
+    // A page knows no token.
+    let at = folder();
+    tokens(at.path(), &format!("shop-1 {OF_1}\n"));
+    let metrics = Arc::new(Metrics::new().unwrap());
+    let door =
+        Door::open(None, Some(at.path().join("tokens")), &metrics).unwrap().with_allowed_hosts(hosts());
+    let served = Served::behind(door).await;
+    let by_token = request("/v1/metrics", "evil.example", "Authorization: Bearer t0ken-1\r\n");
+    assert_eq!(served.ask(by_token.as_bytes()).await.status, 200);
 }
 
 /// Its lines say what those may have who show one: nobody needs a token.
