@@ -12,6 +12,7 @@ mod named;
 mod orders;
 mod pages;
 mod periods;
+mod query;
 mod reach;
 mod status;
 mod tcp;
@@ -47,6 +48,7 @@ use hyper::header::{HeaderValue, ALLOW, CONTENT_TYPE};
 use hyper::{Body, Method, Request, Response, StatusCode};
 use pages::Page;
 use percent_encoding::percent_decode_str;
+use query::Query;
 use reach::{Answer, Command};
 use std::sync::Arc;
 use std::time::Instant;
@@ -107,8 +109,8 @@ impl Route {
         let parts: Vec<&str> = path.strip_prefix('/')?.split('/').collect();
         Some(match parts[..] {
             ["flush" | "checkpoint"] => (Method::POST, Route::Order(Command::Flush)),
-            ["quarantine", sender] => (Method::POST, Route::Order(Command::Quarantine(sender.into()))),
-            ["lift", sender] => (Method::POST, Route::Order(Command::Lift(sender.into()))),
+            ["quarantine", sender] => (Method::POST, Route::Order(Command::Quarantine(decoded(sender)))),
+            ["lift", sender] => (Method::POST, Route::Order(Command::Lift(decoded(sender)))),
             ["report"] => (Method::GET, Route::Report),
             ["metrics"] => (Method::GET, Route::Metrics),
             ["totals"] => (Method::GET, Route::Totals),
@@ -116,11 +118,11 @@ impl Route {
             ["ready"] => (Method::GET, Route::Ready),
             ["status"] => (Method::GET, Route::Status),
             ["dead"] => (Method::GET, Route::Letters),
-            ["dead", key] => (Method::GET, Route::Order(Command::Letter(key.into()))),
-            ["dead", key, "resend"] => (Method::POST, Route::Order(Command::Resend(key.into()))),
-            ["dead", key, "drop"] => (Method::POST, Route::Order(Command::Drop(key.into()))),
-            ["close" | "open" | "correct", _, ..] => (Method::POST, Route::Period(owned(&parts))),
-            ["repair", _] | ["forget"] => (Method::POST, Route::Amend(owned(&parts))),
+            ["dead", key] => (Method::GET, Route::Order(Command::Letter(decoded(key)))),
+            ["dead", key, "resend"] => (Method::POST, Route::Order(Command::Resend(decoded(key)))),
+            ["dead", key, "drop"] => (Method::POST, Route::Order(Command::Drop(decoded(key)))),
+            ["close" | "open" | "correct", _, ..] => (Method::POST, Route::Period(all_decoded(&parts))),
+            ["repair", _] | ["forget"] => (Method::POST, Route::Amend(all_decoded(&parts))),
             [""] => (Method::GET, Route::Page(Page::Overview)),
             ["series"] => (Method::GET, Route::Page(Page::Series)),
             ["page.css"] => (Method::GET, Route::Page(Page::Style)),
@@ -155,7 +157,7 @@ impl Desk {
             Some((method, route)) if is_met(&method, request.method()) => {
                 match self.stranger(&route, &request) {
                     Some(why) => message(403, &why),
-                    None => self.go(route, actor, request.uri().query().unwrap_or_default()).await,
+                    None => self.go(route, actor, Query(request.uri().query().unwrap_or_default())).await,
                 }
             }
             Some((method, _)) => {
@@ -179,7 +181,7 @@ impl Desk {
         }
     }
 
-    async fn go(self: &Arc<Self>, route: Route, actor: Actor, query: &str) -> Response<Body> {
+    async fn go(self: &Arc<Self>, route: Route, actor: Actor, query: Query<'_>) -> Response<Body> {
         match route {
             Route::Order(order) => {
                 let asked = order.act();
@@ -209,10 +211,13 @@ impl Desk {
     }
 }
 
-/// The parts of a path, which may be percent-encoded.
-fn owned(parts: &[&str]) -> Vec<String> {
-    let decoded = |part: &&str| percent_decode_str(part).decode_utf8_lossy().into_owned();
-    parts.iter().map(decoded).collect()
+/// A part of a path that names something: it may be percent-encoded. What is no text names nothing.
+fn decoded(part: &str) -> String {
+    percent_decode_str(part).decode_utf8_lossy().into_owned()
+}
+
+fn all_decoded(parts: &[&str]) -> Vec<String> {
+    parts.iter().map(|part| decoded(part)).collect()
 }
 
 /// HEAD is answered as GET is (RFC 9110, 9.3.2), but for the body, which hyper leaves out.
@@ -273,10 +278,21 @@ mod tests {
     fn a_path_may_be_percent_encoded() {
         let parts = |path| match Route::of(path).unwrap().1 {
             Route::Period(parts) | Route::Amend(parts) => parts,
+            Route::Order(Command::Quarantine(sender) | Command::Lift(sender)) => vec![sender],
+            Route::Order(Command::Letter(key) | Command::Resend(key) | Command::Drop(key)) => vec![key],
             _ => vec![],
         };
         assert_eq!(parts("/repair/2026-11-05T13%3A30%3A15"), ["repair", "2026-11-05T13:30:15"]);
         assert_eq!(parts("/correct/2/2026-11-05%2013:00/5"), ["correct", "2", "2026-11-05 13:00", "5"]);
+        for path in [
+            "/quarantine/shop%2D1",
+            "/lift/shop%2d1",
+            "/dead/shop%2D1",
+            "/dead/shop%2D1/resend",
+            "/dead/shop%2D1/drop",
+        ] {
+            assert_eq!(parts(path), ["shop-1"], "{path}");
+        }
     }
 
     #[test]

@@ -1,6 +1,7 @@
 //! Periods of the sink are closed and opened, and what it counted is corrected. A close is refused while something waits, and
 //! does not flush by itself: a biller is to know what is not in it.
 
+use super::query::Query;
 use super::reach::Answer;
 use super::status::Status;
 use super::{held, Actor, Asked, Desk};
@@ -13,12 +14,12 @@ pub const ANYWAY: &str = "anyway";
 pub const FLUSHED: &str = "flush";
 
 impl Desk {
-    pub(super) async fn period(self: &Arc<Self>, actor: Actor, parts: &[String], query: &str) -> Answer {
+    pub(super) async fn period(self: &Arc<Self>, actor: Actor, parts: &[String], query: Query<'_>) -> Answer {
         let (asked, deed) = match read(parts, query) {
             Ok(read) => read,
             Err(why) => return Answer::told(400, &why),
         };
-        let is_closed = |by: &str| matches!(deed, Deed::Close(_)) && query == by;
+        let is_closed = |by: &str| matches!(deed, Deed::Close(_)) && query.has(by);
         let (anyway, flushed) = (is_closed(ANYWAY), is_closed(FLUSHED));
         let asked = asked.with("--anyway", anyway).with("--flush", flushed);
         let doing = |who| self.settle(who, deed, anyway || flushed);
@@ -75,7 +76,7 @@ fn kept_back(status: &Status) -> String {
 }
 
 /// What is asked for, and as it is written down.
-fn read(parts: &[String], query: &str) -> Result<(Asked, Deed), String> {
+fn read(parts: &[String], query: Query<'_>) -> Result<(Asked, Deed), String> {
     let parts: Vec<&str> = parts.iter().map(String::as_str).collect();
     match parts[..] {
         ["close", period] => Ok((Asked::new("close", period), Deed::Close(period.parse()?))),
@@ -89,19 +90,16 @@ fn read(parts: &[String], query: &str) -> Result<(Asked, Deed), String> {
     }
 }
 
-fn correction(series: &str, hour: &str, value: &str, query: &str) -> Result<Correction, String> {
+fn correction(series: &str, hour: &str, value: &str, query: Query<'_>) -> Result<Correction, String> {
     let number = |what: &str, text: &str| {
         let number = text.parse::<i64>();
         number.map_err(|_| format!("the {what} `{text}` is no whole number of 64 bits"))
     };
-    let reason = query.strip_prefix("reason=").unwrap_or_default();
-    let reason = percent_encoding::percent_decode_str(reason).decode_utf8();
-    let reason = reason.map_err(|_| "the reason is no text in UTF-8".to_string())?;
     let correction = Correction {
         series: number("series", series)?,
         hour: hour.parse()?,
         value: number("value", value)?,
-        reason: reason.trim().into(),
+        reason: query.value("reason")?.trim().into(),
     };
     correction.check()?;
     Ok(correction)
@@ -114,19 +112,23 @@ mod tests {
 
     fn of(path: &str, query: &str) -> Result<Deed, String> {
         let parts: Vec<String> = path.split('/').map(String::from).collect();
-        read(&parts, query).map(|(_, deed)| deed)
+        read(&parts, Query(query)).map(|(_, deed)| deed)
     }
 
     #[test]
     fn what_is_asked_for_is_read() {
         let hour = "2026-11-05T13".parse().unwrap();
         let reason = "counted twice, by hand".to_string();
+        let correction = Deed::Correct(Correction { series: 7, hour, value: -250, reason });
         assert_eq!(of("close/2026-11", ANYWAY), Ok(Deed::Close("2026-11".parse().unwrap())));
         assert_eq!(of("open/2026-11-05", ""), Ok(Deed::Open("2026-11-05".parse().unwrap())));
-        assert_eq!(
-            of("correct/7/2026-11-05T13/-250", "reason=counted%20twice%2C%20by%20hand"),
-            Ok(Deed::Correct(Correction { series: 7, hour, value: -250, reason }))
-        );
+        for query in [
+            "reason=counted%20twice%2C%20by%20hand",
+            "by=ann&reason=counted+twice%2C+by+hand",
+            "reason=counted%20twice,%20by%20hand&by=ann",
+        ] {
+            assert_eq!(of("correct/7/2026-11-05T13/-250", query), Ok(correction.clone()), "{query}");
+        }
     }
 
     #[test]
@@ -143,6 +145,7 @@ mod tests {
             ("correct/7/2026-11-05T13/1", "reason=%20", "reason"),
             ("correct/7/2026-11-05T13/1", "reason=a%00b", "reason"),
             ("correct/7/2026-11-05T13/1", "reason=%ff", "UTF-8"),
+            ("correct/7/2026-11-05T13/1", "a=reason=x", "reason"),
             ("correct/7/2026-11-05T13/1", &long, "1000 bytes"),
         ] {
             let why = of(path, query).expect_err(path);

@@ -6,6 +6,7 @@ mod sought;
 pub(super) use sought::Sought;
 
 use super::named::named;
+use super::query::Query;
 use super::reach::{slots_shown, Answer, Command};
 use super::{Actor, Desk, ANYWAY};
 use crate::log::{since_1970, utc};
@@ -24,7 +25,7 @@ const NAMED: usize = 5;
 const HOURS: usize = 5;
 
 impl Desk {
-    pub(super) async fn amend(self: &Arc<Self>, actor: Actor, parts: &[String], query: &str) -> Answer {
+    pub(super) async fn amend(self: &Arc<Self>, actor: Actor, parts: &[String], query: Query<'_>) -> Answer {
         let sought = match read(parts, query) {
             Ok(read) => read,
             Err(why) => return Answer::told(400, &why),
@@ -121,7 +122,7 @@ fn in_hours(hours: &[Hour]) -> String {
 }
 
 /// What is asked for.
-fn read(parts: &[String], query: &str) -> Result<Sought, String> {
+fn read(parts: &[String], query: Query<'_>) -> Result<Sought, String> {
     let to = match parts.iter().map(String::as_str).collect::<Vec<_>>()[..] {
         ["forget"] => None,
         ["repair", to] => {
@@ -132,20 +133,9 @@ fn read(parts: &[String], query: &str) -> Result<Sought, String> {
         }
         _ => return Err("this takes /repair/TIME?series=NAME and /forget?series=NAME".into()),
     };
-    let (mut written, mut all, mut anyway) = (String::new(), false, false);
-    for pair in query.split('&') {
-        match pair.split_once('=').unwrap_or((pair, "")) {
-            ("series", name) => {
-                let name = percent_encoding::percent_decode_str(name).decode_utf8();
-                written = name.map_err(|_| "the name is no text in UTF-8")?.into();
-            }
-            ("all", _) => all = true,
-            (ANYWAY, _) => anyway = true,
-            _ => {}
-        }
-    }
-    let mut sought = Sought::new(written, to, all, since_1970().as_nanos() as u64)?;
-    sought.anyway = anyway;
+    let (written, now) = (query.value("series")?, since_1970().as_nanos() as u64);
+    let mut sought = Sought::new(written, to, query.has("all"), now)?;
+    sought.anyway = query.has(ANYWAY);
     Ok(sought)
 }
 
@@ -162,7 +152,7 @@ mod tests {
     fn what_is_asked_for_is_read() {
         let asked = |path: &str, query: &str| {
             let parts: Vec<String> = path.split('/').map(String::from).collect();
-            read(&parts, query)
+            read(&parts, Query(query))
         };
         let one = asked("repair/2026-11-27T12:00:00", "series=a%7Bshop%3Ds1%7D&all").unwrap();
         let noon = 1_795_780_800 * SECOND;

@@ -13,6 +13,7 @@ mod series;
 
 pub use pulse::Pulse;
 
+use super::query::Query;
 use super::status::Status;
 use super::{reply, Desk};
 use crate::command::values::seconds_shown;
@@ -49,7 +50,7 @@ pub enum Page {
 
 impl Desk {
     /// `query` is what stands behind the path.
-    pub(super) async fn page(self: &Arc<Self>, page: Page, query: &str) -> Response<Body> {
+    pub(super) async fn page(self: &Arc<Self>, page: Page, query: Query<'_>) -> Response<Body> {
         let mut response = match page {
             Page::Overview | Page::Levels => {
                 let status = self.status_of_all().await;

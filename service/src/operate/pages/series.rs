@@ -4,6 +4,7 @@ use super::html::{grouped, Cell, Html};
 use super::plot::{bars, Bar};
 use super::{frame, Desk, Page};
 use crate::log::{seconds, utc};
+use crate::operate::query::Query;
 use crate::operate::totals::{identity, Totals};
 use crate::sinks::sqlite::by_hour::Hour;
 use crate::sinks::sqlite::totals::{text, Histogram, Kind, SeriesTotal};
@@ -27,7 +28,7 @@ struct Wanted {
 }
 
 impl Desk {
-    pub(super) async fn series_page(&self, query: &str) -> String {
+    pub(super) async fn series_page(&self, query: Query<'_>) -> String {
         let wanted = Wanted::of(query);
         let status = self.status();
         let mut html = Html::default();
@@ -63,20 +64,11 @@ struct FoundRows {
 }
 
 impl Wanted {
-    fn of(query: &str) -> Wanted {
-        let mut wanted = Wanted::default();
-        for pair in query.split('&') {
-            let (key, value) = pair.split_once('=').unwrap_or((pair, ""));
-            let value = value.replace('+', " ");
-            let value = percent_encoding::percent_decode_str(&value).decode_utf8_lossy();
-            match key {
-                "name" => wanted.name = value.trim().to_string(),
-                "attribute" => wanted.attribute = value.trim().to_string(),
-                "id" => wanted.id = value.into_owned(),
-                _ => {}
-            }
-        }
-        wanted
+    /// What is no text is part of no name.
+    fn of(query: Query<'_>) -> Wanted {
+        let value = |key: &str| query.value(key).unwrap_or_else(|_| char::REPLACEMENT_CHARACTER.into());
+        let trimmed = |key: &str| value(key).trim().to_string();
+        Wanted { name: trimmed("name"), attribute: trimmed("attribute"), id: value("id") }
     }
 
     fn found(self, series: Vec<SeriesTotal>) -> FoundRows {
@@ -252,7 +244,7 @@ mod tests {
             series("orders.value", json!({"route": "/c&d"})),
             series("Requests", json!({"<b>": "\"'"})),
         ];
-        let found = Wanted::of(query).found(all);
+        let found = Wanted::of(Query(query)).found(all);
         assert_eq!((found.count, found.of), (found.rows.len(), 3));
         found.rows.into_iter().map(|row| row.name).collect()
     }
@@ -277,7 +269,7 @@ mod tests {
         let sum = SeriesTotal { kind: Kind::Sum, total: Exact(-5), ..counter.clone() };
         for wanted in [&counter, &sum] {
             let query = format!("id={}", identity(wanted));
-            let found = Wanted::of(&query).found(vec![counter.clone(), sum.clone()]);
+            let found = Wanted::of(Query(&query)).found(vec![counter.clone(), sum.clone()]);
             assert_eq!(found.one(), Some(wanted));
         }
     }
@@ -304,7 +296,7 @@ mod tests {
         (made.unit, made.scope_name) = (hostile.into(), hostile.into());
         made.resource = made.attributes.clone();
         let mut html = Html::default();
-        form(&mut html, &Wanted::of("name=%22%3E%3Cscript%3E&attribute=%27%3Cscript%3E"));
+        form(&mut html, &Wanted::of(Query("name=%22%3E%3Cscript%3E&attribute=%27%3Cscript%3E")));
         one(&mut html, &made);
         let found = Wanted::default().found(vec![made]);
         found.write(&mut html);
