@@ -152,7 +152,7 @@ def shows(checks: Checks, both: Both, first: Service, second: Service) -> None:
     checks.true("the page has it", b"<h2>Instances</h2>" in page and b"<h2>Slots</h2>" in page, page[-2000:])
 
     def reported() -> int:
-        return sum(line.startswith("series") for line in ask(second.operate, "GET", "/report")[1].decode().splitlines())
+        return sum(line.startswith("series") for line in second.asked("GET", "/report")[1].decode().splitlines())
 
     checks.true("a report is of all slots", wait_until(lambda: reported() == PROCESSES), reported())
     _, metrics = ask(first.operate, "GET", "/metrics")

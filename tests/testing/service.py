@@ -115,7 +115,7 @@ class Service:
 
     def asked(self, method: str, path: str, seconds: float = 20) -> Answer:
         """What the operators' addresses answer, of which the socket takes orders. 0.5.0 has none."""
-        is_order = method == "POST" or path.startswith("/dead")
+        is_order = method == "POST" or path.startswith(("/dead", "/report"))
         at: int | str = self.socket if is_order and os.path.exists(self.socket) else self.operate
         return ask(at, method, path, seconds=seconds, host=self.host)
 

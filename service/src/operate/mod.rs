@@ -131,11 +131,24 @@ impl Route {
         })
     }
 
-    /// Whether it changes something, or shows what senders have sent.
-    fn is_order(&self) -> bool {
-        use Route::*;
-        matches!(self, Order(_) | Letters | Period(_) | Amend(_))
+    /// Who may ask for it over TCP.
+    fn over_tcp(&self) -> OverTcp {
+        match self {
+            Route::Order(_) | Route::Letters | Route::Period(_) | Route::Amend(_) => OverTcp::Operators,
+            Route::Report => OverTcp::Nobody,
+            _ => OverTcp::All,
+        }
     }
+}
+
+/// Who may ask for a route over TCP. At the socket all routes are for whoever may connect.
+#[derive(Clone, Copy, Debug, PartialEq, Eq)]
+enum OverTcp {
+    All,
+    /// Who has a token: it changes something, or shows what senders have sent.
+    Operators,
+    /// It holds posts up while it is made.
+    Nobody,
 }
 
 impl Handler for Desk {
@@ -243,13 +256,13 @@ mod tests {
     /// Orders, and what shows bodies, are taken at the socket, or with a token.
     #[test]
     fn each_path_has_one_method() {
-        let (order, read) = (true, false);
-        for (path, method, is_order) in [
+        let (read, order, local) = (OverTcp::All, OverTcp::Operators, OverTcp::Nobody);
+        for (path, method, over_tcp) in [
             ("/flush", Method::POST, order),
             ("/checkpoint", Method::POST, order),
             ("/quarantine/A", Method::POST, order),
             ("/lift/A", Method::POST, order),
-            ("/report", Method::GET, read),
+            ("/report", Method::GET, local),
             ("/metrics", Method::GET, read),
             ("/totals", Method::GET, read),
             ("/health", Method::GET, read),
@@ -269,8 +282,8 @@ mod tests {
             ("/page.css", Method::GET, read),
             ("/page.js", Method::GET, read),
         ] {
-            let found = Route::of(path).map(|(method, route)| (method, route.is_order()));
-            assert_eq!(found, Some((method, is_order)), "{path}");
+            let found = Route::of(path).map(|(method, route)| (method, route.over_tcp()));
+            assert_eq!(found, Some((method, over_tcp)), "{path}");
         }
     }
 

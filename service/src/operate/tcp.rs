@@ -1,7 +1,7 @@
 //! The operators' address of TCP, which any program of the machine reaches, and a page in a browser: it is read by all, and
-//! takes orders from who has a token. Of a socket the kernel says who connects.
+//! takes orders from who has a token. What holds posts up is for nobody there. Of a socket the kernel says who connects.
 
-use super::{is_met, message, Actor, Desk, Page, Route};
+use super::{is_met, message, Actor, Desk, OverTcp, Page, Route};
 use crate::identity::{by_token, Tokens};
 use crate::intake::connections::Handler;
 use crate::reloaded::Reloaded;
@@ -21,7 +21,7 @@ impl Handler for AtTcp {
         let mut route = Route::of(request.uri().path());
         let mut actor = Actor::User(None);
         match &mut route {
-            Some((method, route)) if route.is_order() && is_met(method, request.method()) => {
+            Some((method, route)) if route.over_tcp() != OverTcp::All && is_met(method, request.method()) => {
                 match self.operator(route, &request) {
                     Ok(name) => actor = Actor::Named(name),
                     Err(refused) => return *refused,
@@ -40,6 +40,12 @@ impl AtTcp {
         let never = |why: &str| Err(Box::new(message(403, why)));
         if let Some(why) = self.desk.stranger(route, request) {
             return never(&why);
+        }
+        if route.over_tcp() == OverTcp::Nobody {
+            let place = &self.orders_at;
+            return never(&format!(
+                "this is asked for at {place} alone, since it holds posts up while it is made"
+            ));
         }
         let Some(tokens) = &self.tokens else {
             return never(&format!(

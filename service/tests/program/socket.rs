@@ -52,7 +52,7 @@ fn orders_are_taken_at_the_socket_alone() {
         assert!(is_refused, "{path}: {answer}");
     }
     assert_eq!(place.totals_if_any().len(), 0, "nothing was flushed");
-    for path in ["/metrics", "/totals", "/health", "/ready", "/status", "/report"] {
+    for path in ["/metrics", "/totals", "/health", "/ready", "/status"] {
         assert_eq!(service.asked_for(path).unwrap().0, 200, "{path}");
     }
     for (words, said) in [
@@ -66,6 +66,29 @@ fn orders_are_taken_at_the_socket_alone() {
     }
     until("it is delivered", || place.totals_if_any().get("a") == Some(&1));
     assert!(place.log().contains(&format!("order at unix:{}", socket.display())));
+    assert_eq!(service.end(), Some(0));
+}
+
+/// It is made under the lock that posts wait for: whoever may only read could stop them.
+#[test]
+fn the_report_is_at_the_socket_alone() {
+    let place = Place::new();
+    let made = Command::new(PROGRAM).args(["token", "ann"]).output().unwrap();
+    let token = String::from_utf8(made.stderr).unwrap().lines().last().unwrap().to_string();
+    let operators = place.folder.path().join("operators");
+    std::fs::write(&operators, &made.stdout).unwrap();
+    let operators = operators.display().to_string();
+    let service = place.serve_with(&["--sink", &place.sink(), "--operate-tokens", &operators]);
+    for header in ["x: y", &format!("Authorization: Bearer {token}")] {
+        let mut command = Command::new("curl");
+        let output =
+            command.args(["-sS", "-i", "-H", header]).arg(format!("http://{}/report", service.operate));
+        let answer = text(&output.output().unwrap());
+        let place = service.socket().display().to_string();
+        assert!(answer.starts_with("HTTP/1.1 403") && answer.contains(&place), "{answer}");
+    }
+    let (status, report) = service.at_socket("GET", "/report").unwrap();
+    assert!(status == 200 && report.ends_with("end\n"), "{status} {report}");
     assert_eq!(service.end(), Some(0));
 }
 

@@ -27,7 +27,7 @@ fn an_operator_sees_the_books() {
     let place = Place::new();
     let service = place.serve();
     assert_eq!(service.post("A", &points(&["a", "b"], 100, 5)).unwrap().0, 200);
-    let (status, report) = service.asked_for("/report").unwrap();
+    let (status, report) = service.at_socket("GET", "/report").unwrap();
     assert_eq!((status, report.matches("owner A frontier 100").count()), (200, 2), "{report}");
     assert!(report.ends_with("end\n") && report.matches("end\n").count() == 1, "{report}");
     assert_eq!(service.order("/renew").0, 404);
