@@ -98,7 +98,7 @@ impl Service {
         }
         let (status, page) = asked(&self.operate, "GET", "/totals", "").unwrap();
         assert_eq!(status, 200, "{page}");
-        let line = page.lines().find(|line| line.starts_with("orders_total "));
+        let line = page.lines().find(|line| line.starts_with("orders_total{"));
         let found = line.unwrap().rsplit(' ').next().unwrap().to_string();
         let shown = self.told(&["totals", "--json"]);
         let shown: serde_json::Value = serde_json::from_slice(&shown.stdout).unwrap();

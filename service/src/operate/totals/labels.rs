@@ -1,8 +1,10 @@
-//! The labels of a series, and of the resource that it is of.
+//! The labels of a series, and of the resource that it is of. A series keeps its labels, whatever other series there are: to
+//! Prometheus one with a further label is another series.
 
 use super::names;
 use crate::sinks::sqlite::totals::{text, SeriesTotal};
-use serde_json::{Map, Value};
+use serde_json::{json, Map, Value};
+use sha2::{Digest, Sha256};
 use std::collections::BTreeMap;
 use std::fmt::Write;
 
@@ -11,10 +13,12 @@ pub type Labels = BTreeMap<String, String>;
 /// What the page itself says of a series. An attribute of such a name is shown as `exported_NAME`.
 const OURS: [&str; 7] = ["job", "instance", "le", "otel_scope_name", "otel_scope_version", METRIC, SERIES];
 
-/// Which metric it is, where several come to one name.
-pub const METRIC: &str = "otel_metric_name";
-/// Which series it is, where several come to the same labels.
-pub const SERIES: &str = "otel_series";
+/// Which metric it is: names of several may come to one.
+const METRIC: &str = "otel_metric_name";
+/// Which series it is: attributes of several may come to the same labels.
+const SERIES: &str = "otel_series";
+/// Of the digest, in bytes: nobody finds two series of one such.
+const IDENTITY: usize = 16;
 
 const NAMESPACE: &str = "service.namespace";
 const NAME: &str = "service.name";
@@ -27,8 +31,27 @@ pub fn of_series(series: &SeriesTotal) -> Labels {
     labels.insert("otel_scope_name".into(), series.scope_name.clone());
     labels.insert("otel_scope_version".into(), series.scope_version.clone());
     identify(&mut labels, &series.resource);
+    labels.insert(METRIC.into(), series.name.clone());
+    labels.insert(SERIES.into(), identity(series));
     labels.retain(|_, value| !value.is_empty()); // to Prometheus, one without a value is not there
     labels
+}
+
+/// A digest of all that makes it a series of its own, in hexadecimal.
+pub fn identity(series: &SeriesTotal) -> String {
+    let all = json!([
+        series.name,
+        series.unit,
+        series.kind.name(),
+        series.attributes,
+        series.resource,
+        series.scope_name,
+        series.scope_version,
+        series.scope_attributes,
+        series.histogram.as_ref().map(|histogram| &histogram.bounds),
+    ]);
+    let digest = Sha256::digest(all.to_string().as_bytes());
+    digest[..IDENTITY].iter().map(|byte| format!("{byte:02x}")).collect()
 }
 
 /// Of `target_info`. None where a resource is nothing but a job and an instance.

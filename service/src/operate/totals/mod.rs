@@ -8,7 +8,7 @@ mod page;
 #[cfg(test)]
 pub(super) mod tests;
 
-pub(super) use page::identity;
+pub(super) use labels::identity;
 
 use super::{message, reply, Desk, PROMETHEUS};
 use crate::sinks::postgres::{self, Server};

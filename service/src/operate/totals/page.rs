@@ -3,7 +3,7 @@
 use super::labels::{self, Labels};
 use super::names;
 use crate::sinks::sqlite::totals::{Histogram, Kind, SeriesTotal};
-use std::collections::{BTreeMap, BTreeSet, HashMap, HashSet};
+use std::collections::{BTreeMap, BTreeSet, HashSet};
 use std::fmt::Write;
 
 const TARGET: &str = "target_info";
@@ -59,11 +59,11 @@ fn family(page: &mut String, name: &str, kind: Kind, series: &[&SeriesTotal]) {
     let sources: BTreeSet<(&str, &str)> =
         series.iter().map(|one| (one.name.as_str(), one.unit.as_str())).collect();
     head(page, name, kind, &sources);
-    let is_mixed = sources.iter().map(|(name, _)| name).collect::<BTreeSet<_>>().len() > 1;
-    for (series, labels) in series.iter().zip(distinct(series, is_mixed)) {
-        match &series.histogram {
-            Some(histogram) => buckets(page, name, &labels, series, histogram),
-            None => line(page, name, &labels::written(&labels, None), series.total),
+    for one in series {
+        let labels = labels::of_series(one);
+        match &one.histogram {
+            Some(histogram) => buckets(page, name, &labels, one, histogram),
+            None => line(page, name, &labels::written(&labels, None), one.total),
         }
     }
 }
@@ -80,49 +80,6 @@ fn head(page: &mut String, name: &str, kind: Kind, sources: &BTreeSet<(&str, &st
     let kind = text(kind);
     let _ = writeln!(page, "# HELP {name} OpenTelemetry: {help}"); // a text takes all
     let _ = writeln!(page, "# TYPE {name} {kind}"); // a text takes all
-}
-
-/// The labels of each series. Those that come to the same are told apart by what names them for good.
-fn distinct(series: &[&SeriesTotal], is_mixed: bool) -> Vec<Labels> {
-    let mut all: Vec<Labels> = series.iter().map(|one| labels::of_series(one)).collect();
-    if is_mixed {
-        for (labels, one) in all.iter_mut().zip(series) {
-            labels.insert(labels::METRIC.into(), one.name.clone());
-        }
-    }
-    let mut times: HashMap<String, u32> = HashMap::new();
-    let written: Vec<String> = all.iter().map(|one| labels::written(one, None)).collect();
-    for one in &written {
-        *times.entry(one.clone()).or_default() += 1;
-    }
-    for ((labels, one), written) in all.iter_mut().zip(series).zip(&written) {
-        if times.get(written).is_some_and(|times| *times > 1) {
-            labels.insert(labels::SERIES.into(), identity(one));
-        }
-    }
-    all
-}
-
-/// By all that makes it a series of its own, so it is the same at each scrape.
-pub fn identity(series: &SeriesTotal) -> String {
-    let kind = match (&series.histogram, series.kind) {
-        (Some(histogram), _) => serde_json::json!(histogram.bounds),
-        (None, Kind::Sum) => "sum".into(),
-        (None, _) => serde_json::Value::Null,
-    };
-    let all = serde_json::json!([
-        series.name,
-        series.unit,
-        series.attributes,
-        series.resource,
-        series.scope_name,
-        series.scope_version,
-        series.scope_attributes,
-        kind,
-    ])
-    .to_string();
-    let turned: Vec<u8> = all.bytes().rev().collect();
-    format!("{:08x}{:08x}", crc32fast::hash(all.as_bytes()), crc32fast::hash(&turned))
 }
 
 /// A bucket of the page has all that is not over its bound.

@@ -1,5 +1,6 @@
 //! Names, labels and pages; `promtool` looks at one where it is there.
 
+use super::labels::identity;
 use super::names::{label, metric};
 use super::page::page;
 use crate::sinks::sqlite::totals::{Histogram, Kind, SeriesTotal};
@@ -40,9 +41,27 @@ fn histogram(name: &str, bounds: &[i64], buckets: &[i128], points_without_sum: u
 }
 
 /// All lines but the heads.
+fn lines(totals: &[SeriesTotal]) -> Vec<String> {
+    page(totals).lines().filter(|line| !line.starts_with('#')).map(String::from).collect()
+}
+
+/// The same without the labels that say which series it is.
 fn samples(totals: &[SeriesTotal]) -> Vec<String> {
-    let page = page(totals);
-    page.lines().filter(|line| !line.starts_with('#')).map(String::from).collect()
+    let both = |line: String| without(without(line, "otel_metric_name"), "otel_series");
+    lines(totals).into_iter().map(both).collect()
+}
+
+fn without(line: String, label: &str) -> String {
+    let Some((before, rest)) = line.split_once(&format!("{label}=\"")) else {
+        return line;
+    };
+    let (_, behind) = rest.split_once('"').unwrap();
+    let joined = match (before.strip_suffix(','), behind.strip_prefix(',')) {
+        (Some(before), None) => [before, behind].concat(),
+        (_, Some(behind)) => [before, behind].concat(),
+        (None, None) => [before, behind].concat(),
+    };
+    joined.replacen("{}", "", 1)
 }
 
 #[test]
@@ -138,10 +157,11 @@ fn a_resource_is_a_target() {
 
 #[test]
 fn what_comes_to_one_name_is_told_apart() {
-    let mixed = samples(&[
+    let mixed = lines(&[
         series("a.b", "", Kind::Monotonic, 1, json!({})),
         series("a_b", "", Kind::Monotonic, 2, json!({})),
     ]);
+    let mixed: Vec<String> = mixed.into_iter().map(|line| without(line, "otel_series")).collect();
     assert_eq!(mixed, ["a_b_total{otel_metric_name=\"a.b\"} 1", "a_b_total{otel_metric_name=\"a_b\"} 2"]);
     let kinds = samples(&[
         series("a.total", "", Kind::Sum, 1, json!({})),
@@ -172,17 +192,57 @@ fn series_of_the_same_labels_are_told_apart_and_keep_their_names() {
         histogram("w", &[1], &[1, 1], 0),
         histogram("w", &[2], &[1, 1], 0),
     ];
-    let lines = samples(&all);
+    let mut found = lines(&all);
     let names: std::collections::HashSet<&str> =
-        lines.iter().filter_map(|line| Some(line.rsplit_once(' ')?.0)).collect();
-    assert_eq!(names.len(), lines.len(), "{lines:?}");
-    assert!(lines.iter().filter(|line| line.contains("otel_series=")).count() == 3 + 8);
+        found.iter().filter_map(|line| Some(line.rsplit_once(' ')?.0)).collect();
+    assert_eq!(names.len(), found.len(), "{found:?}");
+    assert!(found.iter().filter(|line| line.contains("otel_series=")).count() == 3 + 8);
     let turned: Vec<SeriesTotal> = all.iter().rev().cloned().collect();
-    let mut again = samples(&turned);
-    let mut lines = lines;
+    let mut again = lines(&turned);
     again.sort();
-    lines.sort();
-    assert_eq!(again, lines);
+    found.sort();
+    assert_eq!(again, found);
+}
+
+/// Else a series that others come beside is another one to Prometheus, and its history ends.
+#[test]
+fn a_series_has_the_same_labels_whatever_else_is_there() {
+    let one = || series("a.b", "", Kind::Monotonic, 1, json!({"code": "5"}));
+    let mut others = vec![
+        one(),
+        series("a.b", "{x}", Kind::Monotonic, 2, json!({"code": "5"})),
+        series("a_b", "", Kind::Monotonic, 3, json!({"code": "5"})),
+    ];
+    let alone = lines(&others[..1]);
+    let beside = lines(&others);
+    assert!(beside.contains(&alone[0]), "{alone:?} in {beside:?}");
+    others.swap(0, 2);
+    assert!(lines(&others).contains(&alone[0]));
+}
+
+/// Both have one CRC32, forwards and backwards. A sender that could make two series of one identity would have Prometheus refuse
+/// the whole page.
+#[test]
+fn an_identity_is_a_digest_that_nobody_can_make_meet() {
+    let of_resource = |n: &str| {
+        let resource = object(json!({ "n": n }));
+        SeriesTotal { resource, ..series("a", "", Kind::Monotonic, 1, json!({})) }
+    };
+    let twins = [
+        "0000000000000000000000000000000000000000000000000000000000000000000000",
+        "1110111001000011001101000111111111111111000101100110000100111011100000",
+    ]
+    .map(of_resource);
+    let found = lines(&twins);
+    assert_ne!(found[0], found[1]);
+    // As Python's hashlib has it, of `["a","","monotonic",{"code":5},{},"","",{},null]` and so on.
+    for (code, digest) in [
+        (json!(5), "0ffa9b65a1bc6f4228d7ec3634e2857b"),
+        (json!("5"), "19b69028324f694664dba5f922b87894"),
+        (json!([5]), "666d0a11620ef1cbf3c4b4645436ad62"),
+    ] {
+        assert_eq!(identity(&series("a", "", Kind::Monotonic, 1, json!({ "code": code }))), digest);
+    }
 }
 
 #[test]
