@@ -62,6 +62,19 @@ fn asked(address: &str, method: &str, path: &str, body: &str) -> Option<(u16, St
     Some((head.get(9..12)?.parse().ok()?, body.to_string()))
 }
 
+fn until_it_is_delivered(service: &Service) {
+    let begun = Instant::now();
+    loop {
+        let (_, status) = asked(&service.operate, "GET", "/status", "").unwrap();
+        let status: serde_json::Value = serde_json::from_str(&status).unwrap();
+        if status["slots"][0]["waiting"] == 0 {
+            break;
+        }
+        assert!(begun.elapsed() < Duration::from_secs(60), "{status}");
+        std::thread::sleep(Duration::from_millis(20));
+    }
+}
+
 impl Service {
     fn post(&self, end: u64, value: i64) {
         let start = end - 10;
@@ -86,16 +99,7 @@ impl Service {
 
     /// The page's value, once the sink has all that was forwarded: it is what `totxegun totals` says.
     fn total(&self) -> String {
-        let begun = Instant::now();
-        loop {
-            let (_, status) = asked(&self.operate, "GET", "/status", "").unwrap();
-            let status: serde_json::Value = serde_json::from_str(&status).unwrap();
-            if status["slots"][0]["waiting"] == 0 {
-                break;
-            }
-            assert!(begun.elapsed() < Duration::from_secs(60), "{status}");
-            std::thread::sleep(Duration::from_millis(20));
-        }
+        until_it_is_delivered(self);
         let (status, page) = asked(&self.operate, "GET", "/totals", "").unwrap();
         assert_eq!(status, 200, "{page}");
         let line = page.lines().find(|line| line.starts_with("orders_total{"));
@@ -135,6 +139,40 @@ fn another_sink_has_no_page() {
     let (status, text) = asked(&service.operate, "GET", "/totals", "").unwrap();
     assert_eq!(status, 404);
     assert!(text.contains("only a SQLite or PostgreSQL sink") && text.contains("127.0.0.1:1"), "{text}");
+}
+
+/// What a page is made of is held until it is read. Else as many readers as there may be connections, who read nothing, had as
+/// many pages, until no memory was left for posts.
+#[test]
+fn one_page_of_totals_is_on_its_way_at_a_time() {
+    let folder = tempfile::tempdir().unwrap();
+    let service = serve(&folder.path().join("data"), &[]);
+    let long = "x".repeat(4_000);
+    for first in (0..3_000).step_by(300) {
+        let point = |number: u32| {
+            format!(
+            "{{\"asInt\":\"1\",\"startTimeUnixNano\":\"10\",\"timeUnixNano\":\"20\",\"attributes\":[             {{\"key\":\"n\",\"value\":{{\"stringValue\":\"{number}{long}\"}}}}]}}"
+        )
+        };
+        let points = (first..first + 300).map(point).collect::<Vec<_>>().join(",");
+        let body = format!(
+            "{{\"resourceMetrics\":[{{\"scopeMetrics\":[{{\"metrics\":[{{\"name\":\"orders\",\"sum\":{{             \"aggregationTemporality\":1,\"isMonotonic\":true,\"dataPoints\":[{points}]}}}}]}}]}}]}}"
+        );
+        assert_eq!(asked(&service.listen, "POST", "/v1/metrics", &body), Some((200, "{}".into())));
+    }
+    service.order("flush");
+    until_it_is_delivered(&service);
+    let mut slow = TcpStream::connect(&service.operate).unwrap();
+    write!(slow, "GET /totals HTTP/1.1\r\nHost: 127.0.0.1\r\n\r\n").unwrap();
+    let mut begin = [0; 12];
+    slow.read_exact(&mut begin).unwrap();
+    assert_eq!(&begin, b"HTTP/1.1 200");
+    let (status, text) = asked(&service.operate, "GET", "/totals", "").unwrap();
+    assert!(status == 503 && text.contains("another reader"), "{status} {} bytes", text.len());
+    assert_eq!(asked(&service.operate, "GET", "/ready", "").unwrap().0, 200);
+    drop(slow);
+    let (status, page) = asked(&service.operate, "GET", "/totals", "").unwrap();
+    assert!(status == 200 && page.len() > 3_000 * 4_000, "{status} {} bytes", page.len());
 }
 
 /// As who watches an address asks.

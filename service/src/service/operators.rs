@@ -13,6 +13,9 @@ use std::sync::Arc;
 use tokio::net::{TcpListener, UnixListener};
 use tokio::sync::watch;
 
+/// How many connections of readers there are at a time.
+const READERS: usize = 8;
+
 /// The operators' addresses, as they are given.
 #[derive(Clone)]
 pub struct Operate {
@@ -98,7 +101,8 @@ impl Operators {
     ) {
         let tcp = async {
             if let Some(tcp) = self.tcp {
-                serve(tcp, limits.clone(), at_tcp, stop.clone()).await;
+                let limits = Limits { connections: READERS, ..limits.clone() };
+                serve(tcp, limits, at_tcp, stop.clone()).await;
             }
         };
         tokio::join!(tcp, serve(self.socket, limits.clone(), at_socket, stop.clone()));

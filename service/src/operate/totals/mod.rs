@@ -4,6 +4,7 @@
 mod labels;
 mod names;
 mod page;
+mod sent;
 
 #[cfg(test)]
 pub(super) mod tests;
@@ -20,16 +21,20 @@ use hyper::{Body, Response};
 use std::fmt::Display;
 use std::path::PathBuf;
 use std::sync::Arc;
+use std::time::Duration;
 use tokio::sync::Semaphore;
+use tokio::time::timeout;
 
-/// A page is this long at most: 10,000 series with all their buckets are some 40 MiB.
-const MOST: usize = 256 << 20;
+/// How long the page of another reader is waited for.
+const PATIENCE: Duration = Duration::from_secs(10);
 
 /// The sink that is read.
 pub struct Totals {
     source: Source,
-    /// One page is made at a time.
+    /// One reads the sink at a time.
     turn: Arc<Semaphore>,
+    /// One page is on its way at a time.
+    page: Arc<Semaphore>,
 }
 
 #[derive(Clone)]
@@ -46,7 +51,8 @@ impl Totals {
             Address::Postgres(server) => Source::Postgres(server.clone()),
             Address::Otlp { .. } => return None,
         };
-        Some(Totals { source, turn: Arc::new(Semaphore::new(1)) })
+        let [turn, page] = [(); 2].map(|()| Arc::new(Semaphore::new(1)));
+        Some(Totals { source, turn, page })
     }
 
     /// What came of a series in each hour from this one on (since 1970); none where the sink has no hours yet.
@@ -75,6 +81,15 @@ impl Totals {
         });
         reading.await.unwrap_or_else(|error| Err(error.to_string()))
     }
+
+    /// A page of all totals.
+    async fn page(&self) -> Result<Body, String> {
+        let Ok(Ok(turn)) = timeout(PATIENCE, self.page.clone().acquire_owned()).await else {
+            let seconds = PATIENCE.as_secs();
+            return Err(format!("another reader has had a page of totals for {seconds} s: ask again"));
+        };
+        Ok(sent::sent(self.read(Ok).await?, turn))
+    }
 }
 
 impl Source {
@@ -92,14 +107,6 @@ fn said(fault: impl Display) -> String {
     fault.to_string()
 }
 
-fn made(totals: &[SeriesTotal]) -> Result<String, String> {
-    let page = page::page(totals);
-    match page.len() {
-        0..=MOST => Ok(page),
-        length => Err(format!("the page is {length} bytes long, over {MOST}: ask the sink by SQL")),
-    }
-}
-
 impl Desk {
     pub(super) async fn totals(&self) -> Response<Body> {
         let Some(totals) = &self.totals else {
@@ -109,7 +116,7 @@ impl Desk {
                 &format!("only a SQLite or PostgreSQL sink has totals here: this service delivers to {name}, ask it"),
             );
         };
-        match totals.read(|totals| made(&totals)).await {
+        match totals.page().await {
             Ok(page) => reply(200, PROMETHEUS, page),
             Err(what) => message(503, &what),
         }

@@ -4,7 +4,8 @@ use super::labels::{self, Labels};
 use super::names;
 use crate::sinks::sqlite::totals::{Histogram, Kind, SeriesTotal};
 use std::collections::{BTreeMap, BTreeSet, HashSet};
-use std::fmt::Write;
+use std::fmt::Display;
+use std::io::{self, Write};
 
 const TARGET: &str = "target_info";
 
@@ -28,21 +29,19 @@ fn all_names(name: &str, kind: Kind) -> Vec<String> {
     names
 }
 
-/// A file's totals in Prometheus' text form.
-pub fn page(totals: &[SeriesTotal]) -> String {
+/// Writes a sink's totals in Prometheus' text form, series by series: no more than a line of it is held.
+pub fn write(totals: &[SeriesTotal], to: &mut impl Write) -> io::Result<()> {
     let mut families = Families::new();
     for series in totals {
         let name = names::metric(&series.name, &series.unit, series.kind);
         families.entry((series.kind, name)).or_default().push(series);
     }
-    let mut page = String::new();
     let mut used = HashSet::from([TARGET.to_string()]);
     for ((kind, name), series) in &families {
         let name = free(name, *kind, &mut used);
-        family(&mut page, &name, *kind, series);
+        family(to, &name, *kind, series)?;
     }
-    targets(&mut page, totals);
-    page
+    targets(to, totals)
 }
 
 /// The name, or one that also says the kind, where another family has it.
@@ -55,20 +54,21 @@ fn free(name: &str, kind: Kind, used: &mut HashSet<String>) -> String {
     name
 }
 
-fn family(page: &mut String, name: &str, kind: Kind, series: &[&SeriesTotal]) {
+fn family(to: &mut impl Write, name: &str, kind: Kind, series: &[&SeriesTotal]) -> io::Result<()> {
     let sources: BTreeSet<(&str, &str)> =
         series.iter().map(|one| (one.name.as_str(), one.unit.as_str())).collect();
-    head(page, name, kind, &sources);
+    head(to, name, kind, &sources)?;
     for one in series {
         let labels = labels::of_series(one);
         match &one.histogram {
-            Some(histogram) => buckets(page, name, &labels, one, histogram),
-            None => line(page, name, &labels::written(&labels, None), one.total),
+            Some(histogram) => buckets(to, name, &labels, one, histogram)?,
+            None => line(to, name, &labels::written(&labels, None), one.total)?,
         }
     }
+    Ok(())
 }
 
-fn head(page: &mut String, name: &str, kind: Kind, sources: &BTreeSet<(&str, &str)>) {
+fn head(to: &mut impl Write, name: &str, kind: Kind, sources: &BTreeSet<(&str, &str)>) -> io::Result<()> {
     let told: Vec<String> = sources
         .iter()
         .map(|(name, unit)| match *unit {
@@ -78,43 +78,45 @@ fn head(page: &mut String, name: &str, kind: Kind, sources: &BTreeSet<(&str, &st
         .collect();
     let help = told.join(", ").replace('\\', "\\\\").replace('\n', "\\n").replace('\0', "\u{fffd}");
     let kind = text(kind);
-    let _ = writeln!(page, "# HELP {name} OpenTelemetry: {help}"); // a text takes all
-    let _ = writeln!(page, "# TYPE {name} {kind}"); // a text takes all
+    writeln!(to, "# HELP {name} OpenTelemetry: {help}\n# TYPE {name} {kind}")
 }
 
 /// A bucket of the page has all that is not over its bound.
-fn buckets(page: &mut String, name: &str, labels: &Labels, series: &SeriesTotal, histogram: &Histogram) {
+fn buckets(
+    to: &mut impl Write,
+    name: &str,
+    labels: &Labels,
+    series: &SeriesTotal,
+    histogram: &Histogram,
+) -> io::Result<()> {
     let bucket = format!("{name}_bucket");
     let mut below = 0;
     for (bound, count) in histogram.bounds.iter().zip(&histogram.buckets) {
         below += count.0;
-        line(page, &bucket, &labels::written(labels, Some(&bound.to_string())), below);
+        line(to, &bucket, &labels::written(labels, Some(&bound.to_string())), below)?;
     }
-    line(page, &bucket, &labels::written(labels, Some("+Inf")), histogram.count);
+    line(to, &bucket, &labels::written(labels, Some("+Inf")), histogram.count)?;
     let labels = labels::written(labels, None);
     // The sum of a part of the points would give a mean that is none.
     if histogram.points_without_sum == 0 {
-        line(page, &format!("{name}_sum"), &labels, series.total);
+        line(to, &format!("{name}_sum"), &labels, series.total)?;
     }
-    line(page, &format!("{name}_count"), &labels, histogram.count);
+    line(to, &format!("{name}_count"), &labels, histogram.count)
 }
 
-fn targets(page: &mut String, totals: &[SeriesTotal]) {
+fn targets(to: &mut impl Write, totals: &[SeriesTotal]) -> io::Result<()> {
     let targets: BTreeSet<String> = totals
         .iter()
         .filter_map(|series| labels::of_resource(&series.resource))
         .map(|labels| labels::written(&labels, None))
         .collect();
     if targets.is_empty() {
-        return;
+        return Ok(());
     }
-    let _ = writeln!(page, "# HELP {TARGET} Attributes of the resources"); // a text takes all
-    let _ = writeln!(page, "# TYPE {TARGET} gauge"); // a text takes all
-    for labels in targets {
-        line(page, TARGET, &labels, 1);
-    }
+    writeln!(to, "# HELP {TARGET} Attributes of the resources\n# TYPE {TARGET} gauge")?;
+    targets.iter().try_for_each(|labels| line(to, TARGET, labels, 1))
 }
 
-fn line(page: &mut String, name: &str, labels: &str, value: impl std::fmt::Display) {
-    let _ = writeln!(page, "{name}{labels} {value}"); // a text takes all
+fn line(to: &mut impl Write, name: &str, labels: &str, value: impl Display) -> io::Result<()> {
+    writeln!(to, "{name}{labels} {value}")
 }

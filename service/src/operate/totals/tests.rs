@@ -2,7 +2,7 @@
 
 use super::labels::identity;
 use super::names::{label, metric};
-use super::page::page;
+use super::page::write;
 use crate::sinks::sqlite::totals::{Histogram, Kind, SeriesTotal};
 use crate::sinks::sqlite::Exact;
 use serde_json::{json, Map, Value};
@@ -38,6 +38,12 @@ fn histogram(name: &str, bounds: &[i64], buckets: &[i128], points_without_sum: u
         buckets: buckets.iter().copied().map(Exact).collect(),
     });
     made
+}
+
+fn page(totals: &[SeriesTotal]) -> String {
+    let mut page = Vec::new();
+    write(totals, &mut page).unwrap();
+    String::from_utf8(page).unwrap()
 }
 
 /// All lines but the heads.

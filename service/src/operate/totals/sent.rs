@@ -1,0 +1,113 @@
+//! A page on its way to its reader. What it is made of is held until the reader has it: so there is one at a time, it has so
+//! long, and no more of its text is there than a few parts.
+
+use super::page;
+use crate::sinks::sqlite::totals::SeriesTotal;
+use bytes::Bytes;
+use hyper::body::Sender;
+use hyper::Body;
+use std::io::{self, BufWriter, ErrorKind, Write};
+use std::time::Duration;
+use tokio::sync::{mpsc, OwnedSemaphorePermit};
+use tokio::time::timeout;
+
+/// A page that is not read within is cut off.
+const READ: Duration = match cfg!(test) {
+    false => Duration::from_secs(30),
+    true => Duration::from_secs(3),
+};
+/// How much is sent at once.
+const PART: usize = 64 << 10;
+
+/// A page of these series, which is made while it is read. The turn ends with it.
+pub fn sent(series: Vec<SeriesTotal>, turn: OwnedSemaphorePermit) -> Body {
+    let (parts, made) = mpsc::channel(1);
+    let (sender, body) = Body::channel();
+    tokio::spawn(send(made, sender));
+    tokio::task::spawn_blocking(move || {
+        let mut to = BufWriter::with_capacity(PART, Parts(parts));
+        // What fails is that nobody reads any further.
+        let _ = page::write(&series, &mut to).and_then(|()| to.flush());
+        drop((series, turn));
+    });
+    body
+}
+
+/// The end of what was not read whole is an abrupt one.
+async fn send(mut made: mpsc::Receiver<Bytes>, mut sender: Sender) {
+    let sending = async {
+        while let Some(part) = made.recv().await {
+            sender.send_data(part).await?;
+        }
+        Ok::<(), hyper::Error>(())
+    };
+    if !matches!(timeout(READ, sending).await, Ok(Ok(()))) {
+        sender.abort();
+    }
+}
+
+struct Parts(mpsc::Sender<Bytes>);
+
+impl Write for Parts {
+    fn write(&mut self, part: &[u8]) -> io::Result<usize> {
+        let sent = self.0.blocking_send(Bytes::copy_from_slice(part));
+        sent.map(|()| part.len()).map_err(|_| ErrorKind::BrokenPipe.into())
+    }
+
+    fn flush(&mut self) -> io::Result<()> {
+        Ok(())
+    }
+}
+
+#[cfg(test)]
+mod tests {
+    use super::super::tests::series;
+    use super::*;
+    use crate::sinks::sqlite::totals::Kind;
+    use hyper::body::{to_bytes, HttpBody};
+    use serde_json::json;
+    use std::sync::Arc;
+    use tokio::sync::Semaphore;
+
+    /// A page of many parts, and the turn of whoever has it.
+    async fn long() -> (Body, Arc<Semaphore>) {
+        let turns = Arc::new(Semaphore::new(1));
+        let made = |number: u32| {
+            series("a", "", Kind::Monotonic, 1, json!({ "n": number, "text": "x".repeat(PART) }))
+        };
+        let turn = turns.clone().acquire_owned().await.unwrap();
+        (sent((0..20).map(made).collect(), turn), turns)
+    }
+
+    #[tokio::test]
+    async fn a_page_is_there_until_it_is_read() {
+        let (body, turns) = long().await;
+        assert_eq!(turns.available_permits(), 0);
+        let page = to_bytes(body).await.unwrap();
+        let page = std::str::from_utf8(&page).unwrap();
+        assert_eq!((page.lines().count(), page.ends_with(" 1\n")), (22, true));
+        let _turn = timeout(READ, turns.acquire()).await.unwrap();
+    }
+
+    #[tokio::test]
+    async fn a_page_that_is_not_read_is_cut_off() {
+        let (mut body, turns) = long().await;
+        assert!(body.data().await.unwrap().is_ok(), "its first part");
+        let _turn = timeout(5 * READ, turns.acquire()).await.unwrap();
+        let mut read = 1;
+        let end = loop {
+            match body.data().await {
+                Some(Ok(_)) => read += 1,
+                end => break end,
+            }
+        };
+        assert!(matches!(end, Some(Err(_))) && read < 10, "{read} parts, {end:?}");
+    }
+
+    #[tokio::test]
+    async fn a_page_of_a_reader_who_goes_away_is_gone() {
+        let (body, turns) = long().await;
+        drop(body);
+        let _turn = timeout(READ / 2, turns.acquire()).await.unwrap();
+    }
+}
