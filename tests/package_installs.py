@@ -125,8 +125,7 @@ def serve(checks: Checks, what: str, root: str, folder: str, settings: dict[str,
         program = f"{root}/usr/bin/totxegun"
         at = ["--data", f"{folder}/totxegun"]
         checks.same(f"{what}: a flush", (0, "done: 1 request went into the outbox\n"), ran([program, "flush", *at]))
-        is_there = wait_until(lambda: '"total":"5"' in ran([program, "totals", "--json", *at])[1].replace(" ", "").replace(
-            '"total":5', '"total":"5"'), 20)
+        is_there = wait_until(lambda: '"total":"5"' in ran([program, "totals", "--json", *at])[1], 20)
         checks.true(f"{what}: the total is shown", is_there, ran([program, "totals", "--json", *at]))
         checks.same(f"{what}: it keeps its files where the unit says", True, os.path.isfile(f"{folder}/totxegun/metrics.db"))
         first = text_of(log).splitlines()[0]

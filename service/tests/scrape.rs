@@ -106,8 +106,7 @@ impl Service {
         let found = line.unwrap().rsplit(' ').next().unwrap().to_string();
         let shown = self.told(&["totals", "--json"]);
         let shown: serde_json::Value = serde_json::from_slice(&shown.stdout).unwrap();
-        let shown = shown[0]["total"].to_string();
-        assert_eq!(shown.trim_matches('"'), found);
+        assert_eq!(shown["total"], *found, "always a text");
         found
     }
 }

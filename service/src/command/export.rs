@@ -1,7 +1,7 @@
 //! `totxegun export`: what a sink has of a month or a day, for a bill.
 
 use super::ask::Address as Operate;
-use super::{client, values};
+use super::{client, series, values};
 use crate::sinks::export::Line;
 use crate::sinks::periods::{Closed, Period};
 use crate::sinks::{postgres, sqlite, Address};
@@ -65,8 +65,8 @@ impl Options {
             rows: 0,
         };
         let mut each = |line: Line| match self.csv {
-            true => out.row(&csv(&line)),
-            false => out.row(&(serde_json::to_string(&line)? + "\n")),
+            true => out.row(csv(&line).as_bytes()),
+            false => out.row(&series::object(&line, None)?),
         };
         let closed = match self.sink()? {
             Address::Sqlite(path) => sqlite::export::read(&path, period, &mut each)?,
@@ -109,7 +109,7 @@ struct Out<To: Write> {
 }
 
 impl<To: Write> Out<To> {
-    fn row(&mut self, row: &str) -> Result<()> {
+    fn row(&mut self, row: &[u8]) -> Result<()> {
         self.put_head()?;
         self.rows += 1;
         self.put(row)
@@ -117,12 +117,12 @@ impl<To: Write> Out<To> {
 
     fn put_head(&mut self) -> Result<()> {
         let head = self.head.take();
-        head.map_or(Ok(()), |head| self.put(&head))
+        head.map_or(Ok(()), |head| self.put(head.as_bytes()))
     }
 
-    fn put(&mut self, text: &str) -> Result<()> {
-        self.digest.update(text.as_bytes());
-        self.to.write_all(text.as_bytes()).context(UNWRITTEN)
+    fn put(&mut self, bytes: &[u8]) -> Result<()> {
+        self.digest.update(bytes);
+        self.to.write_all(bytes).context(UNWRITTEN)
     }
 
     fn end(mut self, period: &Period, closed: &Closed) -> Result<()> {

@@ -16,6 +16,7 @@ mod periods;
 mod print;
 mod reading;
 mod retention;
+mod series;
 mod serve;
 mod settings;
 mod status;

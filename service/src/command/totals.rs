@@ -1,17 +1,22 @@
 //! `totxegun totals`: what a SQLite sink has, a line for each series.
 
+use super::series::{self, Times};
 use super::table::Table;
-use super::{ask, client, json, line, Form};
+use super::{ask, client, line};
+use crate::sinks::export::Line;
 use crate::sinks::{sqlite, Address};
 use anyhow::{bail, Context, Result};
 use clap::Args;
-use rusqlite::types::Value;
 use rusqlite::Row;
-use serde_json::json;
 use std::path::{Path, PathBuf};
 
 const COLUMNS: [&str; 10] =
     ["name", "attributes", "kind", "unit", "points", "total", "count", "since", "until", "resource"];
+
+/// As `sqlite::export::line` reads them, and the times.
+const READ: &str = "select series, name, kind, unit, attributes, resource, scope_name, scope_version, scope_attributes, points,
+    cast(total as text), cast(corrections as text), cast(billed as text), cast(count as text), bounds, buckets, since, until
+    from totals order by name, attributes, resource, series";
 
 const IN_POSTGRES: &str =
     "only a SQLite sink has totals here; of a PostgreSQL sink ask psql: select * from totxegun.totals";
@@ -23,15 +28,25 @@ pub struct Options {
     sink: Option<Address>,
     #[command(flatten)]
     at: ask::Address,
-    #[command(flatten)]
-    form: Form,
+    /// Prints a JSON object for each series, each on a line
+    #[arg(long)]
+    json: bool,
+}
+
+/// A series, and of when its points are.
+#[derive(Debug)]
+struct Total {
+    line: Line,
+    times: Times,
 }
 
 pub fn run(options: &Options) -> Result<Vec<u8>> {
     let path = options.file()?;
     let rows = rows(&path).with_context(|| format!("{} can't be read", path.display()))?;
-    if options.form.json {
-        return json(&rows.iter().map(|row| in_json(row)).collect::<Vec<_>>());
+    if options.json {
+        let objects: Result<Vec<_>> =
+            rows.iter().map(|row| series::object(&row.line, Some(&row.times))).collect();
+        return Ok(objects?.concat());
     }
     if rows.is_empty() {
         return Ok(line(format_args!(
@@ -41,7 +56,7 @@ pub fn run(options: &Options) -> Result<Vec<u8>> {
     }
     let mut table = Table::new(&COLUMNS);
     for row in &rows {
-        table.row(&row.iter().map(shown).collect::<Vec<_>>());
+        table.row(&row.shown());
     }
     Ok(table.to_string().into())
 }
@@ -68,35 +83,38 @@ impl Options {
 }
 
 /// Beside a service that writes: nothing is changed, nobody waits.
-fn rows(path: &Path) -> Result<Vec<Vec<Value>>> {
+fn rows(path: &Path) -> Result<Vec<Total>> {
     std::fs::File::open(path)?; // it says in fewer words than SQLite why that can't be
     let file = sqlite::totals::open(path).map_err(|fault| fault.at(path))?;
-    let mut query = file
-        .prepare(&format!("select {} from totals order by name, attributes, resource", COLUMNS.join(", ")))?;
-    let read = |row: &Row| (0..COLUMNS.len()).map(|column| row.get(column)).collect();
-    let rows: rusqlite::Result<Vec<Vec<Value>>> = query.query_map([], read)?.collect();
+    let mut query = file.prepare(READ)?;
+    let rows: rusqlite::Result<Vec<Total>> = query.query_map([], Total::of)?.collect();
     Ok(rows?)
 }
 
-fn shown(value: &Value) -> String {
-    match value {
-        Value::Null => "-".to_string(),
-        Value::Integer(number) => number.to_string(),
-        Value::Real(number) => number.to_string(),
-        Value::Text(text) if text.is_empty() => "-".to_string(),
-        Value::Text(text) => text.clone(),
-        Value::Blob(bytes) => format!("{} bytes", bytes.len()),
+impl Total {
+    fn of(row: &Row) -> rusqlite::Result<Total> {
+        let time = |column| row.get::<_, String>(column).map(|time| time.replace(' ', "T") + "Z");
+        let times = Times { since: time("since")?, until: time("until")? };
+        Ok(Total { line: sqlite::export::line(row)?, times })
     }
-}
 
-fn in_json(row: &[Value]) -> serde_json::Value {
-    let value = |value: &Value| match value {
-        Value::Null => serde_json::Value::Null,
-        Value::Integer(number) => json!(number),
-        Value::Text(text) => json!(text),
-        other => json!(shown(other)),
-    };
-    COLUMNS.iter().zip(row).map(|(name, found)| (name.to_string(), value(found))).collect()
+    fn shown(&self) -> [String; COLUMNS.len()] {
+        let Total { line, times } = self;
+        let points = line.points.to_string();
+        let all = [
+            &*line.name,
+            line.attributes.get(),
+            line.kind.name(),
+            &line.unit,
+            &points,
+            &line.total,
+            line.count.as_deref().unwrap_or_default(),
+            &times.since,
+            &times.until,
+            line.resource.get(),
+        ];
+        all.map(|text| if text.is_empty() { "-".into() } else { text.into() })
+    }
 }
 
 #[cfg(test)]
@@ -108,13 +126,30 @@ mod tests {
         let folder = tempfile::tempdir().unwrap();
         let path = folder.path().join("sink.db");
         let file = rusqlite::Connection::open(&path).unwrap();
-        let columns = COLUMNS.map(|name| format!("{name} text")).join(", ");
-        file.execute_batch(&format!("create table totals ({columns})")).unwrap();
-        file.execute("insert into totals (name, total) values ('b', '9'), ('a', null)", []).unwrap();
+        file.execute_batch(
+            r#"create table totals (series, name, kind, unit, attributes, resource, scope_name, scope_version, scope_attributes,
+                points, total, corrections, billed, count, bounds, buckets, since, until);
+            insert into totals values
+                (1, 'b', 'monotonic', '', '{"shop":"s1"}', '{}', '', '', '{}', 2, '92233720368547758070', 0,
+                    '92233720368547758070', null, '[]', null, '2026-11-05 13:30:15', '2026-11-05 14:00:00'),
+                (2, 'a', 'histogram', 's', '{}', '{}', '', '', '{}', 1, -5, 0, -5, 3, '[1]', '[1,2]', '2026-11-05 13:30:15',
+                    '2026-11-05 14:00:00')"#,
+        )
+        .unwrap();
         let rows = rows(&path).unwrap();
-        assert_eq!(rows.len(), 2);
-        assert_eq!([shown(&rows[0][0]), shown(&rows[0][5]), shown(&rows[1][5])], ["a", "-", "9"]);
-        assert_eq!(in_json(&rows[1])["total"], "9");
+        let shown: Vec<_> = rows.iter().map(Total::shown).collect();
+        let times = ["2026-11-05T13:30:15Z", "2026-11-05T14:00:00Z"];
+        assert_eq!(shown[0], ["a", "{}", "histogram", "s", "1", "-5", "3", times[0], times[1], "{}"]);
+        assert_eq!(
+            shown[1][..7],
+            ["b", r#"{"shop":"s1"}"#, "monotonic", "-", "2", "92233720368547758070", "-"]
+        );
+        let read = |row: &Total| -> serde_json::Value {
+            serde_json::from_slice(&series::object(&row.line, Some(&row.times)).unwrap()).unwrap()
+        };
+        let both = [read(&rows[0]), read(&rows[1])];
+        assert_eq!([&both[0]["total"], &both[1]["total"]], ["-5", "92233720368547758070"]);
+        assert_eq!((&both[1]["attributes"]["shop"], &both[0]["until"]), (&"s1".into(), &times[1].into()));
     }
 
     #[test]

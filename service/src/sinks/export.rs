@@ -2,11 +2,10 @@
 
 use super::periods::Period;
 use super::sqlite::totals::Kind;
-use serde::Serialize;
 use serde_json::value::RawValue;
 
-/// A row of the view `by_month` or `by_day`. Whole numbers are decimal texts, which no reader rounds.
-#[derive(Debug, Serialize)]
+/// A row of the view `by_month` or `by_day`, or of `totals`. What may be past 64 bits is a decimal text.
+#[derive(Debug)]
 pub struct Line {
     pub series: i64,
     pub name: String,

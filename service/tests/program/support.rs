@@ -92,13 +92,12 @@ impl Place {
         let output =
             Command::new(PROGRAM).args(["totals", "--json", "--sink", &self.sink()]).output().unwrap();
         assert!(output.status.success(), "{output:?}");
-        let rows: Vec<serde_json::Value> = serde_json::from_slice(&output.stdout).unwrap();
-        let row = |row: &serde_json::Value| {
-            let total = row["total"].as_str().map_or(row["total"].as_i64(), |text| text.parse().ok());
-            let name = row["name"].as_str().unwrap().to_string();
-            (name, total.unwrap_or_else(|| panic!("{row}")))
+        let row = |row: &str| {
+            let row: serde_json::Value = serde_json::from_str(row).unwrap();
+            let [name, total] = ["name", "total"].map(|field| row[field].as_str().unwrap().to_string());
+            (name, total.parse().unwrap_or_else(|_| panic!("{row}")))
         };
-        rows.iter().map(row).collect()
+        String::from_utf8(output.stdout).unwrap().lines().map(row).collect()
     }
 
     pub fn log(&self) -> String {

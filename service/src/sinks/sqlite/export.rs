@@ -53,7 +53,8 @@ fn lines(
     Ok(())
 }
 
-fn line(row: &Row) -> rusqlite::Result<Line> {
+/// Of the columns that `lines` asks for.
+pub(crate) fn line(row: &Row) -> rusqlite::Result<Line> {
     let list = |column| json::<Box<RawValue>>(row, column);
     let object = |column| list(column).map(|found| found.unwrap_or_default());
     let kind = Kind::of(&row.get::<_, String>(2)?);

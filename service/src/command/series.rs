@@ -1,0 +1,112 @@
+//! A series and what it counted, as `totals --json` and `export --json` print it: an object on a line.
+
+use super::with_end;
+use crate::sinks::export::Line;
+use crate::sinks::sqlite::totals::Kind;
+use anyhow::{Context, Result};
+use serde::Serialize;
+use serde_json::value::RawValue;
+
+/// Whole numbers are decimal texts, which no reader rounds; attributes are objects.
+#[derive(Serialize)]
+struct Object<'a> {
+    series: String,
+    name: &'a str,
+    kind: Kind,
+    unit: &'a str,
+    attributes: &'a RawValue,
+    resource: &'a RawValue,
+    scope_name: &'a str,
+    scope_version: &'a str,
+    scope_attributes: &'a RawValue,
+    points: String,
+    total: &'a str,
+    corrections: &'a str,
+    billed: &'a str,
+    count: Option<&'a str>,
+    bounds: Option<Vec<String>>,
+    buckets: Option<Vec<String>>,
+    #[serde(flatten)]
+    times: Option<&'a Times>,
+}
+
+/// When the first of its points began and the last one ended: `2026-11-05T13:30:15Z`.
+#[derive(Debug, PartialEq, Eq, Serialize)]
+pub struct Times {
+    pub since: String,
+    pub until: String,
+}
+
+/// With its line's end. An export is of one period, and has no times.
+pub fn object(line: &Line, times: Option<&Times>) -> Result<Vec<u8>> {
+    let object = Object {
+        series: line.series.to_string(),
+        name: &line.name,
+        kind: line.kind,
+        unit: &line.unit,
+        attributes: &line.attributes,
+        resource: &line.resource,
+        scope_name: &line.scope_name,
+        scope_version: &line.scope_version,
+        scope_attributes: &line.scope_attributes,
+        points: line.points.to_string(),
+        total: &line.total,
+        corrections: &line.corrections,
+        billed: &line.billed,
+        count: line.count.as_deref(),
+        bounds: texts(line.bounds.as_deref())?,
+        buckets: texts(line.buckets.as_deref())?,
+        times,
+    };
+    serde_json::to_vec(&object).map(with_end).context("a series can't be written")
+}
+
+/// The numbers of a list, as they are written there.
+fn texts(list: Option<&RawValue>) -> Result<Option<Vec<String>>> {
+    let Some(list) = list else { return Ok(None) };
+    let numbers: Vec<&RawValue> =
+        serde_json::from_str(list.get()).context("a list of the sink is none of numbers")?;
+    Ok(Some(numbers.iter().map(|number| number.get().to_string()).collect()))
+}
+
+#[cfg(test)]
+mod tests {
+    use super::*;
+
+    fn raw(text: &str) -> Box<RawValue> {
+        RawValue::from_string(text.into()).unwrap()
+    }
+
+    fn line() -> Line {
+        Line {
+            series: 7,
+            name: "wait".into(),
+            kind: Kind::Histogram,
+            unit: "us".into(),
+            attributes: raw(r#"{"code":200,"route":"/"}"#),
+            resource: raw("{}"),
+            scope_name: "lib".into(),
+            scope_version: String::new(),
+            scope_attributes: raw("{}"),
+            points: 3,
+            total: "9223372036854775810".into(),
+            corrections: "-5".into(),
+            billed: "9223372036854775805".into(),
+            count: Some("9007199254740993".into()),
+            bounds: Some(raw("[-1, 5]")),
+            buckets: Some(raw("[0,9007199254740993,0]")),
+        }
+    }
+
+    #[test]
+    fn numbers_are_texts_and_attributes_are_objects() {
+        let written = r#"{"series":"7","name":"wait","kind":"histogram","unit":"us","attributes":{"code":200,"route":"/"},"resource":{},"scope_name":"lib","scope_version":"","scope_attributes":{},"points":"3","total":"9223372036854775810","corrections":"-5","billed":"9223372036854775805","count":"9007199254740993","bounds":["-1","5"],"buckets":["0","9007199254740993","0"]"#;
+        assert_eq!(object(&line(), None).unwrap(), format!("{written}}}\n").into_bytes());
+        let times = Times { since: "2026-11-05T13:30:15Z".into(), until: "2026-11-05T14:00:00Z".into() };
+        let with_times = format!("{written},\"since\":\"{}\",\"until\":\"{}\"}}\n", times.since, times.until);
+        assert_eq!(object(&line(), Some(&times)).unwrap(), with_times.into_bytes());
+        let sum = Line { kind: Kind::Sum, count: None, bounds: None, buckets: None, ..line() };
+        let written = String::from_utf8(object(&sum, None).unwrap()).unwrap();
+        assert!(written.ends_with("\"count\":null,\"bounds\":null,\"buckets\":null}\n"), "{written}");
+    }
+}
