@@ -166,12 +166,23 @@ fn csv(line: &Line) -> String {
     cells.join(",") + "\n"
 }
 
-/// As RFC 4180 has it: what has a comma, a quote or a line's end stands in quotes.
+/// A sender's text. As RFC 4180 has it: what has a comma, a quote or a line's end stands in quotes.
 fn cell(text: &str) -> Cow<'_, str> {
+    let text = match is_formula(text) {
+        true => format!("'{text}").into(),
+        false => Cow::from(text),
+    };
     match text.contains([',', '"', '\n', '\r']) {
         true => format!("\"{}\"", text.replace('"', "\"\"")).into(),
-        false => text.into(),
+        false => text,
     }
+}
+
+/// Whether a spreadsheet would take it for a formula, by OWASP's list: such a text begins with a single quote instead. A number
+/// stays one.
+fn is_formula(text: &str) -> bool {
+    text.starts_with(['=', '+', '-', '@', '\t', '\r', '\n', '\u{ff1d}', '\u{ff0b}', '\u{ff0d}', '\u{ff20}'])
+        && text.parse::<f64>().is_err()
 }
 
 #[cfg(test)]
@@ -179,13 +190,25 @@ mod tests {
     use super::*;
 
     #[test]
-    fn cells_are_quoted_where_they_have_to_be() {
+    fn cells_are_quoted_where_they_have_to_be_and_are_no_formulas() {
         for (text, written) in [
             ("shop.revenue", "shop.revenue"),
             ("a,b", "\"a,b\""),
             ("{\"shop\":\"s1\"}", "\"{\"\"shop\"\":\"\"s1\"\"}\""),
             ("two\nlines", "\"two\nlines\""),
             ("", ""),
+            ("=1+1", "'=1+1"),
+            ("=cmd|' /C calc'!A0,\"x\"", "\"'=cmd|' /C calc'!A0,\"\"x\"\"\""),
+            ("+a", "'+a"),
+            ("@SUM(A1)", "'@SUM(A1)"),
+            ("\tx", "'\tx"),
+            ("\rx", "\"'\rx\""),
+            ("-2+3", "'-2+3"),
+            ("\u{ff1d}1", "'\u{ff1d}1"),
+            ("-5", "-5"),
+            ("-2.5e3", "-2.5e3"),
+            ("+5", "+5"),
+            ("a=b", "a=b"),
         ] {
             assert_eq!(cell(text), written);
         }
