@@ -3,11 +3,11 @@
 use super::ask::{Address, Shown};
 use super::{values::SOCKET, with_end};
 use crate::log::all_shown;
-use crate::operate::Status;
+use crate::operate::{Status, OPERATOR};
 use anyhow::{anyhow, bail, Context, Result};
 use hyper::body::HttpBody;
 use hyper::client::conn;
-use hyper::header::{AUTHORIZATION, CONTENT_TYPE, HOST};
+use hyper::header::{HeaderValue, AUTHORIZATION, CONTENT_TYPE, HOST};
 use hyper::{Body, Method, Request, Response};
 use serde::de::DeserializeOwned;
 use std::future::Future;
@@ -101,6 +101,9 @@ fn reply(
     if let Some(token) = token {
         request = request.header(AUTHORIZATION, format!("Bearer {token}"));
     }
+    if let Some(person) = behind_sudo() {
+        request = request.header(OPERATOR, person);
+    }
     let request = request.body(Body::empty()).context("no request can be made")?;
     let asking = async {
         let answered = within(patience, place, asked(place, request)).await;
@@ -108,6 +111,11 @@ fn reply(
     };
     let runtime = tokio::runtime::Builder::new_current_thread().enable_all().build();
     runtime.context("no connection can be made")?.block_on(asking)
+}
+
+/// For whom root asks.
+fn behind_sudo() -> Option<HeaderValue> {
+    HeaderValue::from_str(&std::env::var("SUDO_USER").ok()?).ok()
 }
 
 /// What comes in time. Who waits is told so once: an order waits until the book is filled.

@@ -8,6 +8,7 @@ use super::user;
 use crate::intake::user::User;
 use crate::log::{all_shown, cut};
 use crate::work::{blocking, locked};
+use hyper::{Body, Request};
 use serde::Serialize;
 use std::fs::{File, OpenOptions};
 use std::future::Future;
@@ -29,16 +30,32 @@ const SHOWN: usize = 500;
 /// Who acts where the system does not know it.
 const NOBODY: &str = "operator";
 
+/// How root says for whom it acts.
+pub const OPERATOR: &str = "x-operator";
+const ROOT: u32 = 0;
+/// Of such a name, in characters.
+const NAME_SHOWN: usize = 64;
+
 /// Who asks for an act.
 #[derive(Clone, Debug)]
 pub enum Actor {
     /// By the connection, where the system knows its user.
     User(Option<User>),
-    /// By a token.
+    /// By a token, or by what root says.
     Named(String),
 }
 
 impl Actor {
+    /// Who asks at the socket. Root is believed for whom it acts, as behind `sudo`: it could write the file by itself.
+    pub(super) fn of(request: &Request<Body>) -> Actor {
+        let user = request.extensions().get::<User>().copied();
+        let told = request.headers().get(OPERATOR).and_then(|name| name.to_str().ok());
+        match (user, told.map(str::trim).filter(|name| !name.is_empty())) {
+            (Some(User(ROOT)), Some(name)) => Actor::Named(format!("{} (as root)", cut(name, NAME_SHOWN))),
+            _ => Actor::User(user),
+        }
+    }
+
     fn name(self) -> String {
         match self {
             Actor::User(user) => user.and_then(user::name).unwrap_or_else(|| NOBODY.to_string()),
@@ -220,6 +237,22 @@ mod tests {
         let both = lines(folder.path(), NAME);
         assert_eq!((both.len(), &both[1]["outcome"]), (2, &"no such request".into()));
         assert_eq!(both[1]["of"], "0-a-1 {\"who\":\"root\"}");
+    }
+
+    /// Nobody else is believed.
+    #[test]
+    fn root_says_for_whom_it_acts() {
+        let name = |user: Option<u32>, told: &str| {
+            let request = Request::builder().header(OPERATOR, told).body(Body::empty());
+            let mut request = request.unwrap();
+            user.map(|user| request.extensions_mut().insert(User(user)));
+            Actor::of(&request).name()
+        };
+        assert_eq!(name(Some(0), "ann"), "ann (as root)");
+        assert_eq!(name(Some(0), " "), "root");
+        assert_eq!(name(Some(4_000_000), "ann"), "uid 4000000");
+        assert_eq!(name(None, "ann"), NOBODY);
+        assert_eq!(name(Some(0), &"a".repeat(200)).len(), NAME_SHOWN + " (as root)".len());
     }
 
     #[test]

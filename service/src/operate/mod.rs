@@ -21,7 +21,7 @@ mod units;
 mod user;
 mod web;
 
-pub use acts::{Act, Actor, Acts, Asked};
+pub use acts::{Act, Actor, Acts, Asked, OPERATOR};
 pub use databases::Databases;
 pub use letters::Resent;
 pub use named::Named;
@@ -38,7 +38,6 @@ pub use units::{Undelivered, Unit, Units};
 pub(crate) use web::is_ours;
 
 use crate::intake::connections::Handler;
-use crate::intake::user::User;
 use crate::intake::Budget;
 use crate::metrics::Metrics;
 use crate::post_reports::SenderActivity;
@@ -153,7 +152,7 @@ enum OverTcp {
 
 impl Handler for Desk {
     async fn answer(self: Arc<Self>, request: Request<Body>) -> Response<Body> {
-        let actor = Actor::User(request.extensions().get::<User>().copied());
+        let actor = Actor::of(&request);
         self.answer_to(actor, Route::of(request.uri().path()), request).await
     }
 }
