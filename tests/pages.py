@@ -5,13 +5,15 @@
 
 Senders post to a service with a SQLite sink, also names that are markup, and posts and points that are not taken. Then the
 pages as the browser has them, with their script and without it, are compared with what was posted, and each total with the
-database's own. No name of a sender runs as a script or becomes an element, nothing is loaded from elsewhere, and no
-part is wider than a phone. With FOLDER, a picture of each page at 1280 and 390 pixels, light and dark, is left there.
-Without Chromium all is left out, with status 77.
+database's own. No name of a sender runs as a script or becomes an element, nothing is loaded from elsewhere, the browser
+complains of nothing, and no part is wider than a phone. What a reader has selected stays selected, who has scrolled sees that
+nobody answers, no short word is broken, and tables and plots say what they are of. With FOLDER, a picture of each page at 1280
+and 390 pixels, light and dark, is left there. Without Chromium all is left out, with status 77.
 
 Each line is one check; the last line counts those that passed and failed, and the status is 0 where none failed.
 """
 import contextlib
+import html
 import html.parser
 import http.client
 import http.server
@@ -25,7 +27,7 @@ import sys
 import tempfile
 import threading
 import time
-from collections.abc import Sequence
+from collections.abc import Callable, Iterator, Sequence
 from typing import Any
 
 from testing.checks import Checks
@@ -34,7 +36,7 @@ from tooling.files import write
 
 HOSTILE = '"><script>document.title="owned"</script><img src=x onerror="document.title=1">\'&amp;\u202e'
 LIGHT, DARK = (), ("--blink-settings=preferredColorScheme=0",)
-WIDE, PHONE = 1280, 390
+WIDE, NARROW, PHONE = 1280, 680, 390
 MOST_BYTES = 60_000
 SECONDS = 60
 # Within the last hours.
@@ -55,6 +57,8 @@ class Page(html.parser.HTMLParser):
         self.links: list[str] = []
         self.texts: list[str] = []
         self.handlers: list[str] = []
+        self.scopes: list[str | None] = []
+        self.classes: list[str | None] = []
         self.heading: str = None
         self.where: str = None
         self.feed(text)
@@ -62,6 +66,8 @@ class Page(html.parser.HTMLParser):
     def handle_starttag(self, tag: str, attrs: list[tuple[str, str | None]]) -> None:
         self.elements.append(tag)
         self.handlers += [name for name, _ in attrs if name.startswith("on") or name == "style"]
+        self.scopes += [dict(attrs).get("scope")] if tag == "th" else []
+        self.classes += [value for name, value in attrs if name == "class"]
         self.links += [value for name, value in attrs if name in ("href", "src", "action")]
         self.where = tag if tag in ("h2", "td", "title") else self.where
         if tag == "h2":
@@ -94,6 +100,13 @@ class Browser:
         command = [chromium(), "--headless", "--no-sandbox", "--disable-gpu", "--hide-scrollbars", "--disable-dev-shm-usage",
                  f"--user-data-dir={self.folder}/chromium", f"--window-size={width},{height}", *words, place or self.place + path]
         return subprocess.run(command, capture_output=True, timeout=SECONDS, check=False).stdout.decode(errors="replace")
+
+    def complaints(self, path: str) -> list[str]:
+        """What the browser writes into its console."""
+        command = [chromium(), "--headless", "--no-sandbox", "--disable-gpu", "--disable-dev-shm-usage", "--enable-logging=stderr",
+                   f"--user-data-dir={self.folder}/chromium", "--dump-dom", "--virtual-time-budget=6000", self.place + path]
+        said = subprocess.run(command, capture_output=True, timeout=SECONDS, check=False).stderr.decode(errors="replace")
+        return [line for line in said.splitlines() if "CONSOLE" in line]
 
     def dom(self, path: str = "/", *words: str) -> str:
         return self.run("--dump-dom", "--virtual-time-budget=6000", *words, path=path)
@@ -221,23 +234,28 @@ def look_at_rules(checks: Checks, service: Service) -> None:
     checks.same("only our own pages lead here, and only to pages", [200, 200, 403, 403, 403, 403, 403, 405], asked)
 
 
-def look_at_script(checks: Checks, folder: str, service: Service) -> None:
-    """What comes after the page was loaded is shown by its script: a proxy has a sender post before the page is asked for again."""
+@contextlib.contextmanager
+def between(service: Service, script: str = "", is_answered: Callable[[int], bool] = lambda _: True) -> Iterator[int]:
+    """The port of a proxy that puts a script into the pages. `is_answered` is asked how often `/` was asked for before."""
     class Between(http.server.BaseHTTPRequestHandler):
-        asked = 0
+        asked = -1
 
         def do_GET(self) -> None:
             if self.path == "/":
                 Between.asked += 1
-                if Between.asked == 2:
-                    post(service, {}, "late")
+                if not is_answered(Between.asked):
+                    self.send_error(503)
+                    return
             connection = http.client.HTTPConnection("127.0.0.1", service.operate, timeout=20)
             connection.request("GET", self.path, headers=dict(self.headers))
             answer = connection.getresponse()
             body = answer.read()
+            if script and self.path == "/":
+                body = body.replace(b"</body>", f"<script>{script}</script></body>".encode())
             self.send_response(answer.status)
             for name, value in answer.getheaders():
-                self.send_header(name, value)
+                if not script or name.lower() not in ("content-security-policy", "content-length"):
+                    self.send_header(name, value)
             self.end_headers()
             self.wfile.write(body)
             connection.close()
@@ -247,11 +265,81 @@ def look_at_script(checks: Checks, folder: str, service: Service) -> None:
 
     with http.server.ThreadingHTTPServer(("127.0.0.1", 0), Between) as server:
         threading.Thread(target=server.serve_forever, daemon=True).start()
-        before = sent(service, "/")
-        after = Page(Browser(folder, server.server_address[1]).dom("/"))
+        yield server.server_address[1]
         server.shutdown()
+
+
+def look_at_script(checks: Checks, folder: str, service: Service) -> None:
+    """What comes after the page was loaded is shown by its script: a sender posts before the page is asked for again."""
+    def posts(asked: int) -> bool:
+        if asked == 1:
+            post(service, {}, "late")
+        return True
+
+    before = sent(service, "/")
+    with between(service, is_answered=posts) as port:
+        after = Page(Browser(folder, port).dom("/"))
     senders = ["late" in [row[0] for row in page.rows_of("Senders, by their last post")] for page in (before, after)]
     checks.same("the script shows what has come meanwhile", [False, True], senders)
+
+
+SELECTED = """
+const words = document.querySelector("td"), seen = () => `${getSelection()} of ${words.isConnected}`;
+getSelection().selectAllChildren(words);
+const first = seen(), state = document.getElementById("state"), timer = setInterval(() => {
+  document.title = `selected ${first === seen() && first.length > 9} ${document.getElementById("renewal").textContent}`;
+}, 500);"""
+SCROLLED = """
+scrollTo(0, document.body.scrollHeight);
+setInterval(() => {
+  const renewal = document.getElementById("renewal"), place = renewal.getBoundingClientRect();
+  const inSight = scrollY > 100 && place.top >= 0 && place.bottom <= innerHeight && place.height > 0;
+  document.title = `in sight ${inSight} ${renewal.textContent}`;
+}, 500);"""
+KEPT = """
+const first = document.querySelector("table");
+setTimeout(() => { document.title = `kept ${first.isConnected}`; }, 5000);"""
+BROKEN = """
+const broken = [];
+for (const cell of document.querySelectorAll("td, th")) {
+  for (const node of cell.childNodes) {
+    for (const { 0: word, index } of (node.nodeValue || "").matchAll(/[^ -]{1,16}(?=[ -]|$)/g)) {
+      const range = document.createRange();
+      range.setStart(node, index);
+      range.setEnd(node, index + word.length);
+      const before = index === 0 || " -".includes(node.nodeValue[index - 1]);
+      if (before && new Set([...range.getClientRects()].map((rect) => rect.top)).size > 1) broken.push(word);
+    }
+  }
+}
+document.title = `broken ${broken}.`;"""
+
+
+def title(service: Service, folder: str, script: str, is_answered: Callable[[int], bool] = lambda _: True, width: int = WIDE) -> str:
+    """The title that a script gives to the overview, in the browser."""
+    with between(service, script, is_answered) as port:
+        dom = Browser(folder, port).run("--dump-dom", "--virtual-time-budget=9000", path="/", height=600, width=width)
+    found = re.search("<title>(.*?)</title>", dom)
+    return html.unescape(found[1]) if found else dom[-500:]
+
+
+def look_at_reading(checks: Checks, folder: str, service: Service, pages: list[Page]) -> None:
+    """That a reader can copy from a page, sees how old it is, and hears what is on it."""
+    checks.same("what is selected stays so, and the page says so", "selected true stands still while text is selected",
+                title(service, folder, SELECTED))
+    said = title(service, folder, SCROLLED, lambda asked: asked == 0)
+    checks.true("that nobody answers is in sight for who has scrolled", said.startswith("in sight true no answer: what is below is of "),
+                said)
+    checks.same("what is alike stays", "kept true", title(service, folder, KEPT))
+    double = request("price", [{**point(START, 1, {}), "asInt": None, "asDouble": 1.5}], "EUR")
+    checks.true("a double without a finer unit is not taken", b"rejected" in post(service, double, "s" * 64)[1], double)
+    broken = {width: title(service, folder, BROKEN, width=width) for width in (NARROW, WIDE)}
+    checks.same("no short word is broken", {NARROW: "broken .", WIDE: "broken ."}, broken)
+    found = [(page.elements.count("table"), page.elements.count("caption"), set(page.scopes)) for page in pages]
+    checks.true("each table has a caption, each head its scope", all(tables == captions > 0 and scopes == {"col"}
+                for tables, captions, scopes in found), found)
+    plots = [(page.elements.count("svg"), page.classes.count("axis")) for page in pages]
+    checks.true("each plot has an axis of time", all(one == axes for one, axes in plots) and sum(one for one, _ in plots) > 1, plots)
 
 
 def look_at_phone(checks: Checks, service: Service, browser: Browser, paths: list[str]) -> None:
@@ -296,6 +384,9 @@ def run(checks: Checks, program: str, folder: str, pictures: str | None) -> None
         look_at_rules(checks, service)
         look_at_phone(checks, service, browser, ["/", "/series", f"/{link}"])
         look_at_script(checks, folder, service)
+        look_at_reading(checks, folder, service, [with_script, *pages])
+        said = [line for path in ("/", "/series", f"/{link}") for line in browser.complaints(path)]
+        checks.same("the browser complains of nothing", [], said)
         if pictures:
             take_pictures(browser, pictures, link)
 

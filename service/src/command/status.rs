@@ -137,7 +137,7 @@ fn cumulative(of: &CumulativeStatus) -> String {
 fn rounding(of: &RoundedStatus) -> String {
     let (series, rule) = (of.series, &of.rule);
     let values = values::counted(of.rounding.values, "value");
-    let together = units(of, of.rounding.together);
+    let together = of.in_its_unit(of.rounding.together);
     format!("{values} of {series} series by {rule}, together by at most {together}")
 }
 
@@ -147,7 +147,7 @@ fn rounded_series(rounded: &[RoundedStatus]) -> String {
     let all = rounded.iter().flat_map(|of| of.greatest.iter().map(move |one| (of, one)));
     for (of, series) in all.clone() {
         table.row(&[
-            &units(of, series.rounding.together),
+            &of.in_its_unit(series.rounding.together),
             &series.rounding.values.to_string(),
             or_dash(&series.metric),
             or_dash(&series.attributes),
@@ -165,13 +165,6 @@ fn or_dash(text: &str) -> &str {
         "" => "-",
         text => text,
     }
-}
-
-/// A bound in the finer unit of a rule: what is cut off of it is added.
-fn units(of: &RoundedStatus, bound: f64) -> String {
-    let unit = of.rule.rsplit_once(':').map_or("", |(_, unit)| unit);
-    let shown = format!("{:.3} {unit}", (bound * 1000.0).ceil() / 1000.0);
-    shown.trim_end().to_string()
 }
 
 fn stock(stock: &Stock) -> String {

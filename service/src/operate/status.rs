@@ -99,6 +99,15 @@ pub struct RoundedStatus {
     pub greatest: Vec<RoundedSeries>,
 }
 
+impl RoundedStatus {
+    /// A bound in the finer unit of the rule: what is cut off of it is added.
+    pub fn in_its_unit(&self, bound: f64) -> String {
+        let unit = self.rule.rsplit_once(':').map_or("", |(_, unit)| unit);
+        let shown = format!("{:.3} {unit}", (bound * 1000.0).ceil() / 1000.0);
+        shown.trim_end().to_string()
+    }
+}
+
 #[derive(Debug, Default, Serialize, Deserialize)]
 pub struct SlotStatus {
     pub slot: u16,

@@ -30,7 +30,7 @@ fn instances(html: &mut Html, cluster: &ClusterStatus) {
         ]
     });
     let heads = ["name", "address", "version", "last beat#", "slots#", "what is wrong"];
-    html.section("Instances").table(&heads, rows.collect()).end_section();
+    html.section("Instances").table("Instances, and what each has", &heads, rows.collect()).end_section();
 }
 
 fn databases(html: &mut Html, cluster: &ClusterStatus) {
@@ -45,13 +45,15 @@ fn databases(html: &mut Html, cluster: &ClusterStatus) {
         ]
     });
     let heads = ["database", "copies#", "asked for#", "in doubt for#", "what is wrong"];
-    html.section("Databases of the store").table(&heads, rows.collect()).end_section();
+    html.section("Databases of the store")
+        .table("Databases, and how they are", &heads, rows.collect())
+        .end_section();
 }
 
 fn slots(html: &mut Html, status: &Status) {
     let rows = status.slots.iter().take(ROWS).map(row);
     let heads = ["slot#", "instance", "term#", "series#", "posts#", "requests#", "oldest#", "what is wrong"];
-    html.section("Slots").table(&heads, rows.collect());
+    html.section("Slots").table("Slots, and who has them", &heads, rows.collect());
     if status.slots.len() > ROWS {
         html.markup("<p class=note>")
             .text(grouped(status.slots.len() - ROWS))

@@ -69,25 +69,32 @@ impl Html {
     /// A table of the first rows, and how many more there are.
     pub fn first_rows(
         &mut self,
+        caption: &'static str,
         heads: &[&'static str],
         rows: impl ExactSizeIterator<Item = Vec<Cell>>,
     ) -> &mut Html {
         let more = rows.len().saturating_sub(ROWS);
-        self.table(heads, rows.take(ROWS).collect());
+        self.table(caption, heads, rows.take(ROWS).collect());
         if more > 0 {
             self.markup("<p class=note>").text(grouped(more)).markup(" more</p>");
         }
         self
     }
 
-    /// A table that says `none` where it has no row. Columns whose heads end in `#` have numbers.
-    pub fn table(&mut self, heads: &[&'static str], rows: Vec<Vec<Cell>>) -> &mut Html {
+    /// A table that says `none` where it has no row. Its caption is for who hears the page. Columns whose heads end in `#` have
+    /// numbers.
+    pub fn table(
+        &mut self,
+        caption: &'static str,
+        heads: &[&'static str],
+        rows: Vec<Vec<Cell>>,
+    ) -> &mut Html {
         if rows.is_empty() {
             return self.markup("<p class=none>none</p>\n");
         }
-        self.markup("<table><thead><tr>");
+        self.markup("<div class=wide><table><caption>").markup(caption).markup("</caption><thead><tr>");
         for head in heads {
-            self.markup("<th").markup(class(head)).markup(">").markup(title(head)).markup("</th>");
+            self.markup("<th scope=col").markup(class(head)).markup(">").markup(title(head)).markup("</th>");
         }
         self.markup("</tr></thead><tbody>\n");
         for row in rows {
@@ -103,7 +110,7 @@ impl Html {
             }
             self.markup("</tr>\n");
         }
-        self.markup("</tbody></table>\n")
+        self.markup("</tbody></table></div>\n")
     }
 
     pub fn into_text(self) -> String {
@@ -186,11 +193,12 @@ mod tests {
         let mut html = Html::default();
         let id = "a&b".to_string();
         let row = vec![Cell::of("<i>"), Cell::Series { text: "n".into(), id }];
-        html.table(&["name", "total#"], vec![row]).table(&["name"], Vec::new());
+        html.table("totals", &["name", "total#"], vec![row]).table("names", &["name"], Vec::new());
         assert_eq!(
             html.into_text(),
-            "<table><thead><tr><th>name</th><th class=n>total</th></tr></thead><tbody>\n<tr><td data-head=\"name\">&lt;i&gt;</td>\
-             <td class=n data-head=\"total\"><a href=\"series?id=a%26b\">n</a></td></tr>\n</tbody></table>\n<p class=none>none</p>\n"
+            "<div class=wide><table><caption>totals</caption><thead><tr><th scope=col>name</th><th scope=col class=n>total</th></tr>\
+             </thead><tbody>\n<tr><td data-head=\"name\">&lt;i&gt;</td><td class=n data-head=\"total\">\
+             <a href=\"series?id=a%26b\">n</a></td></tr>\n</tbody></table></div>\n<p class=none>none</p>\n"
         );
     }
 

@@ -5,6 +5,7 @@
 //! it.
 
 mod cluster;
+mod counting;
 mod html;
 mod overview;
 mod plot;
@@ -29,7 +30,7 @@ const PAGE: &str = "text/html; charset=utf-8";
 const HEADERS: [(HeaderName, &str); 4] = [
     (
         CONTENT_SECURITY_POLICY,
-        "default-src 'none'; style-src 'self'; script-src 'self'; connect-src 'self'; form-action 'self'; base-uri 'none'; \
+        "default-src 'none'; style-src 'self'; script-src 'self'; connect-src 'self'; img-src data:; form-action 'self'; base-uri 'none'; \
          frame-ancestors 'none'",
     ),
     (X_CONTENT_TYPE_OPTIONS, "nosniff"),
@@ -83,16 +84,17 @@ fn frame(page: Page, status: &Status, body: Html) -> String {
         );
     }
     html.markup("</head><body><header><h1>totxegun</h1>");
-    match &status.unavailable {
-        None => html.markup("<p id=state class=\"state good\">takes posts</p>"),
-        Some(why) => html.markup("<p id=state class=\"state bad\">posts get 503: ").text(why).markup("</p>"),
-    };
     let current = |here: Page| if here == page { " aria-current=page" } else { "" };
     html.markup("<nav><a href=\"./\"").markup(current(Page::Overview)).markup(">Overview</a>");
     html.markup("<a href=series")
         .markup(current(Page::Series))
-        .markup(">Series</a></nav></header>\n<main id=main>");
-    html.put(body).markup("</main><footer>totxegun ").text(&status.version);
+        .markup(">Series</a></nav></header>\n<div class=bar role=status>");
+    match &status.unavailable {
+        None => html.markup("<p id=state class=\"state good\">takes posts</p>"),
+        Some(why) => html.markup("<p id=state class=\"state bad\">posts get 503: ").text(why).markup("</p>"),
+    };
+    html.markup("<p id=renewal></p></div>\n<main id=main>");
+    html.put(body).markup("</main><footer id=foot>totxegun ").text(&status.version);
     html.markup(", up ").text(seconds_shown(status.uptime_seconds));
     html.markup("; senders post to ").text(&status.listen).markup("; sink ").text(&status.sink);
     html.markup("</footer></body></html>\n");

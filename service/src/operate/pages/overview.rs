@@ -3,7 +3,7 @@
 use super::html::{grouped, Cell, Html, ROWS};
 use super::plot::{lines, Line};
 use super::pulse::{Rates, KEPT};
-use super::{cluster, frame, Desk, Page};
+use super::{cluster, counting, frame, Desk, Page};
 use crate::command::values::{bytes_shown, seconds_shown, sender_shown};
 use crate::files::dead::Letter;
 use crate::log::seconds;
@@ -12,6 +12,9 @@ use crate::operate::status::{held, quarantined, Status, Stock};
 use crate::otlp::Cause;
 use crate::post_reports::{OfReason, OfSender};
 use std::sync::Arc;
+
+/// Below the plot of what `KEPT` looks saw.
+const MINUTES: [&str; 6] = ["5 min ago", "4", "3", "2", "1 min ago", "now"];
 
 /// More letters than that are not read for a page.
 const LETTERS: u64 = 200;
@@ -39,6 +42,7 @@ impl Desk {
         seen.foreign(&mut html);
         seen.senders(&mut html);
         seen.limits(&mut html);
+        counting::sections(&mut html, &seen.status);
         seen.dead(&mut html);
         frame(Page::Overview, &seen.status, html)
     }
@@ -85,7 +89,8 @@ impl Seen<'_> {
             line("refused", |rates| rates.refused),
             line("posted", |rates| rates.taken),
         ];
-        lines(html.section("The last five minutes"), &all, KEPT);
+        let label = "Posts taken, posts refused and requests delivered, a second";
+        lines(html.section("The last five minutes"), label, &all, KEPT, &MINUTES);
         html.markup("<p class=key><span><i class=posted></i>posts taken</span><span><i class=refused></i>refused</span>");
         html.markup("<span><i class=delivered></i>requests delivered, a second</span></p>").end_section();
     }
@@ -101,7 +106,8 @@ impl Seen<'_> {
             html.markup("<p class=note>Quarantined: ").text(names.join(", "));
             html.markup("; <code>totxegun lift NAME</code> once it is repaired</p>");
         }
-        html.table(&["what", "how many#", "on disk#", "oldest#"], self.waiting()).end_section();
+        let heads = ["what", "how many#", "on disk#", "oldest#"];
+        html.table("What waits for a flush or for the sink", &heads, self.waiting()).end_section();
     }
 
     fn waiting(&self) -> Vec<Vec<Cell>> {
@@ -140,7 +146,9 @@ impl Seen<'_> {
             ]
         });
         let heads = ["sender", "status", "last answer", "posts#", "last#", "what to do"];
-        html.section("Refused posts").first_rows(&heads, rows).end_section();
+        html.section("Refused posts")
+            .first_rows("Refusals by sender and status, the last first", &heads, rows)
+            .end_section();
     }
 
     fn foreign(&self, html: &mut Html) {
@@ -151,7 +159,9 @@ impl Seen<'_> {
             vec![Cell::Text(sender_shown(&name)), Cell::of(cause), Cell::of(grouped(points)), Cell::of(to_do)]
         });
         let heads = ["sender", "cause", "points#", "what to do"];
-        html.section("Points not taken").first_rows(&heads, rows).end_section();
+        html.section("Points not taken")
+            .first_rows("Points not taken by sender and cause", &heads, rows)
+            .end_section();
     }
 
     fn senders(&self, html: &mut Html) {
@@ -165,7 +175,9 @@ impl Seen<'_> {
             ]
         });
         let heads = ["sender", "last post#", "posts taken#", "refused#"];
-        html.section("Senders, by their last post").first_rows(&heads, rows).end_section();
+        html.section("Senders, by their last post")
+            .first_rows("Senders, and their posts", &heads, rows)
+            .end_section();
     }
 
     fn limits(&self, html: &mut Html) {
@@ -179,7 +191,8 @@ impl Seen<'_> {
             limit("memory of the book", memory, most_memory, bytes_shown, "--book-memory"),
             limit("memory of posts under way", used, most, bytes_shown, "--most-bytes"),
         ];
-        html.section("Limits").table(&["what", "now#", "at most#", "used#", "option"], rows);
+        let heads = ["what", "now#", "at most#", "used#", "option"];
+        html.section("Limits").table("How much of each limit is used", &heads, rows);
         let free = levels.disk_free_bytes.get().max(0) as u64;
         html.markup("<p class=note>Free on the disk: ").text(bytes_shown(free)).markup("</p>").end_section();
     }
@@ -200,7 +213,11 @@ impl Seen<'_> {
         });
         match self.letters.is_empty() && self.status.dead > 0 {
             true => html.markup("<p class=note><code>totxegun dead list</code> has them.</p>"),
-            false => html.first_rows(&["key", "since#", "bytes#", "the sink's reason"], rows),
+            false => html.first_rows(
+                "Requests that the sink refused for good, the last first",
+                &["key", "since#", "bytes#", "the sink's reason"],
+                rows,
+            ),
         };
         html.end_section();
     }

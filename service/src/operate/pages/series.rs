@@ -1,7 +1,7 @@
 //! `GET /series`: search by name and attribute, with each total as the sink has it now; and one series by itself.
 
 use super::html::{grouped, Cell, Html};
-use super::plot::{bars, Bar};
+use super::plot::{self, Bar};
 use super::{frame, Desk, Page};
 use crate::log::{seconds, utc};
 use crate::operate::query::Query;
@@ -17,6 +17,8 @@ const ROWS: usize = 100;
 /// In seconds; and how many are plotted.
 const HOUR: u64 = 3600;
 const HOURS: u64 = 48;
+/// Hours from one mark of the axis to the next.
+const MARK: u64 = 12;
 
 /// What is asked for: parts of a name and of attributes, or one series.
 #[derive(Debug, Default, PartialEq, Eq)]
@@ -128,7 +130,7 @@ impl FoundRows {
             .text(grouped(self.of))
             .markup(" series</h2>");
         let heads = ["name", "attributes", "total#", "unit", "count#", "until (UTC)", "resource"];
-        html.table(&heads, self.rows.iter().map(row).collect());
+        html.table("Series that were found", &heads, self.rows.iter().map(row).collect());
         if self.count > ROWS {
             html.markup("<p class=note>These are the first ")
                 .text(ROWS)
@@ -159,7 +161,9 @@ fn one(html: &mut Html, series: &SeriesTotal) {
     let rows = rows.map(|(what, value)| vec![Cell::of(what), Cell::Text(value)]);
     html.markup("<section><h2>").text(&series.name).markup("</h2><p class=total>");
     html.text(grouped(series.total)).markup(" <small>").text(&series.unit);
-    html.markup("</small></p>").table(&["what", "value"], rows.collect()).end_section();
+    html.markup("</small></p>")
+        .table("What is known of it", &["what", "value"], rows.collect())
+        .end_section();
     if let Some(histogram) = &series.histogram {
         buckets(html, histogram);
     }
@@ -192,7 +196,9 @@ fn buckets(html: &mut Html, histogram: &Histogram) {
     let names = bounds.chain(["over all of them".to_string()]);
     let counts = histogram.buckets.iter().map(grouped);
     let rows = names.zip(counts).map(|(name, count)| vec![Cell::Text(name), Cell::Text(count)]);
-    html.section("Buckets").table(&["values", "count#"], rows.collect()).end_section();
+    html.section("Buckets")
+        .table("How many values each bucket has", &["values", "count#"], rows.collect())
+        .end_section();
 }
 
 /// What came in each of the last hours: of a histogram how many values, else their sum. Nothing where the sink has no hours.
@@ -214,12 +220,16 @@ fn plot_of_hours(html: &mut Html, hours: &[Hour], from: u64) {
         let value = of(wanted).map_or(Exact::default(), |hour| hour.count.unwrap_or(hour.total));
         Bar { value: value.0 as f64, text: format!("{}: {}", hour(wanted), grouped(value)) }
     };
-    bars(html.section("The last 48 hours"), &(from..from + HOURS).map(bar).collect::<Vec<Bar>>());
+    let bars: Vec<Bar> = (from..from + HOURS).map(bar).collect();
+    let marks = (0..=HOURS / MARK).map(|mark| hour(from + mark * MARK)[5..].to_string());
+    let label = "Bars of the last 48 hours: the table below has each that is not zero";
+    plot::bars(html.section("The last 48 hours"), label, &bars, &marks.collect::<Vec<String>>());
     let rows = hours.iter().rev().map(|one| {
         let count = one.count.map(grouped).unwrap_or_default();
         vec![Cell::Text(hour(one.hour)), Cell::of(grouped(one.total)), Cell::Text(count)]
     });
-    html.table(&["hour (UTC)", "total#", "count#"], rows.collect()).end_section();
+    let heads = ["hour (UTC)", "total#", "count#"];
+    html.table("What came in each hour, the last first", &heads, rows.collect()).end_section();
 }
 
 /// Nanoseconds since 1970 to the second, in UTC.
@@ -287,6 +297,9 @@ mod tests {
                 && text.contains("<title>1970-02-13 15:00: 3</title>")
         );
         assert!(text.contains("7,000</td>"), "{text}");
+        let marks = ["02-11 16:00", "02-12 04:00", "02-12 16:00", "02-13 04:00", "02-13 16:00"];
+        let marks = marks.map(|mark| format!("<span>{mark}</span>")).concat();
+        assert!(text.contains(&format!("<div class=axis>{marks}</div>")), "{text}");
     }
 
     #[test]
