@@ -2,7 +2,8 @@
 //!
 //! Who reads a log may stand still, and whoever writes to it then does so too: that must be nobody who serves. So lines
 //! wait for the thread, up to a bound. Of those that find no room, and of those that can't be written, a line in their
-//! place says how many there were. `form` is how a line is written, `shown` what is shown of others' texts.
+//! place says how many there were. A panic is said the same way, and ends the process. `form` is how a line is written,
+//! `shown` what is shown of others' texts.
 
 mod form;
 mod once_an_hour;
@@ -55,12 +56,11 @@ struct Lines {
     missing: u64,
 }
 
-/// Starts the thread. What the process says at its end goes the same way from then on, also of a panic.
+/// Starts the thread. What the process says at its end goes the same way from then on.
 pub fn start(lost: IntCounter, form: Form) -> io::Result<Arc<Log>> {
     let log = Arc::new(Log::new(lost, form));
     let writing = log.clone();
     std::thread::Builder::new().name("log".into()).spawn(move || writing.write_to(io::stderr()))?;
-    std::panic::set_hook(Box::new(tell_panic));
     Ok(LOG.get_or_init(|| log).clone())
 }
 
@@ -86,12 +86,19 @@ pub fn finish() {
     }
 }
 
-fn tell_panic(panic: &PanicHookInfo) {
+/// From here on a panic of any thread ends the process, before anything unwinds: nobody finds what the thread has left half
+/// changed. So it is however the program is compiled: `panic = "abort"` of the release profile is not for tests.
+pub fn end_by_panics() {
+    std::panic::set_hook(Box::new(end_by_panic));
+}
+
+fn end_by_panic(panic: &PanicHookInfo) {
     let calls = Backtrace::capture();
     match calls.status() {
         BacktraceStatus::Captured => complain(format_args!("{panic}\n{calls}")),
         _ => complain(format_args!("{panic}")),
     }
+    std::process::abort();
 }
 
 impl Log {

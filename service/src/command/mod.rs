@@ -119,6 +119,7 @@ enum Command {
 
 /// Runs the command of this process' command line.
 pub fn run() -> ExitCode {
+    crate::log::end_by_panics();
     // A faulty one ends here, with status 2.
     let line = Line::try_parse().unwrap_or_else(|error| without_secrets(error).exit());
     if init::is_process_1() {

@@ -2,6 +2,7 @@
 
 use super::*;
 use std::io::Read;
+use std::os::unix::process::ExitStatusExt;
 use std::sync::atomic::{AtomicBool, Ordering::Relaxed};
 
 fn log() -> Arc<Log> {
@@ -110,4 +111,27 @@ fn an_end_waits_for_a_reader_no_longer_than_it_may() {
     log.wait_until_written(begun + Duration::from_millis(50));
     assert!(begun.elapsed() >= Duration::from_millis(50));
     assert!(begun.elapsed() < Duration::from_secs(10));
+}
+
+/// Run by the next test in a process of its own.
+#[test]
+#[ignore]
+fn ends_by_a_panic() {
+    end_by_panics();
+    let ended = std::thread::spawn(|| panic!("that can't be")).join();
+    println!("it goes on: {ended:?}");
+}
+
+#[test]
+fn a_panic_of_a_thread_ends_the_process_with_a_named_line() {
+    let mut this = std::process::Command::new(std::env::current_exe().unwrap());
+    this.args(["--exact", "--ignored", "--nocapture", "log::tests::ends_by_a_panic"]);
+    let ended = this.output().unwrap();
+    let line = String::from_utf8_lossy(&ended.stderr);
+    assert_eq!(ended.status.signal(), Some(libc::SIGABRT), "{ended:?}");
+    assert!(
+        line.starts_with("totxegun: ") && line.contains(file!()) && line.contains("that can't be"),
+        "{line}"
+    );
+    assert!(!String::from_utf8_lossy(&ended.stdout).contains("it goes on"), "{ended:?}");
 }
