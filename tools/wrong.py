@@ -165,7 +165,8 @@ def end(child: subprocess.Popen[str]) -> None:
 
 def run(command: list[str], log: str, folder: str) -> tuple[int, str | None]:
     """Runs a command until it has ended or a check has seen the fault: its status, and what the check says."""
-    environment = dict(os.environ, TOTXEGUN_BOOK=BOOK, TMPDIR=folder)
+    # All runs of a test that draws them: the gate's sample may miss the fault.
+    environment = dict(os.environ, TOTXEGUN_BOOK=BOOK, TOTXEGUN_TESTS="whole", TMPDIR=folder)
     child = subprocess.Popen(command, stdout=subprocess.PIPE, stderr=subprocess.STDOUT, text=True, errors="replace",
                              process_group=0, env=environment)
     clock = threading.Timer(LIMIT, end, [child])

@@ -16,7 +16,7 @@ const GONE: [&str; 8] = [
     "TOTXEGUN_SLOTS",
 ];
 /// Of the build and of tests.
-const OTHERS: [&str; 2] = ["TOTXEGUN_BOOK", "TOTXEGUN_SEEDS"];
+const OTHERS: [&str; 2] = ["TOTXEGUN_BOOK", "TOTXEGUN_TESTS"];
 /// What Kubernetes sets of a service that is named `totxegun` begins so.
 const OF_KUBERNETES: [&str; 2] = ["TOTXEGUN_SERVICE_", "TOTXEGUN_PORT"];
 

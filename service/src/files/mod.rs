@@ -13,6 +13,8 @@ mod records;
 mod segment;
 #[cfg(test)]
 pub(crate) mod test_random;
+#[cfg(test)]
+pub(crate) mod test_runs;
 mod torn_tail;
 
 pub use dead::Dead;

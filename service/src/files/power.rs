@@ -136,8 +136,3 @@ pub(super) fn copy(from: &Path, to: &Path) {
         std::fs::copy(from.join(&name), to.join(&name)).unwrap();
     }
 }
-
-/// How many runs a test makes: more of them where it is told so.
-pub(super) fn seeds(most: u64) -> u64 {
-    std::env::var("TOTXEGUN_SEEDS").map_or(most, |seeds| seeds.parse().unwrap())
-}

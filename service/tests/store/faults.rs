@@ -2,7 +2,7 @@
 
 use super::server::{wait_until, Server};
 use super::work::{contents, take, wait, Work};
-use super::{make, open, rounds};
+use super::{make, open, runs};
 use nix::sys::signal::Signal;
 use std::sync::atomic::{AtomicBool, AtomicU64, Ordering::SeqCst};
 use std::sync::Arc;
@@ -106,7 +106,8 @@ fn what_a_sync_said_yes_to_is_there_whatever_befalls_the_servers() {
         }
         work
     });
-    for round in 0..rounds(10) {
+    let rounds = runs(5, 10);
+    for round in 0..rounds {
         let before = done.load(SeqCst);
         wait_until("it works", || done.load(SeqCst) > before + 3 || working.is_finished());
         let begun = Instant::now();
@@ -121,8 +122,7 @@ fn what_a_sync_said_yes_to_is_there_whatever_befalls_the_servers() {
     assert!(found == work.synced);
     let counts = store.counts();
     println!(
-        "{} faults, {} syncs, {} answers in doubt: nothing is lost",
-        rounds(10),
+        "{rounds} faults, {} syncs, {} answers in doubt: nothing is lost",
         work.syncs,
         counts.doubts.load(SeqCst)
     );
@@ -134,7 +134,7 @@ fn what_a_sync_said_yes_to_is_there_whatever_befalls_the_servers() {
 fn a_commit_that_was_cancelled_in_the_wait_for_its_standby_is_no_answer() {
     let Some(mut pair) = Pair::start() else { return };
     let store = pair.store();
-    for round in 0..rounds(2) {
+    for round in 0..2 {
         let mut work = Work::take(&store, round as u16, round);
         assert!(work.round());
         pair.standby().kill();
@@ -157,7 +157,6 @@ fn a_commit_that_was_cancelled_in_the_wait_for_its_standby_is_no_answer() {
         let work = working.join().unwrap();
         assert!(take(&store, round as u16).1 == work.synced);
     }
-    println!("{} commits cancelled in the wait: none was answered before a standby had it", 2 * rounds(2));
 }
 
 /// Else a taker would go by what is lost with the server.
@@ -165,7 +164,7 @@ fn a_commit_that_was_cancelled_in_the_wait_for_its_standby_is_no_answer() {
 fn what_a_server_shows_after_a_restart_is_not_believed_without_its_standby() {
     let Some(mut pair) = Pair::start() else { return };
     let store = Arc::new(pair.store());
-    for round in 0..rounds(2) {
+    for round in 0..2 {
         let slot = round as u16;
         let mut first = Work::take(&store, slot, round);
         assert!(first.round());
@@ -187,7 +186,6 @@ fn what_a_server_shows_after_a_restart_is_not_believed_without_its_standby() {
         let first = working.join().unwrap();
         assert!(first.is_found(&found), "round {round}");
     }
-    println!("{} takers waited for the standby", rounds(2));
 }
 
 /// Else a start would go by what is lost with the server.

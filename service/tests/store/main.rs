@@ -8,10 +8,13 @@ mod proxy;
 mod server;
 mod sink;
 mod speed;
+#[path = "../../src/files/test_runs.rs"]
+mod test_runs;
 mod together;
 mod work;
 
 use server::Server;
+use test_runs::runs;
 use totxegun::files::drive::Drive;
 use totxegun::store::postgres::{address, Copies, PostgresStore, Server as StoreServer, StoreFault};
 use work::{take, Work};
@@ -20,12 +23,6 @@ const SLOTS: u16 = 64;
 /// Pieces of files that are gone.
 const STRAYS: &str = "select count(*) from totxegun_store.piece
     where (slot, file) not in (select slot, file from totxegun_store.file)";
-
-/// So many rounds of each trial, or as many as STORE_ROUNDS says.
-fn rounds(usual: u64) -> u64 {
-    let said = std::env::var("STORE_ROUNDS").ok();
-    said.map_or(usual, |said| said.parse().expect("STORE_ROUNDS is a number"))
-}
 
 fn open(addresses: &[&str], copies: Copies) -> PostgresStore {
     let servers: Vec<_> = addresses.iter().map(|text| address(text).unwrap()).collect();
@@ -50,7 +47,7 @@ fn a_drive_is_as_a_map_has_it_and_the_next_owner_finds_what_was_synced() {
     make(&[&server.address()]);
     let store = open(&[&server.address()], Copies::One);
     let (mut owners, mut syncs) = (0, 0);
-    for seed in 0..rounds(12) {
+    for seed in 0..runs(4, 12) {
         let slot = (seed % 3) as u16;
         let mut work = Work::take(&store, slot, seed);
         for _ in 0..12 {

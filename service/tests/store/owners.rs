@@ -3,7 +3,7 @@
 use super::proxy::Proxy;
 use super::server::{wait_until, Server};
 use super::work::{contents, take, wait, Chance, Contents, Work};
-use super::{make, open, rounds};
+use super::{make, open, runs};
 use std::path::Path;
 use std::sync::atomic::Ordering::SeqCst;
 use std::sync::{Arc, Mutex};
@@ -33,7 +33,8 @@ fn an_owner_that_is_stopped_in_any_step_writes_no_more_once_another_has_the_slot
     make(&[&server.address()]);
     let (through, direct) = (open(&[&proxy.address()], Copies::One), open(&[&server.address()], Copies::One));
     let (mut lost, mut later) = (0, 0);
-    for round in 0..rounds(40) {
+    let rounds = runs(13, 40);
+    for round in 0..rounds {
         let slot = (round % 8) as u16;
         let first = Work::take(&through, slot, round);
         let said = Arc::new(Mutex::new(first.synced.clone()));
@@ -56,8 +57,8 @@ fn an_owner_that_is_stopped_in_any_step_writes_no_more_once_another_has_the_slot
         let (_, now) = take(&direct, slot);
         assert!(now == second.synced, "round {round}: who had lost the slot wrote to it");
     }
-    println!("stopped in {} rounds: {lost} lost, {later} had been done and were told later", rounds(40));
-    assert_eq!(u64::from(lost), rounds(40));
+    println!("stopped in {rounds} rounds: {lost} lost, {later} had been done and were told later");
+    assert_eq!(u64::from(lost), rounds);
 }
 
 /// A statement that is still on its way when its connection breaks may be done at any time, under the owner's own term.
@@ -71,7 +72,7 @@ fn what_comes_late_of_a_broken_connection_is_not_done() {
     let backends = "select coalesce(string_agg(pid::text, ','), '0') from pg_stat_activity where application_name = 'totxegun'";
     let mut chance = Chance(7);
     let mut held = 0;
-    for round in 0..rounds(40) {
+    for round in 0..runs(10, 40) {
         let slot = (round % 8) as u16;
         let mut work = Work::take(&store, slot, round);
         assert!(work.round());
@@ -153,7 +154,7 @@ fn one_of_those_that_take_a_slot_has_it() {
     let Some(server) = Server::start("") else { return };
     make(&[&server.address()]);
     let store = Arc::new(open(&[&server.address()], Copies::One));
-    for term in 0..rounds(20) {
+    for term in 0..20 {
         let takers: Vec<_> = ["a", "b", "c", "d"]
             .map(|name| {
                 let store = store.clone();

@@ -3,11 +3,12 @@
 mod world;
 
 use super::*;
+use crate::files::test_runs::runs;
 use world::World;
 
 #[test]
 fn over_random_schedules_two_never_own_a_slot_and_each_has_its_place_in_the_end() {
-    for seed in 1..50 {
+    for seed in 1..=runs(15, 50) {
         let mut world = World::of(seed, &["a", "b", "c"]);
         world.is_rough = true;
         for _ in 0..60 {

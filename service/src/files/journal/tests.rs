@@ -12,6 +12,7 @@ mod writes;
 use super::*;
 use crate::files::disk::{Call, FAILED};
 use crate::files::test_random::TestRandom;
+use crate::files::test_runs::runs;
 use bytes::Bytes;
 use letters::{body, Letters, Reading};
 use std::path::Path;
@@ -168,7 +169,7 @@ fn a_segment_is_not_before_that_which_the_outbox_knows() {
 
 #[test]
 fn it_is_as_a_list_in_memory_over_any_calls_and_starts() {
-    for seed in 0..12 {
+    for seed in 0..runs(4, 12) {
         let mut numbers = TestRandom(seed);
         let folder = tempfile::tempdir().unwrap();
         let open = |reach| open_from(&Disk::default(), folder.path(), Durability::Process, reach).unwrap();

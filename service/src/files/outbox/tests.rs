@@ -12,6 +12,7 @@ use super::*;
 use crate::files::disk::Call;
 use crate::files::records::{self, Which};
 use crate::files::test_random::TestRandom;
+use crate::files::test_runs::runs;
 use std::fs::File;
 use std::path::Path;
 use std::sync::atomic::{AtomicBool, AtomicUsize};

@@ -1,6 +1,7 @@
 //! Requests drawn at random, however they are written, and what of them goes where.
 
 use super::*;
+use crate::files::test_runs::runs;
 use crate::otlp::messages::*;
 use crate::otlp::tests::posted;
 use crate::otlp::tests::{Random, Spelling};
@@ -81,17 +82,13 @@ fn spellings(request: &ExportMetricsServiceRequest) -> Vec<Bytes> {
     (0..8).map(|draw| spelling(draw).request(request).into()).collect()
 }
 
-/// How many requests are drawn: more of them where it is told so.
-fn draws(most: u64) -> u64 {
-    std::env::var("TOTXEGUN_SEEDS").map_or(most, |seeds| seeds.parse().unwrap())
-}
-
 /// Else the same series would be counted in two places, each of which takes what the other has.
 #[test]
 fn all_points_of_a_series_have_one_slot() {
     let (resources, mut random) = (resources(&[]), Random(0x5ee7));
     let (mut split, mut series) = (0, 0);
-    for _ in 0..draws(500) {
+    let requests = runs(100, 500) as usize;
+    for _ in 0..requests {
         let mut request = random.request();
         let whole = Bytes::from(request.encode_to_vec());
         let wanted = read(&resources, Encoding::Protobuf, &whole);
@@ -122,7 +119,7 @@ fn all_points_of_a_series_have_one_slot() {
         }
         series += wanted.0.len();
     }
-    assert!(split > 1000 && series > 300, "{split} {series}");
+    assert!(split > 2 * requests && 5 * series > 3 * requests, "{split} {series}");
 }
 
 #[test]

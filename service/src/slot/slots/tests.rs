@@ -5,6 +5,7 @@ use super::super::posted::RequestReader;
 use super::super::{Shared, Slot};
 use super::*;
 use crate::core::{Across, Core};
+use crate::files::test_runs::runs;
 use crate::files::{Durability, Folder};
 use crate::intake::head::{Head, Packing};
 use crate::intake::{Budget, Hears, Intake};
@@ -13,10 +14,6 @@ use crate::otlp::series::forwarded;
 use crate::otlp::{posts_of_test, prepare, requests_of_test, Clock, Reading};
 use std::path::Path;
 use std::sync::Mutex;
-
-fn draws(most: usize) -> usize {
-    std::env::var("TOTXEGUN_SEEDS").map_or(most, |seeds| seeds.parse().unwrap())
-}
 
 /// One book that gets requests whole, and one that gets them in parts.
 struct Both {
@@ -103,10 +100,10 @@ impl Both {
 #[test]
 fn the_parts_of_requests_give_the_counts_and_totals_of_the_whole() {
     let mut both = Both::new();
-    let many = draws(1500);
+    let many = runs(500, 1500) as usize;
     let of_protobuf = (1..).flat_map(|seed| posts_of_test(seed, 500)).take(many);
     for (number, body) in of_protobuf.enumerate() {
-        both.post(["A", "B"][number / 700 % 2], Encoding::Protobuf, body.into());
+        both.post(["A", "B"][number * 2 / many], Encoding::Protobuf, body.into());
         if number % 100 == 99 {
             both.flush();
         }

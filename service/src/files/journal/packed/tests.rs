@@ -4,6 +4,7 @@ use super::super::post::OfRun;
 use super::*;
 use crate::files::records;
 use crate::files::test_random::TestRandom;
+use crate::files::test_runs::runs;
 
 const MINUTE: u64 = 60_000_000_000;
 /// A time of 2026.
@@ -114,7 +115,7 @@ fn random_points_come_back() {
 #[test]
 fn each_cut_and_each_flipped_byte_is_no_points_or_the_one_form_of_some() {
     let mut chance = TestRandom(2);
-    for _ in 0..300 {
+    for _ in 0..runs(60, 300) {
         let bytes = of(&random(&mut chance));
         for at in 0..bytes.len() {
             is_one_form(&bytes[..at]);

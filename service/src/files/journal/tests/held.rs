@@ -1,7 +1,7 @@
 //! Posts of quarantined senders, in files of their own.
 
 use super::*;
-use crate::files::power::{copy, place, seeds, Shadow};
+use crate::files::power::{copy, place, Shadow};
 use std::sync::atomic::AtomicU64;
 
 fn of(sender: &str, text: &str) -> Post {
@@ -292,7 +292,7 @@ fn run(folder: &Path, left: &Path, chance: &mut TestRandom) -> (u64, Queues) {
 
 #[test]
 fn whenever_the_power_is_lost_each_post_that_is_held_is_there_once() {
-    for seed in 0..seeds(12) {
+    for seed in 0..runs(4, 12) {
         let place = place();
         let at = |name: &str| place.path().join(name);
         let mut chance = TestRandom(seed);

@@ -1,7 +1,7 @@
 //! Losses of power, and another one at each call of the start that follows.
 
 use super::*;
-use crate::files::power::{copy, disk, place, seeds, Shadow};
+use crate::files::power::{copy, disk, place, Shadow};
 
 /// The posts of a run up to a loss of power.
 #[derive(Default)]
@@ -46,7 +46,7 @@ fn run(folder: &Path, left: &Path, durability: Durability, chance: &mut TestRand
 
 #[test]
 fn what_was_durable_is_there_and_of_the_rest_the_first_posts() {
-    for seed in 0..seeds(45) {
+    for seed in 0..runs(10, 45) {
         let place = place();
         let at = |name: &str| place.path().join(name);
         let mut chance = TestRandom(seed);

@@ -100,7 +100,7 @@ impl Model {
 
 #[tokio::test]
 async fn it_is_as_its_model_over_any_calls_and_starts() {
-    for seed in 0..10 {
+    for seed in 0..runs(4, 10) {
         let mut numbers = TestRandom(seed);
         let folder = tempfile::tempdir().unwrap();
         let open = || open_on(&Disk::default(), folder.path(), "e", 2500).unwrap();

@@ -1,7 +1,7 @@
 //! Losses of power in the middle of any call, and another one at each call of the start that follows.
 
 use super::*;
-use crate::files::power::{copy, disk, place, seeds, Shadow};
+use crate::files::power::{copy, disk, place, Shadow};
 use std::collections::BTreeMap;
 
 enum Step {
@@ -99,7 +99,7 @@ fn run(at: impl Fn(&str) -> PathBuf, chance: &mut TestRandom) -> Vec<String> {
 
 #[tokio::test]
 async fn what_was_durable_is_there_and_of_the_rest_what_was_made_first() {
-    for seed in 0..seeds(45) {
+    for seed in 0..runs(15, 45) {
         let place = place();
         let at = |name: &str| place.path().join(name);
         let mut chance = TestRandom(seed);
