@@ -5,8 +5,8 @@
 
 It needs gcc. A preloaded library (interrupt_files.c) counts the calls that write, sync, cut, rename, delete or make files
 of the service's folder. A run is four senders' posts with flushes, a quarantine, a release, and an end by SIGTERM. For each
-call of such a run, or each EVERY-th, the run is made again, and interrupted there in each of these ways,
-or in those that are named:
+call of such a run the run is made again, and interrupted there in each of these ways, or in those that are named. With EVERY
+each way has each EVERY-th call alone, from another one on than the way before, so that together they have many calls:
   - before, middle, behind: the process is killed there; of what is written half is there, or all;
   - ENOSPC, EIO: the call fails; where it is a write or a sync the service has to end by it;
   - cut: the power is lost: of each file only what was synced is left, of each folder the names that were;
@@ -37,7 +37,6 @@ import tempfile
 import threading
 import time
 from collections.abc import Iterator, Sequence
-from typing import Any
 
 from testing import TESTS
 from testing.service import OUT_OF_ORDER, Sender, Service, SqliteSink, Value, add_points, differences, overlaps, told_to_all, wait_until
@@ -319,12 +318,17 @@ class Runs:
                 print(f"failed: {way} call {', '.join(calls) if at else at}: {fault}", flush=True)
 
 
-def places_of(calls: list[str], every: int, ways: Sequence[str]) -> Iterator[Any]:
-    """Where a run is interrupted, and how."""
-    for at in range(1, len(calls) + 1, every):
-        _, call, path = calls[at - 1].split(" ")
-        is_of_journal = call in SYNCS and "/journal/" in path
-        yield from ((at, way) for way in ways if way != "held" or is_of_journal)
+def is_sync_of_journal(call: str) -> bool:
+    _, name, path = call.split(" ")
+    return name in SYNCS and "/journal/" in path
+
+
+def places_of(calls: list[str], every: int, ways: Sequence[str]) -> Iterator[tuple[int, str]]:
+    """Where a run is interrupted, and how: in each way at least once."""
+    for number, way in enumerate(ways):
+        places = [at for at, call in enumerate(calls, 1) if way != "held" or is_sync_of_journal(call)]
+        first = number % max(1, min(every, len(places)))
+        yield from ((at, way) for at in places[first::every])
 
 
 def main(program: str, every: int = 1, ways: Sequence[str] = WAYS) -> int:
