@@ -16,7 +16,7 @@ import sys
 import time
 
 from tooling import prover
-from build import MOST_JOBS, SERVICE_MADE
+from build import MOST_JOBS
 from tooling.crates import OUT, ROOT, Crate, read_crates
 from tooling.files import content
 from tooling.proved import said, write_proof
@@ -24,6 +24,8 @@ from tooling.steps import Failed, Step, Steps, end_of, end_of_lines, locked, sho
 
 PLAY = "crates/play/out/play"
 GATEWAY = "crates/gateway/out/gateway"
+# The service, as cargo's steps below compile it with its tests: quickly. A release build takes twice what all of that does.
+PROGRAM = f"{os.environ.get('CARGO_TARGET_DIR', f'{ROOT}/service/target')}/debug/totxegun"
 # What the service is linked with. The prover's part proves it, and leaves no library.
 BOOK = "book_c"
 LIBRARY = f"crates/{BOOK}/out/lib{BOOK}.a"
@@ -31,6 +33,7 @@ LIBRARY = f"crates/{BOOK}/out/lib{BOOK}.a"
 # Each is a script of tests/, the program that it runs, about how many seconds it takes, and whether it
 # measures time, so that nothing may run beside it. Those that take longest come first.
 STEPS = (
+    ("same_answers.py", f"{PROGRAM} {GATEWAY}", 100, False),
     ("slow_parties.py", GATEWAY, 70, False),
     ("gateway_sizes.py", GATEWAY, 30, False),
     ("gateway_serves.py", GATEWAY, 5, False),
@@ -46,10 +49,11 @@ STEPS = (
     ("readme_examples.py", PLAY, 1, False),
     ("gateway_load.py", GATEWAY, 5, True),
 )
-# Of the sources alone: what `make fmt` would change, the definitions that docs/PROOFS.md counts and lists, the pictures, the Python,
-# the checksums of Cargo.lock, and whether each wrong copy of the service, and each edit of the crates, can still be made.
+# With the toolchain: what `make fmt` would change.
+LAID_OUT = ("crates_are_laid_out", ["tools/format.py", "--check"], 3)
+# Of the sources alone: the definitions that docs/PROOFS.md counts and lists, the pictures, the Python, the checksums of Cargo.lock,
+# and whether each wrong copy of the service, and each edit of the crates, can still be made.
 TOOL_STEPS = (
-    ("crates_are_laid_out", ["tools/format.py", "--check"], 3),
     ("promise_is_counted", ["tools/promise.py", "--check"], 2),
     ("pictures_are_drawn", ["tools/pictures.py", "--check"], 2),
     ("python_is_typed", ["tools/python.py", "--check"], 30),
@@ -57,16 +61,13 @@ TOOL_STEPS = (
     ("wrong_copies_can_be_made", ["tools/wrong.py", "--check"], 1),
     ("edits_can_be_made", ["tools/edits.py", "--check"], 1),
 )
-# The service: cargo's steps, one after another over one folder, and scripts of tests/ with what they run. Nothing is compiled a
-# second time here, so nothing is kept for that.
-CARGO = ("env", "CARGO_INCREMENTAL=0", "tools/cargo")
-# What `cargo clippy --all-targets -- -D warnings` checks, the library, the program and all tests, is what `cargo test` compiles.
-# Clippy's own compiler does both at once: it lints, and then compiles as the other does.
-LINTING = ("env", "RUSTC_WORKSPACE_WRAPPER=clippy-driver", "CLIPPY_ARGS=-Dwarnings", *CARGO[1:])
+# The service: cargo's steps, one after another over one folder. Nothing is compiled a second time here, so nothing is kept for
+# that. What `cargo clippy --all-targets -- -D warnings` checks, the library, the program and all tests, is what `cargo test`
+# compiles. Clippy's own compiler does both at once: it lints, and then compiles as the other does.
+LINTING = ("env", "RUSTC_WORKSPACE_WRAPPER=clippy-driver", "CLIPPY_ARGS=-Dwarnings", "CARGO_INCREMENTAL=0", "tools/cargo")
 CARGO_STEPS = (
-    ("service_is_laid_out", [*CARGO, "fmt", "--check"]),
-    ("service_is_built", [*CARGO, "build", "--release"]),
-    ("service_is_linted", [*LINTING, "test", "--no-run"]),
+    ("service_is_laid_out", ["tools/cargo", "fmt", "--check"]),
+    ("service_is_built", [*LINTING, "test", "--no-run"]),
     ("service_tests", [*LINTING, "test"]),
 )
 # After the program's name: further words, and about how many seconds it takes.
@@ -74,9 +75,8 @@ SERVICE_STEPS: tuple[tuple[str, list[str], int], ...] = (
     ("service_load.py", ["50"], 90),
     ("by_hour.py", ["10"], 50),
     ("clock_jumps.py", ["1"], 20),
-    ("service_interrupted.py", ["5"], 300),
+    ("service_interrupted.py", ["30"], 60),
     ("close_interrupted.py", ["3"], 60),
-    ("same_answers.py", [GATEWAY], 100),
     ("behind_proxies.py", [], 60),
     ("store.py", ["60"], 120),
     # Of several machines, shortly: `make several` tries more, store_peers.py among it, which waits for instances for minutes, and
@@ -206,7 +206,8 @@ def step_of(script: str, program: str, seconds: int, is_timed: bool, before: lis
 
     name = of + script.partition(".")[0].removeprefix(of)
     lane = None if before else "ports"
-    return Step(name, work, " ".join(command), weight=seconds, lane=lane, alone=is_timed)
+    after = ["service_is_built"] if PROGRAM in command else []
+    return Step(name, work, " ".join(command), after=after, weight=seconds, lane=lane, alone=is_timed)
 
 
 def tool_step(name: str, command: list[str], seconds: int) -> Step:
@@ -242,10 +243,9 @@ def service_steps(before: list[str]) -> list[Step]:
     """The steps that run the service, after the one that builds it."""
     steps = [step_of(it, "", 60, False, []) for it in WITHOUT_PROGRAM]
     for script, words, seconds in SERVICE_STEPS:
-        step = step_of(script, " ".join([SERVICE_MADE, *words]), seconds, False, before, "service_")
+        step = step_of(script, " ".join([PROGRAM, *words]), seconds, False, before, "service_")
         if script in IN_GO:
             step.lane = step.lane or "go"
-        step.after = ["service_is_built"]
         steps.append(step)
     return steps
 
@@ -296,7 +296,8 @@ def main(words: list[str]) -> int:
     if not failed:
         before = [OWN_NETWORK] if has_networks() else []
         steps = Steps([
-            *[tool_step(*it) for it in TOOL_STEPS], *[step_of(*it, before) for it in STEPS], *cargo_steps(), *service_steps(before),
+            *[tool_step(*it) for it in (LAID_OUT, *TOOL_STEPS)], *cargo_steps(),
+            *[step_of(*it, before) for it in STEPS], *service_steps(before),
         ])
         steps.run()
         passed, failed = passed + len(steps.passed), len(steps.failed)
