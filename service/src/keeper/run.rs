@@ -144,11 +144,15 @@ impl Keeper {
         Ok(())
     }
 
-    /// Refuses posts from now on, and makes a last checkpoint.
+    /// Refuses posts from now on, and makes a last checkpoint. Then each sender that still waits for its answer is told: what
+    /// follows may be that another instance has the slot, and then a post that is durable would be answered 503.
     async fn finish(&mut self) -> Result<(), Trouble> {
         self.slot.stop();
         let slot = self.slot.number();
-        match self.checkpoint().await? {
+        let flushed = self.checkpoint().await?;
+        let journal = &self.slot.journal;
+        journal.durable(journal.now()).await?;
+        match flushed {
             Ok(_) => tracing::info!(slot, "slot {slot}: all that was taken is in the outbox"),
             Err(refused) => {
                 let reason = refused.to_string();

@@ -34,6 +34,8 @@ pub(crate) enum Step {
     Write,
     Rename,
     Remove,
+    /// Before the journal's thread comes aboard.
+    Board,
     /// Before a sync is a commit.
     Sync,
     /// It is one, and its answer may be lost.
@@ -193,6 +195,7 @@ impl Drive for Owner {
     }
 
     fn board(&self) {
+        let _ = (self.hook)(Step::Board); // it may wait, and never fails
         self.aboard.store(true, SeqCst);
     }
 

@@ -362,3 +362,35 @@ async fn nobody_waits_for_the_store_with_the_lock_of_the_book() {
     assert_eq!(run.flush().await, 1);
     run.end().await;
 }
+
+/// What follows is that another has the slot: a post that is durable would be answered 503, and its repeat 400.
+#[tokio::test(flavor = "multi_thread", worker_threads = 4)]
+async fn who_waits_is_answered_before_the_slot_is_handed_over() {
+    let (store, is_held) = (Arc::new(Store::default()), Arc::new(AtomicBool::new(false)));
+    let held = is_held.clone();
+    let owner = store.take_with(move |step| {
+        while step == Step::Board && held.load(SeqCst) {
+            std::thread::sleep(Duration::from_millis(1));
+        }
+        Ok(())
+    });
+    let run = began(owner).await.unwrap();
+    is_held.store(true, SeqCst);
+    let slot = run.slot.clone();
+    let post = tokio::spawn(async move { post_of(&slot, 1).await });
+    while run.slot.ungrouped() == 0 {
+        tokio::time::sleep(Duration::from_millis(1)).await;
+    }
+    let slot = run.slot.clone();
+    let mut handing_over = tokio::spawn(run.end());
+    while slot.outbox.waiting().0 == 0 {
+        tokio::time::sleep(Duration::from_millis(1)).await;
+    }
+    let handed_over = tokio::time::timeout(Duration::from_millis(200), &mut handing_over).await.is_ok();
+    if handed_over {
+        store.take();
+    }
+    is_held.store(false, SeqCst);
+    assert_eq!(post.await.unwrap(), Outcome::taken(0), "handed over before: {handed_over}");
+    handing_over.await.unwrap();
+}
