@@ -269,6 +269,12 @@ impl Outbox {
 
     /// The sink has all up to this request: what told so is not in the outbox.
     pub(super) fn is_delivered_to(&self, number: u64) -> Result<(), Fault> {
+        let last = locked(&self.state).facts.next - 1;
+        if number > last {
+            // The next requests would have keys that were used.
+            let what = format!("ends at request {last}, and the sink has requests up to number {number}: put all of the slot's files back");
+            return Err(Fault::Damaged { path: self.folder.clone(), at: 0, what });
+        }
         loop {
             let first = locked(&self.state).front().map(|front| front.waiting.number);
             match first.filter(|first| *first <= number) {

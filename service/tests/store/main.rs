@@ -1,6 +1,7 @@
 //! The store in PostgreSQL, against servers of its own. Without `initdb` nothing is tried, and a line says so.
 
 mod faults;
+mod lost;
 mod made;
 mod moved;
 mod owners;

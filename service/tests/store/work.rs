@@ -163,12 +163,17 @@ pub fn contents(drive: &dyn Drive) -> Contents {
 
 /// The next owner, and what it finds.
 pub fn take(store: &PostgresStore, slot: u16) -> (Arc<PostgresDrive>, Contents) {
+    let drive = taken(store, slot);
+    let found = contents(&*drive);
+    (drive, found)
+}
+
+/// The next owner, who has read nothing yet.
+pub fn taken(store: &PostgresStore, slot: u16) -> Arc<PostgresDrive> {
     loop {
         let term = term_of(store, slot);
         if let Ok(Some(term)) = wait(store.take(slot, term, "next")) {
-            let drive = store.drive(slot, term).expect("nobody else takes it");
-            let found = contents(&*drive);
-            return (drive, found);
+            return store.drive(slot, term).expect("nobody else takes it");
         }
         std::thread::sleep(std::time::Duration::from_millis(50));
     }

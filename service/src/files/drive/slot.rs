@@ -8,7 +8,7 @@ use crate::files::{segment, Dead, Durability, Fault, Journal, Left, Outbox};
 use std::path::Path;
 use std::sync::Arc;
 
-const LOST_OUTBOX: &str = "has no segments, and the journal beside it has: put all of the slot's files back";
+const PUT_BACK: &str = "put all of the slot's files back";
 
 /// Opens the files of a slot that was taken just now. Its requests have keys of the epoch, which is the store's for ever.
 pub fn open(drive: Arc<dyn Drive>, epoch: &str) -> Result<(Journal, Outbox, Dead), Fault> {
@@ -16,9 +16,8 @@ pub fn open(drive: Arc<dyn Drive>, epoch: &str) -> Result<(Journal, Outbox, Dead
     let disk = Disk::of_drive(drive);
     let (journal, outbox) = (Path::new("journal"), Path::new("outbox"));
     let is_new = segment::numbers(&disk, outbox)?.is_empty();
-    if is_new && !segment::numbers(&disk, journal)?.is_empty() {
-        // It would count from 1 again, under keys that were used.
-        return Err(Fault::Damaged { path: outbox.into(), at: 0, what: LOST_OUTBOX.into() });
+    if is_new {
+        check_new(&disk, outbox, journal, delivered)?;
     }
     let free_space = Arc::new(FreeSpace::endless());
     let outbox = Outbox::read(&disk, outbox, epoch, free_space.clone())?.begun()?;
@@ -34,4 +33,17 @@ pub fn open(drive: Arc<dyn Drive>, epoch: &str) -> Result<(Journal, Outbox, Dead
     let journal = Journal::go_on(&disk, journal, Durability::Disk, free_space.clone(), &expected, left)?;
     let dead = Dead::open(&disk, Path::new("dead"), free_space)?;
     Ok((journal, outbox, dead))
+}
+
+/// A slot that had an outbox before would count from 1 again, under keys that were used.
+fn check_new(disk: &Disk, outbox: &Path, journal: &Path, delivered: u64) -> Result<(), Fault> {
+    let proof = if !segment::numbers(disk, journal)?.is_empty() {
+        "the journal beside it has".to_string()
+    } else if delivered > 0 {
+        format!("the sink has requests of it up to number {delivered}")
+    } else {
+        return Ok(());
+    };
+    let what = format!("has no segments, and {proof}: {PUT_BACK}");
+    Err(Fault::Damaged { path: outbox.into(), at: 0, what })
 }

@@ -179,14 +179,15 @@ impl PostgresDrive {
         Ok(found)
     }
 
-    /// What is there no more ends the slot, and not all that this process has.
+    /// The slot is this owner's, and a row is gone that was there when it was taken. Another instance may not find it either, so
+    /// this is a fault of the file, and no loss of the slot.
     fn vanished(&self, file: u64, pieces: &[u64]) -> io::Error {
         let (slot, first) = (self.slot, pieces.first().copied().unwrap_or_default());
-        tracing::error!(
-            "slot {slot}: the store has lost piece {first} of file {file}, so the slot is not served"
+        let what = format!(
+            "the store has lost piece {first} of file {file}, so slot {slot} is not served: put that row of \
+             totxegun_store.piece back, from another server or a backup"
         );
-        self.lose();
-        lost()
+        io::Error::new(io::ErrorKind::InvalidData, what)
     }
 }
 

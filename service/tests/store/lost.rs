@@ -1,0 +1,65 @@
+//! What a store has lost of a slot is refused by name. No other instance has the slot then: as a loss of it, it would be taken
+//! again and again, and nobody would be told why.
+
+use super::server::Server;
+use super::work::taken;
+use super::{make, open};
+use std::io::ErrorKind;
+use std::path::Path;
+use totxegun::files::drive::{self, Drive};
+use totxegun::files::{Fault, Runs};
+use totxegun::store::postgres::{Copies, PostgresStore};
+
+fn made() -> Option<(Server, PostgresStore)> {
+    let server = Server::start("")?;
+    make(&[&server.address()]);
+    let store = open(&[&server.address()], Copies::One);
+    Some((server, store))
+}
+
+/// Why the next owner can't open the slot; empty where it can.
+fn refusal(store: &PostgresStore) -> String {
+    let refused = drive::open(taken(store, 0) as _, "e").err();
+    assert!(!matches!(refused, Some(Fault::Lost(_))), "the slot is its own");
+    refused.map(|fault| fault.to_string()).unwrap_or_default()
+}
+
+/// Requests that wait for the sink.
+fn commit(store: &PostgresStore, requests: usize) {
+    let (journal, outbox, _dead) = drive::open(taken(store, 0) as _, "e").unwrap();
+    let body = br#"{"resourceMetrics":[]}"#.to_vec();
+    outbox.commit_with(&vec![body; requests], journal.turn().0, Runs::new()).unwrap();
+    outbox.settle().unwrap();
+}
+
+#[test]
+fn a_piece_that_is_gone_is_named_and_the_slot_stays_its_owners() {
+    let Some((server, store)) = made() else { return };
+    commit(&store, 1);
+    let owner = taken(&store, 0);
+    let file = owner.open(Path::new("outbox/000000000001.seg")).unwrap();
+    server.ask("delete from totxegun_store.piece");
+    let gone = owner.read_at(file, &mut [0; 8], 0).unwrap_err();
+    assert_eq!(gone.kind(), ErrorKind::InvalidData, "{gone}");
+    owner.sync().expect("the slot is its own");
+    let fault = drive::open(owner, "e").err().unwrap();
+    let text = fault.to_string();
+    let says = ["outbox/000000000001.seg", "slot 0 is not served", "totxegun_store.piece back"];
+    assert!(matches!(fault, Fault::Io { .. }) && says.iter().all(|part| text.contains(part)), "{text}");
+}
+
+/// Its next requests would have keys that were used: the sink would take them for those that it has.
+#[test]
+fn a_slot_without_the_files_of_which_the_sink_has_requests_is_not_begun_anew() {
+    let Some((server, store)) = made() else { return };
+    commit(&store, 3);
+    server.ask("insert into totxegun_store.delivered values (0, 1, 4)");
+    let older = refusal(&store);
+    assert!(older.contains("ends at request 3, and the sink has requests up to number 4"), "{older}");
+    server.ask("delete from totxegun_store.piece");
+    server.ask("delete from totxegun_store.file");
+    let gone = refusal(&store);
+    assert!(gone.contains("has no segments, and the sink has requests of it up to number 4"), "{gone}");
+    server.ask("delete from totxegun_store.delivered");
+    assert_eq!(refusal(&store), "", "it is new");
+}
