@@ -12,8 +12,8 @@
 //! Numbers of 19 and 22 are packed. A name is written with the first points of a segment that need it, by the same write.
 //!
 //! A record gets its place under one short lock, so that the order in the file is the order of the calls, and is in memory
-//! until the next write, which is for all that were appended (`write`). One thread syncs, once for all that wait; nobody who
-//! must wait for the disk holds the lock of those who append.
+//! until the next write, which is for all that were appended (`write`). One thread syncs, once for all that wait, and where posts
+//! are only written another writes; nobody who must wait for the disk holds the lock of those who append.
 
 mod by_number;
 mod earlier_segment;
@@ -26,6 +26,7 @@ mod post;
 mod reading;
 mod record;
 mod sync;
+mod watermark;
 mod write;
 
 use super::disk::{Disk, File};
@@ -34,6 +35,7 @@ use super::free_space::FreeSpace;
 use super::records::{self, Which};
 use super::segment::{self, Ahead, Dropped, Segment};
 use super::{locked, seconds, Durability, Fault};
+use crate::work::others_first;
 pub use by_number::ByNumber;
 pub use held::Held;
 pub use name_records::shared_ends;
@@ -42,10 +44,10 @@ pub use open::Left;
 pub use post::{Body, Names, NoNames, OfRun, Points, Post, Replayed};
 use std::collections::{BTreeMap, BTreeSet};
 use std::path::{Path, PathBuf};
-use std::sync::atomic::{AtomicU64, Ordering::SeqCst};
-use std::sync::{Arc, Condvar, Mutex};
+use std::sync::{Arc, Mutex};
+use std::thread::JoinHandle;
 use std::time::Duration;
-use sync::Waiters;
+use watermark::Watermark;
 
 const POST: u8 = records::OWN;
 const COPY: u8 = records::OWN + 1;
@@ -55,8 +57,9 @@ const POINTS: u8 = records::OWN + 4;
 const RUNS: u8 = records::OWN + 5;
 const NAME_AFTER: u8 = records::OWN + 6;
 
-/// How the thread is named that syncs.
+/// How the thread is named that syncs, and the one that writes.
 pub(super) const SYNCER: &str = "journal";
+const WRITER: &str = "journal-write";
 
 /// A place in the journal: all that was appended before it.
 #[derive(Clone, Copy, Debug, PartialEq, Eq, PartialOrd, Ord)]
@@ -66,7 +69,7 @@ pub struct Ticket(pub u64);
 /// is durable never.
 pub struct Journal {
     shared: Arc<Shared>,
-    syncer: Option<std::thread::JoinHandle<()>>,
+    threads: Vec<JoinHandle<()>>,
     /// The segment that this start has begun.
     begun: u64,
     dropped: Vec<Dropped>,
@@ -91,16 +94,13 @@ struct Shared {
     place: Mutex<Place>,
     /// Locked while something is written into the segment, before `place`: what is written then.
     writing: Mutex<Vec<u8>>,
-    /// All before this ticket is in a file.
-    written: AtomicU64,
+    /// What is in a file.
+    written: Watermark,
     /// Never locked over a call of the disk: who shows it must not wait for one.
     sizes: Mutex<Vec<Size>>,
     /// What of quarantined senders' files counts, where a segment is the first that is replayed.
     held: Mutex<BTreeMap<u64, held::List>>,
-    /// All before this ticket is durable.
-    durable: AtomicU64,
-    waiters: Mutex<Waiters>,
-    work: Condvar,
+    durable: Watermark,
     syncing: Mutex<()>,
     /// The next segment, durable, which has no name yet. Locked after `place`.
     next: Mutex<Option<Segment>>,
@@ -143,12 +143,12 @@ impl Journal {
         };
         let length = (names.len() + record.len()) as u64;
         shared.free_space.use_up(length);
-        let put = place.segment.append(&[&names, &record]).and_then(|()| match shared.disk.keeps_order() {
-            true => place.segment.write(), // what a drive has is in memory until its sync anyway
-            false => Ok(()),
-        });
-        if let Err(fault) = put {
-            let Lost = shared.disk.fail(fault);
+        place.segment.append(&[&names, &record]);
+        if shared.disk.keeps_order() {
+            // What a drive has is in memory until its sync anyway.
+            if let Err(fault) = place.segment.write() {
+                let Lost = shared.disk.fail(fault);
+            }
         }
         place.ticket += 1;
         place.moved.remove(&post.sender);
@@ -184,16 +184,17 @@ impl Journal {
 
     /// Returns once all before a ticket is as durable as was asked for, or once the slot is lost.
     pub async fn durable(&self, ticket: Ticket) -> Result<(), Lost> {
+        let Shared { disk, durable, written, .. } = &*self.shared;
         match self.shared.durability {
-            Durability::Disk => self.shared.synced(ticket.0).await,
-            Durability::Process => self.write_with_others(ticket).await,
+            Durability::Disk => durable.wait_for(ticket.0, disk, async {}).await,
+            Durability::Process => written.wait_for(ticket.0, disk, others_first()).await,
         }
     }
 
     /// Makes sure that all before a ticket is on the disk before what comes next, whatever was asked for posts.
     pub fn settle(&self, ticket: Ticket) {
         let shared = &*self.shared;
-        if !shared.disk.keeps_order() && shared.durable.load(SeqCst) < ticket.0 {
+        if !shared.disk.keeps_order() && !shared.durable.has(ticket.0) {
             shared.sync();
         }
     }

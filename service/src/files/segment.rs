@@ -3,7 +3,7 @@
 mod dropped;
 
 use super::disk::{io_fault, Disk, File};
-use super::records::{self, Which, END, MARK, MARK_LENGTHS};
+use super::records::{self, Which, END, MARK};
 use super::Fault;
 pub use dropped::{keep_aside, Dropped};
 use std::io::ErrorKind;
@@ -20,7 +20,7 @@ const LEAST_BLOCKS: u64 = 64 << 10;
 const MOST_BLOCKS: u64 = 16 << 20;
 
 /// What is there of a file ahead of its records, and up to where.
-#[derive(Clone, Copy)]
+#[derive(Clone, Copy, Debug)]
 pub enum Ahead {
     Nothing,
     /// Blocks, behind the file's end. A write that needs none costs less, and does not wait for a sync, which else
@@ -29,6 +29,51 @@ pub enum Ahead {
     /// Zeros, in one piece: a sync of what overwrites them changes no length and no block of the file, and so is one
     /// write to the disk.
     Zeros(u64),
+}
+
+impl Ahead {
+    fn reaches(self, end: u64) -> bool {
+        match self {
+            Ahead::Nothing => true,
+            Ahead::Blocks(there) | Ahead::Zeros(there) => there >= end,
+        }
+    }
+
+    /// Makes what a write from `at` to `end` needs. Zeros go on half a piece ahead: so a mark says how long the file is, as a rule,
+    /// before a record needs that.
+    fn make(&mut self, disk: &Disk, file: &File, path: &Path, at: u64, end: u64) -> Result<(), Fault> {
+        match self {
+            Ahead::Blocks(taken) if *taken < end => {
+                *taken = end + (end / 8).clamp(LEAST_BLOCKS, MOST_BLOCKS);
+                disk.take_blocks(file, at, *taken - at);
+            }
+            Ahead::Zeros(filled) => {
+                let wanted = end + PIECE as u64 / 2;
+                while *filled < wanted || *filled % PIECE as u64 > 0 {
+                    disk.write_at(file, path, &ZEROS[..FILL], *filled)?;
+                    *filled += FILL as u64;
+                }
+            }
+            Ahead::Nothing | Ahead::Blocks(_) => {}
+        }
+        Ok(())
+    }
+}
+
+/// What was appended and is in no file yet: for the one that writes it, with no lock of those that append.
+pub struct Write {
+    file: Arc<File>,
+    path: PathBuf,
+    at: u64,
+    pub ahead: Ahead,
+}
+
+impl Write {
+    pub fn put(&mut self, disk: &Disk, bytes: &[u8]) -> Result<(), Fault> {
+        let Write { file, path, at, ahead } = self;
+        ahead.make(disk, file, path, *at, *at + bytes.len() as u64)?;
+        disk.write_at(file, path, bytes, *at)
+    }
 }
 
 /// The numbers of the segments of a folder, ascending.
@@ -213,7 +258,8 @@ impl Segment {
 
     /// Writes records with one write: where it begins.
     pub fn put(&mut self, bytes: &[u8]) -> Result<u64, Fault> {
-        self.make_room(bytes.len())?;
+        self.mark_before();
+        self.make_ahead(self.at + bytes.len() as u64)?;
         self.write()?;
         let begin = self.at;
         self.disk.write_at(&self.file, &self.path, bytes, begin)?;
@@ -221,21 +267,17 @@ impl Segment {
         Ok(begin)
     }
 
-    /// Puts records behind the others, for the next write.
-    pub fn append(&mut self, parts: &[&[u8]]) -> Result<(), Fault> {
-        let length = parts.iter().map(|part| part.len()).sum();
-        self.make_room(length)?;
+    /// Puts records behind the others, for the next write. The disk is not asked: that call has the lock of the book.
+    pub fn append(&mut self, parts: &[&[u8]]) {
+        self.mark_before();
         parts.iter().for_each(|part| self.unwritten.extend_from_slice(part));
-        self.end_record(length);
-        Ok(())
+        self.end_record(parts.iter().map(|part| part.len()).sum());
     }
 
     /// A mark goes before what follows a sync.
-    fn make_room(&mut self, length: usize) -> Result<(), Fault> {
-        self.make_ahead(self.at + (MARK_LENGTHS[1] + length) as u64)?;
-        match self.durable > self.marked {
-            true => self.append_mark(),
-            false => Ok(()),
+    fn mark_before(&mut self) {
+        if self.durable > self.marked {
+            self.append_mark();
         }
     }
 
@@ -246,31 +288,35 @@ impl Segment {
 
     /// Writes all that was appended.
     pub fn write(&mut self) -> Result<(), Fault> {
-        let mut bytes = Vec::new();
-        let begin = self.give_unwritten(&mut bytes);
-        match bytes.is_empty() {
-            true => Ok(()),
-            false => self.disk.write_at(&self.file, &self.path, &bytes, begin),
+        self.make_ahead(self.at)?;
+        let begin = self.at - self.unwritten.len() as u64;
+        match std::mem::take(&mut self.unwritten) {
+            bytes if bytes.is_empty() => Ok(()),
+            bytes => self.disk.write_at(&self.file, &self.path, &bytes, begin),
         }
     }
 
-    /// The same for who writes it: an empty buffer becomes what was appended. Where it begins.
-    pub fn give_unwritten(&mut self, buffer: &mut Vec<u8>) -> u64 {
+    /// The same for the one that writes it: an empty buffer becomes what was appended.
+    pub fn give_unwritten(&mut self, buffer: &mut Vec<u8>) -> Write {
         std::mem::swap(&mut self.unwritten, buffer);
-        self.at - buffer.len() as u64
+        let at = self.at - buffer.len() as u64;
+        Write { file: self.file.clone(), path: self.path.clone(), at, ahead: self.ahead }
     }
 
-    fn append_mark(&mut self) -> Result<(), Fault> {
+    /// What was made by that write.
+    pub fn has_ahead(&mut self, ahead: Ahead) {
+        self.ahead = ahead;
+    }
+
+    fn append_mark(&mut self) {
         let mark = self.mark(MARK);
-        self.make_ahead(self.at + mark.len() as u64)?;
         self.unwritten.extend_from_slice(&mark);
         self.at += mark.len() as u64;
         self.marked = self.durable;
-        Ok(())
     }
 
     fn put_mark(&mut self) -> Result<(), Fault> {
-        self.append_mark()?;
+        self.append_mark();
         self.write()
     }
 
@@ -303,24 +349,12 @@ impl Segment {
         self.says.map_or(0, |says| says.forgotten)
     }
 
-    /// Makes what a write up to `end` needs. Zeros go on half a piece ahead: so a mark says how long the file is, as a
-    /// rule, before a record needs that.
+    /// Before a write up to `end` by a call that may have the lock of the book. As a rule it is there.
     fn make_ahead(&mut self, end: u64) -> Result<(), Fault> {
-        match &mut self.ahead {
-            Ahead::Blocks(taken) if *taken < end => {
-                *taken = end + (end / 8).clamp(LEAST_BLOCKS, MOST_BLOCKS);
-                self.disk.take_blocks(&self.file, self.at, *taken - self.at);
-            }
-            Ahead::Zeros(filled) => {
-                let wanted = end + PIECE as u64 / 2;
-                while *filled < wanted || *filled % PIECE as u64 > 0 {
-                    self.disk.write_at(&self.file, &self.path, &ZEROS[..FILL], *filled)?;
-                    *filled += FILL as u64;
-                }
-            }
-            Ahead::Nothing | Ahead::Blocks(_) => {}
+        match self.ahead.reaches(end) {
+            true => Ok(()),
+            false => self.ahead.make(&self.disk, &self.file, &self.path, self.at, end),
         }
-        Ok(())
     }
 
     /// Notes that all before a place is durable, and that the file is so long. A drive needs no mark of that: it has nothing

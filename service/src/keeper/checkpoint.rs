@@ -107,6 +107,7 @@ fn tell_put_off(slot: &Slot, tries: u32, refused: Refused) {
 
 /// Takes all at once: its requests are written without the lock.
 fn flush(slot: &Slot, bodies: &mut Vec<Vec<u8>>) -> Result<Result<Group, Refused>, Trouble> {
+    slot.journal.write_all()?; // where the disk stalls, it is waited for without the lock
     let began = Instant::now();
     let runs = slot.runs.lock();
     let mut book = slot.core.lock();

@@ -1,7 +1,7 @@
 //! What an earlier run left in the journal.
 
 use super::earlier_segment::{self, EarlierSegment};
-use super::{prepare, Expected, Journal, NamedNumbers, Place, Shared, Size, Waiters, SYNCER};
+use super::{prepare, Expected, Journal, NamedNumbers, Place, Shared, Size, Watermark, SYNCER, WRITER};
 use crate::files::disk::{io_fault, Disk};
 use crate::files::free_space::FreeSpace;
 use crate::files::segment::{self, Dropped};
@@ -9,8 +9,8 @@ use crate::files::torn_tail::CHANGED;
 use crate::files::{Durability, Fault};
 use std::collections::BTreeSet;
 use std::path::Path;
-use std::sync::atomic::AtomicU64;
-use std::sync::{Arc, Condvar, Mutex};
+use std::sync::{Arc, Mutex};
+use std::thread::JoinHandle;
 
 /// The segments that an earlier run left.
 #[derive(Default)]
@@ -66,21 +66,26 @@ impl Journal {
             free_space,
             place: Mutex::new(place),
             writing: Mutex::default(),
-            written: AtomicU64::new(0),
+            written: Watermark::default(),
             sizes: Mutex::new(sizes),
             held: Mutex::new(held),
-            durable: AtomicU64::new(0),
-            waiters: Mutex::new(Waiters::default()),
-            work: Condvar::new(),
+            durable: Watermark::default(),
             syncing: Mutex::new(()),
             next: Mutex::new(None),
         });
         shared.try_sync()?;
-        let run = shared.clone();
-        let syncer = std::thread::Builder::new().name(SYNCER.into()).spawn(move || run.run());
-        let syncer = Some(syncer.map_err(io_fault(folder))?);
-        Ok(Journal { shared, syncer, begun: number, dropped })
+        let mut threads = vec![start(&shared, SYNCER, Shared::run)?];
+        if durability == Durability::Process && !disk.keeps_order() {
+            threads.push(start(&shared, WRITER, Shared::run_writer)?);
+        }
+        Ok(Journal { shared, threads, begun: number, dropped })
     }
+}
+
+fn start(shared: &Arc<Shared>, name: &str, run: fn(Arc<Shared>)) -> Result<JoinHandle<()>, Fault> {
+    let of_thread = shared.clone();
+    let thread = std::thread::Builder::new().name(name.into()).spawn(move || run(of_thread));
+    thread.map_err(io_fault(&shared.folder))
 }
 
 /// Segments that had no name yet.

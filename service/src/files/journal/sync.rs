@@ -1,13 +1,12 @@
-//! The journal's syncer: one thread, one `fdatasync` for all that wait.
+//! The journal's threads. The syncer makes all durable that others wait for, by one `fdatasync` for all. Where posts are only
+//! written, the writer writes for all that wait: a thread that serves senders would wait for a disk that stalls.
 
+use super::watermark::Wanted;
 use super::{locked, Journal, Shared};
 use crate::files::drive::Lost;
 use crate::files::Fault;
-use std::sync::atomic::Ordering::SeqCst;
-use std::sync::{Arc, PoisonError};
-use std::thread::ThreadId;
+use std::sync::Arc;
 use std::time::Duration;
-use tokio::sync::oneshot;
 
 /// How long what nobody waits for stays unsynced: so a machine's end takes no more, where posts are only written.
 const IDLE: Duration = Duration::from_secs(1);
@@ -21,77 +20,21 @@ enum Due {
     End,
 }
 
-#[derive(Default)]
-pub struct Waiters {
-    list: Vec<Waiter>,
-    /// The syncer has nothing to do.
-    idle: bool,
-    pub(super) ending: bool,
-}
-
-struct Waiter {
-    ticket: u64,
-    thread: ThreadId,
-    tell: oneshot::Sender<Told>,
-}
-
-/// Says that what was waited for is durable: to who gets it and, once it is dropped, to others of the same thread. So a
-/// thread is woken once by a sync, and nobody is forgotten where a waiter goes away.
-struct Told(Vec<oneshot::Sender<Told>>);
-
-impl Drop for Told {
-    fn drop(&mut self) {
-        for other in self.0.drain(..) {
-            let _ = other.send(Told(Vec::new())); // who has gone away is not told
-        }
-    }
-}
-
 impl Shared {
-    pub async fn synced(&self, ticket: u64) -> Result<(), Lost> {
-        if self.durable.load(SeqCst) >= ticket {
-            return Ok(());
-        }
-        let done = {
-            let mut waiters = locked(&self.waiters);
-            // Who syncs stores this before it looks for waiters.
-            if self.durable.load(SeqCst) >= ticket {
-                return Ok(());
-            }
-            // And who finds the slot lost forgets the waiters behind that.
-            if self.disk.is_lost() {
-                return Err(Lost);
-            }
-            let (tell, done) = oneshot::channel();
-            let thread = std::thread::current().id();
-            waiters.list.push(Waiter { ticket, thread, tell });
-            if std::mem::take(&mut waiters.idle) {
-                self.work.notify_one();
-            }
-            done
-        };
-        match done.await {
-            Ok(_) => Ok(()),
-            Err(_) if self.disk.is_lost() => Err(Lost),
-            // The journal was closed, or the process ends: nobody may be told that this is durable.
-            Err(_) => std::future::pending().await,
-        }
-    }
-
     /// Makes all durable that was appended until now. Where that fails the process ends while nobody else can sync:
     /// after a sync that failed the next one says yes to what the disk has not.
     pub fn sync(&self) {
         let _one = locked(&self.syncing);
         if let Err(fault) = self.try_sync() {
             let Lost = self.disk.fail(fault);
-            locked(&self.waiters).list.clear(); // who waited is told so
+            self.durable.give_up();
         }
     }
 
     /// The same, for who has the journal alone.
     pub(super) fn try_sync(&self) -> Result<(), Fault> {
         let _aboard = self.disk.board();
-        let (ended, file, path, number, at, length, named, ticket) = self.written(|place| {
+        let (ended, file, path, number, at, named, ticket) = self.written(|place| {
             let segment = &place.segment;
             (
                 std::mem::take(&mut place.ended),
@@ -99,11 +42,11 @@ impl Shared {
                 segment.path.clone(),
                 segment.number,
                 segment.at,
-                segment.length(),
                 place.named,
                 place.ticket,
             )
         })?;
+        let length = locked(&self.place).segment.length(); // of this segment, or it is not noted
         for (file, path) in &ended {
             self.disk.order(file, path)?;
         }
@@ -121,59 +64,26 @@ impl Shared {
                 place.named = true;
             }
         }
-        self.durable.store(ticket, SeqCst);
-        self.tell(ticket);
+        self.durable.reach(ticket);
         Ok(())
-    }
-
-    fn tell(&self, ticket: u64) {
-        let due: Vec<Waiter> = {
-            let list = &mut locked(&self.waiters).list;
-            let (due, later) = std::mem::take(list).into_iter().partition(|one| one.ticket <= ticket);
-            *list = later;
-            due
-        };
-        let mut threads: Vec<(ThreadId, Vec<oneshot::Sender<Told>>)> = Vec::new();
-        for one in due {
-            match threads.iter_mut().find(|(thread, _)| *thread == one.thread) {
-                Some((_, others)) => others.push(one.tell),
-                None => threads.push((one.thread, vec![one.tell])),
-            }
-        }
-        for (_, mut others) in threads {
-            let first = others.pop();
-            let told = Told(others);
-            if let Some(first) = first {
-                let _ = first.send(told); // where the first has gone away, this tells the others
-            }
-        }
     }
 
     /// Returns once there is something to do.
     fn wait(&self) -> Due {
-        let mut waiters = locked(&self.waiters);
         let mut waited = Duration::ZERO;
         loop {
-            if waiters.ending || self.disk.is_lost() {
-                return Due::End;
-            }
-            if !waiters.list.is_empty() {
-                return Due::Sync;
-            }
-            waiters.idle = true;
             let pause = if waited < IDLE { QUIET } else { IDLE };
-            let (woken, why) = self.work.wait_timeout(waiters, pause).unwrap_or_else(PoisonError::into_inner);
-            waiters = woken;
-            waiters.idle = false;
-            if waiters.ending || !why.timed_out() {
-                continue;
+            match self.durable.wanted(pause) {
+                _ if self.disk.is_lost() => return Due::End,
+                Wanted::End => return Due::End,
+                Wanted::Now => return Due::Sync,
+                Wanted::Nobody => waited += pause,
             }
-            waited += pause;
             // Who writes just now keeps nobody waiting here.
             let Ok(place) = self.place.try_lock() else {
                 continue;
             };
-            let is_behind = self.durable.load(SeqCst) < place.ticket || self.disk.is_behind();
+            let is_behind = !self.durable.has(place.ticket) || self.disk.is_behind();
             if waited >= IDLE && is_behind {
                 return Due::Sync;
             }
@@ -221,10 +131,22 @@ impl Shared {
                 Due::Mark => self.mark_last(),
                 Due::End => {
                     if self.disk.is_lost() {
-                        locked(&self.waiters).list.clear(); // who comes later is told so before it waits
+                        self.durable.give_up(); // who comes later is told so before it waits
                     }
                     return;
                 }
+            }
+        }
+    }
+
+    /// Writes for all that wait.
+    pub fn run_writer(self: Arc<Self>) {
+        loop {
+            match self.written.wanted(IDLE) {
+                // Where it fails the process ends: only a folder has a writer.
+                Wanted::Now => drop(self.written(|_| ())),
+                Wanted::Nobody => {}
+                Wanted::End => return,
             }
         }
     }
@@ -234,13 +156,13 @@ impl Shared {
 /// nothing is torn, and what anybody was told of is durable: nothing is waited for.
 impl Drop for Journal {
     fn drop(&mut self) {
-        locked(&self.shared.waiters).ending = true;
-        self.shared.work.notify_one();
+        self.shared.durable.end();
+        self.shared.written.end();
         if self.shared.disk.keeps_order() {
             return;
         }
-        if let Some(syncer) = self.syncer.take() {
-            let _ = syncer.join();
+        for thread in self.threads.drain(..) {
+            let _ = thread.join();
         }
         if let Some(next) = locked(&self.shared.next).take() {
             self.shared.disk.discard(&next.path); // the next start does it too

@@ -16,7 +16,7 @@ use crate::files::test_runs::runs;
 use bytes::Bytes;
 use letters::{body, Letters, Reading};
 use std::path::Path;
-use std::sync::atomic::{AtomicBool, AtomicUsize};
+use std::sync::atomic::{AtomicBool, AtomicUsize, Ordering::SeqCst};
 use std::sync::mpsc;
 
 fn open_from(disk: &Disk, path: &Path, durability: Durability, reach: u64) -> Result<Journal, Fault> {
@@ -88,13 +88,13 @@ fn texts(journal: &Journal, first: u64) -> Vec<String> {
 /// As `kill -9` leaves it.
 fn kill(mut journal: Journal) {
     end_syncer(&mut journal);
+    journal.shared.written.end();
     std::mem::forget(journal);
 }
 
 fn end_syncer(journal: &mut Journal) {
-    locked(&journal.shared.waiters).ending = true;
-    journal.shared.work.notify_one();
-    journal.syncer.take().map(|syncer| syncer.join());
+    journal.shared.durable.end();
+    let _ = journal.threads.remove(0).join();
 }
 
 fn bytes(path: &Path) -> Vec<u8> {

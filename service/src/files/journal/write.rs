@@ -2,8 +2,6 @@
 
 use super::{locked, Journal, Place, Shared, Ticket};
 use crate::files::drive::Lost;
-use crate::work::others_first;
-use std::sync::atomic::Ordering::SeqCst;
 
 /// What is left of a write's memory for the next one.
 const KEPT: usize = 64 << 10;
@@ -17,26 +15,14 @@ impl Journal {
         }
     }
 
-    /// The same once whoever is ready on this thread has appended too: so one write is for all of them.
-    pub(super) async fn write_with_others(&self, ticket: Ticket) -> Result<(), Lost> {
-        if !self.is_written(ticket) {
-            let _written = InAnyCase(self, ticket);
-            others_first().await;
-        }
-        self.write(ticket)
+    /// Has all in a file that was appended until now: a turn has less to write then. That comes with the lock of the book, and this
+    /// without: so where the disk stalls nobody waits for that lock.
+    pub fn write_all(&self) -> Result<(), Lost> {
+        self.write(self.now())
     }
 
     fn is_written(&self, ticket: Ticket) -> bool {
-        self.shared.written.load(SeqCst) >= ticket.0
-    }
-}
-
-/// Writes all before a ticket once this is dropped: where who waits goes away, nobody else may come to write it.
-struct InAnyCase<'j>(&'j Journal, Ticket);
-
-impl Drop for InAnyCase<'_> {
-    fn drop(&mut self) {
-        let _ = self.0.write(self.1); // whoever is still there asks again
+        self.shared.written.has(ticket.0)
     }
 }
 
@@ -61,16 +47,16 @@ impl Shared {
         let mut bytes = locked(&self.writing);
         let mut place = locked(&self.place);
         let (seen, ticket) = (see(&mut place), place.ticket);
-        let at = place.segment.give_unwritten(&mut bytes);
-        let (file, path) = (place.segment.file.clone(), place.segment.path.clone());
+        let mut write = place.segment.give_unwritten(&mut bytes);
         drop(place);
         if !bytes.is_empty() {
-            let written = self.disk.write_at(&file, &path, &bytes, at);
+            let written = write.put(&self.disk, &bytes);
             written.map_err(|fault| self.disk.fail(fault))?;
+            locked(&self.place).segment.has_ahead(write.ahead); // it is the same: a turn waits for this
             bytes.clear();
             bytes.shrink_to(KEPT);
         }
-        self.written.store(ticket, SeqCst);
+        self.written.reach(ticket);
         Ok(seen)
     }
 }

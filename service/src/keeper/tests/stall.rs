@@ -81,3 +81,66 @@ async fn posts_are_turned_away_while_a_sync_stalls() {
 async fn posts_are_turned_away_while_the_disk_of_a_group_stalls() {
     stall(Call::Sync, "outbox").await;
 }
+
+/// A run whose writes into the journal stall while that is on, at most for four seconds.
+async fn run_with_stalling_writes(place: &Path) -> (Run, Thaw) {
+    let stalls = Arc::new(AtomicBool::new(false));
+    let stalling = stalls.clone();
+    let disk = Disk::failing(move |call, path| {
+        while call == Call::Write && is_in("journal", path) && stalling.load(SeqCst) {
+            std::thread::sleep(Duration::from_millis(1));
+        }
+        Ok(())
+    });
+    let data = Folder::open_on(disk, &place.join("data"), Durability::Process).unwrap();
+    let run = Run::begin_in(data, settings()).await;
+    assert_eq!(run.post(1).await, Outcome::taken(0));
+    stalls.store(true, SeqCst);
+    let ends = stalls.clone();
+    std::thread::spawn(move || {
+        std::thread::sleep(Duration::from_secs(4));
+        ends.store(false, SeqCst);
+    });
+    (run, Thaw(stalls))
+}
+
+/// Such a thread would serve nobody until the disk goes on, also those whose posts are turned away.
+#[tokio::test]
+async fn a_thread_that_serves_waits_for_no_write() {
+    let place = tempfile::tempdir().unwrap();
+    let (run, thaw) = run_with_stalling_writes(place.path()).await;
+    let (slot, began) = (run.slot.clone(), Instant::now());
+    let first = tokio::spawn(async move { post_of(&slot, 2).await });
+    while run.slot.unavailable().is_none() {
+        assert!(began.elapsed() < Duration::from_secs(3), "nobody is told");
+        tokio::time::sleep(Duration::from_millis(5)).await;
+    }
+    let late = run.slot.post("S".into(), point("s", 1).into()).await;
+    assert_eq!((late.status(), late.refusal(), first.is_finished()), (503, Some(NO_ANSWER), false));
+    drop(thaw);
+    assert_eq!(first.await.unwrap(), Outcome::taken(0));
+    run.end().await;
+}
+
+/// Posts would wait for that lock, on the threads that serve.
+#[tokio::test(flavor = "multi_thread", worker_threads = 4)]
+async fn a_checkpoint_waits_for_a_write_without_the_lock_of_the_book() {
+    let place = tempfile::tempdir().unwrap();
+    let (run, thaw) = run_with_stalling_writes(place.path()).await;
+    let (slot, orders) = (run.slot.clone(), run.orders.clone());
+    let post = tokio::spawn(async move { post_of(&slot, 2).await });
+    while run.slot.disk_call().is_zero() {
+        tokio::time::sleep(Duration::from_millis(1)).await;
+    }
+    let checkpoint = tokio::spawn(async move { orders.order(Order::Checkpoint).await });
+    tokio::time::sleep(Duration::from_millis(100)).await;
+    let (slot, (tell, told)) = (run.slot.clone(), std::sync::mpsc::channel());
+    std::thread::spawn(move || tell.send(slot.core.lock().series()));
+    let is_free = told.recv_timeout(Duration::from_secs(1)).is_ok();
+    let waits = !checkpoint.is_finished();
+    drop(thaw);
+    assert!(is_free && waits, "the lock is free: {is_free}");
+    assert_eq!(post.await.unwrap(), Outcome::taken(0));
+    assert_eq!(checkpoint.await.unwrap(), Some(Done::Flushed { requests: 1 }));
+    run.end().await;
+}

@@ -3,6 +3,7 @@
 use super::*;
 use std::future::{poll_fn, Future};
 use std::task::Poll;
+use std::time::Instant;
 
 /// Puts a post behind the others, and writes nothing.
 fn append_only(journal: &Journal, text: &str) -> Ticket {
@@ -73,6 +74,10 @@ async fn what_was_appended_is_written_also_where_its_sender_goes_away() {
     let waits = poll_fn(|context| Poll::Ready(waiting.as_mut().poll(context).is_pending())).await;
     assert!(waits, "it lets others append first");
     drop(waiting);
+    let until = Instant::now() + Duration::from_millis(500); // by then nobody would have come to sync it
+    while !journal.shared.written.has(ticket.0) && Instant::now() < until {
+        std::thread::sleep(Duration::from_millis(1));
+    }
     assert_eq!(there(folder.path()), ["a"]);
 }
 
@@ -96,6 +101,36 @@ fn whatever_comes_next_writes_what_was_appended_first() {
         append_only(&journal, "e");
         drop(journal);
         assert_eq!(there(folder.path()), ["a", "b", "c", "d", "e"]);
+    }
+}
+
+/// Who appends has the lock of the book. A segment has no room ahead of it then for so many bytes.
+#[test]
+fn who_appends_waits_for_no_call_of_the_disk() {
+    for durability in [Durability::Process, Durability::Disk] {
+        let folder = tempfile::tempdir().unwrap();
+        let stalls = Arc::new(AtomicBool::new(false));
+        let stalling = stalls.clone();
+        let disk = Disk::failing(move |_, _| {
+            while stalling.load(SeqCst) {
+                std::thread::sleep(Duration::from_millis(1));
+            }
+            Ok(())
+        });
+        let journal = Arc::new(open_on(&disk, folder.path(), durability).unwrap());
+        stalls.store(true, SeqCst);
+        let long = "x".repeat(300 << 10);
+        let (appends, text, (tell, told)) = (journal.clone(), long.clone(), mpsc::channel());
+        let appending = std::thread::spawn(move || {
+            (0..10).for_each(|_| assert!(append_only(&appends, &text) > Ticket(0)));
+            tell.send(()).unwrap();
+        });
+        let is_done = told.recv_timeout(Duration::from_secs(5)).is_ok();
+        stalls.store(false, SeqCst);
+        appending.join().unwrap();
+        assert!(is_done, "{durability:?}");
+        journal.write_all().unwrap();
+        assert!(there(folder.path()) == vec![long; 10], "{durability:?}");
     }
 }
 
