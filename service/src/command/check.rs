@@ -10,7 +10,7 @@ use super::{json, values, Ended, Form};
 use crate::files::{Dropped, Durability, Fault, Folder, Journal, Mark, Outbox, Replayed, UnitOfMetric};
 use crate::log::shown;
 use crate::post_reports::SERIES_SHOWN;
-use crate::service::{is_made, slot_of};
+use crate::service::{is_made, move_held, slot_of};
 use crate::store::moving::said_by_store;
 use anyhow::{bail, Context};
 use clap::Args;
@@ -205,6 +205,7 @@ fn found(copy: &Path) -> Result<CheckReport, Ended> {
     for number in former.filter(|number| *number >= folder.slots()) {
         found.add(number, &folder.outbox(number)?)?;
     }
+    move_held(&folder)?; // last, as a start does it: all else is counted as it is
     found.senders = senders.len();
     Ok(found)
 }

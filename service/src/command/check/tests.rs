@@ -249,3 +249,32 @@ fn posts_are_told_by_the_names_of_their_series_and_with_their_values() -> Result
     assert_eq!(String::from_utf8(lines)?, expected.concat());
     Ok(())
 }
+
+/// No totxegun of several slots has points by number, so a start does not take them for those of another slot.
+#[test]
+fn a_copy_of_a_slot_beside_it_is_named_as_a_start_names_it() -> Result<()> {
+    let data = tempdir()?;
+    {
+        let folder = Folder::open(data.path(), Durability::Process).unwrap();
+        let (journal, outbox) = folder.slot(0)?;
+        let mut points = Points::default();
+        points.push(0, 10, 20, [7]);
+        let post = Post { sender: "a".into(), foreign: 0, body: Body::Points(points) };
+        journal.write(journal.append(&post, &Two))?;
+        outbox.quarantine("a")?;
+    }
+    assert!(checked(data.path()).is_ok());
+    let copied = std::process::Command::new("cp")
+        .args(["-a", "slot-0", "slot-1"])
+        .current_dir(data.path())
+        .status()?;
+    assert!(copied.success());
+    let refused = checked(data.path()).map(|_| ()).unwrap_err().to_string();
+    let folder = Folder::open(data.path(), Durability::Process).unwrap();
+    let of_start = move_held(&folder).unwrap_err().to_string();
+    assert!(
+        refused == of_start && refused.contains("the journal of slot 1 has points by number"),
+        "{refused}"
+    );
+    Ok(())
+}
