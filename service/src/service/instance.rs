@@ -135,9 +135,9 @@ pub(super) struct Joined {
 
 impl Joined {
     /// A slot has ended alone: its writes found another owner, or it has failed, and another instance may have what this one
-    /// lacks.
-    pub fn ended(&self, slot: u16, end: &End) {
-        let Some(drive) = self.instance.forget(slot) else { return };
+    /// lacks. Where it was taken anew meanwhile that goes on.
+    pub fn ended(&self, slot: u16, term: Option<u64>, end: &End) {
+        let Some(drive) = self.instance.forget(slot, term) else { return };
         self.instance.units.lose(slot);
         match end {
             End::Lost => self.cluster.lost(slot, drive.term()),
@@ -169,13 +169,13 @@ struct Instance {
 }
 
 impl Instance {
-    /// Nothing of it is written any more.
-    fn forget(&self, slot: u16) -> Option<Arc<PostgresDrive>> {
-        let drive = locked(&self.open).remove(&slot);
-        if let Some(drive) = &drive {
-            drive.lose();
-        }
-        drive
+    /// Nothing of a slot is written any more that is open under this term.
+    fn forget(&self, slot: u16, term: Option<u64>) -> Option<Arc<PostgresDrive>> {
+        let mut open = locked(&self.open);
+        open.get(&slot).filter(|drive| Some(drive.term()) == term)?;
+        let drive = open.remove(&slot)?;
+        drive.lose();
+        Some(drive)
     }
 
     async fn begin(&self, slot: u16, term: u64) -> Result<(), Unopened> {
@@ -200,7 +200,7 @@ impl Instance {
         };
         let opened = self.units.open(files).await;
         opened.map_err(|ended| {
-            self.forget(slot);
+            self.forget(slot, Some(term));
             Unopened::Fault(ended.to_string())
         })
     }
@@ -211,7 +211,7 @@ impl terms::Units for Instance {
         Box::pin(self.begin(slot, term))
     }
 
-    fn hand_over(&self, slot: u16, _term: u64) -> Doing<'_, ()> {
+    fn hand_over(&self, slot: u16, term: u64) -> Doing<'_, ()> {
         Box::pin(async move {
             if let Err(ended) = self.units.hand_over(slot).await {
                 let reason = ended.to_string();
@@ -221,13 +221,13 @@ impl terms::Units for Instance {
                     "slot {slot}: its last checkpoint is left to its next owner: {reason}"
                 );
             }
-            self.forget(slot);
+            self.forget(slot, Some(term));
         })
     }
 
-    fn drop_lost(&self, slot: u16, _term: u64) -> Doing<'_, ()> {
+    fn drop_lost(&self, slot: u16, term: u64) -> Doing<'_, ()> {
         Box::pin(async move {
-            self.forget(slot);
+            self.forget(slot, Some(term));
             self.units.lose(slot);
         })
     }

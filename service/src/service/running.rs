@@ -2,7 +2,7 @@
 
 use super::instance::Joined;
 use super::unit::{cause, End};
-use super::units::{AtWork, Ends};
+use super::units::{AtWork, Ending, Ends};
 use super::Ended;
 use crate::cluster::beats::LEAVES_WITHIN;
 use crate::files::Fault;
@@ -38,8 +38,8 @@ impl Running {
     pub async fn ended(&mut self) -> Ended {
         loop {
             tokio::select! {
-                Some((slot, end)) = self.ends.recv() => {
-                    if let Some(why) = self.ended_with(slot, end) {
+                Some(ending) = self.ends.recv() => {
+                    if let Some(why) = self.ended_with(ending) {
                         return why;
                     }
                 }
@@ -51,10 +51,10 @@ impl Running {
     }
 
     /// What ends with a slot: all, where a folder has it and it failed, and else the slot alone.
-    fn ended_with(&self, slot: u16, end: End) -> Option<Ended> {
-        match (&self.joined, end) {
-            (Some(joined), end) => joined.ended(slot, &end),
-            (None, End::Lost) => self.at_work.lose(slot),
+    fn ended_with(&self, ending: Ending) -> Option<Ended> {
+        match (&self.joined, ending.end) {
+            (Some(joined), end) => joined.ended(ending.slot, ending.term, &end),
+            (None, End::Lost) => self.at_work.lose(ending.slot),
             (None, End::Failed(why)) => return Some(why),
         }
         None
@@ -77,8 +77,8 @@ impl Running {
         let (_, ended) = tokio::join!(&mut self.operate, self.at_work.stop_all());
         let ended = ended?;
         // A slot that failed before it was told to end has said so here alone.
-        while let Ok((slot, end)) = self.ends.try_recv() {
-            if let Some(why) = self.ended_with(slot, end) {
+        while let Ok(ending) = self.ends.try_recv() {
+            if let Some(why) = self.ended_with(ending) {
                 return Err(why);
             }
         }

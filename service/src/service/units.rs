@@ -17,11 +17,20 @@ use tokio::task::{JoinError, JoinHandle, JoinSet};
 pub(super) struct AtWork {
     of_desk: Arc<operate::Units>,
     tasks: Mutex<BTreeMap<u16, Task>>,
-    ends: mpsc::UnboundedSender<(u16, End)>,
+    ends: mpsc::UnboundedSender<Ending>,
 }
 
 /// What ended by itself.
-pub(super) type Ends = mpsc::UnboundedReceiver<(u16, End)>;
+pub(super) type Ends = mpsc::UnboundedReceiver<Ending>;
+
+/// A slot that ended by itself.
+#[derive(Debug)]
+pub(super) struct Ending {
+    pub slot: u16,
+    /// Under which it was open; none of a folder. By the time this is read it may be open under another.
+    pub term: Option<u64>,
+    pub end: End,
+}
 
 /// It ends where this is dropped.
 struct Task {
@@ -51,7 +60,7 @@ impl AtWork {
         let number = unit.of_desk.slot.number();
         self.of_desk.put(unit.of_desk.clone());
         let (stop, stopped) = watch::channel(false);
-        let task = tokio::spawn(run(number, unit, stopped, self.ends.clone()));
+        let task = tokio::spawn(run(unit, stopped, self.ends.clone()));
         locked(&self.tasks).insert(number, Task { stop, task });
     }
 
@@ -96,16 +105,16 @@ fn failed(error: JoinError) -> Ended {
 }
 
 async fn run(
-    number: u16,
     mut unit: Unit,
     mut stop: watch::Receiver<bool>,
-    ends: mpsc::UnboundedSender<(u16, End)>,
+    ends: mpsc::UnboundedSender<Ending>,
 ) -> Result<bool, Ended> {
+    let (slot, term) = (unit.of_desk.slot.number(), unit.of_desk.slot.outbox.term());
     tokio::select! {
         biased;
         () = stop.wait_true() => unit.stop().await,
-        ended = unit.ended() => {
-            let _ = ends.send((number, ended)); // the process may be ending
+        end = unit.ended() => {
+            let _ = ends.send(Ending { slot, term, end }); // the process may be ending
             Ok(false)
         }
     }

@@ -212,6 +212,10 @@ impl Drive for Owner {
     fn under_way(&self) -> Duration {
         self.waiting.longest()
     }
+
+    fn owned_under(&self) -> Option<u64> {
+        Some(self.term)
+    }
 }
 
 impl Owner {

@@ -18,7 +18,7 @@ pub fn unit(
     over((journal, outbox, folder.dead().unwrap()), number, end)
 }
 
-fn over(
+pub fn over(
     (journal, outbox, dead): (Journal, Outbox, Dead),
     number: u16,
     end: impl Future<Output = Result<(), Fault>> + Send + 'static,

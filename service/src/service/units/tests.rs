@@ -4,10 +4,11 @@ mod finer_units;
 mod reach;
 
 use super::super::operators::Operate;
-use super::super::unit::tests::{no_disk, unit};
+use super::super::unit::tests::{no_disk, over, unit};
 use super::*;
 use crate::core::Across;
-use crate::files::{Dead, Durability, Folder, Journal, Outbox};
+use crate::files::drive::{self, memory::Store};
+use crate::files::{Dead, Durability, Folder, Journal, Lost, Outbox};
 use crate::identity::Door;
 use crate::intake::connections::Handler;
 use crate::intake::head::{Head, Packing};
@@ -262,10 +263,25 @@ async fn what_ends_by_itself_is_told_with_its_slot() {
     }));
     assert!(ends.try_recv().is_err());
     fail.send(()).unwrap();
-    let (slot, ended) = ends.recv().await.unwrap();
-    let is_disk = matches!(ended, End::Failed(Ended::Disk(_)));
-    assert!(slot == 1 && is_disk, "{slot} {ended:?}");
+    let ending = ends.recv().await.unwrap();
+    let is_disk = matches!(ending.end, End::Failed(Ended::Disk(_)));
+    assert!((ending.slot, ending.term) == (1, None) && is_disk, "{ending:?}");
     assert!(at_work.stop(0).await.unwrap());
+}
+
+/// It may be open again by the time that this is read, under a later term, and that is not to end with it.
+#[tokio::test]
+async fn what_ends_in_a_store_is_told_with_its_term() {
+    let store = Arc::<Store>::default();
+    let (at_work, mut ends) = AtWork::new(operate::Units::of(1));
+    for term in 1..3 {
+        let files = drive::open(store.take(), "00000000000000aa").unwrap();
+        let lost = over(files, 0, async { Ok(()) }).with_keeper(async { Err(Lost.into()) });
+        at_work.start(lost);
+        let ending = ends.recv().await.unwrap();
+        assert!(matches!(ending.end, End::Lost) && ending.term == Some(term), "{ending:?}");
+        at_work.lose(0);
+    }
 }
 
 /// Else a sender would be taken by one slot that another refuses, and nobody would know.
