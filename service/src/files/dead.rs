@@ -9,11 +9,13 @@ use super::disk::{io_fault, Cursor, Disk};
 use super::free_space::FreeSpace;
 use super::{locked, seconds, Fault};
 pub use gone::Became;
+use std::collections::BTreeSet;
+use std::ffi::OsString;
 use std::io::{self, BufRead, BufReader, Read};
 use std::path::{Path, PathBuf};
 use std::sync::atomic::{AtomicU64, Ordering::Relaxed};
-use std::sync::{Arc, Mutex};
-use std::time::UNIX_EPOCH;
+use std::sync::{Arc, Mutex, MutexGuard};
+use std::time::{SystemTime, UNIX_EPOCH};
 
 /// A request that was refused for good.
 #[derive(Clone, Debug, PartialEq, Eq, serde::Serialize, serde::Deserialize)]
@@ -30,9 +32,17 @@ pub struct Dead {
     disk: Disk,
     folder: PathBuf,
     free_space: Arc<FreeSpace>,
-    /// Held by who changes the folder.
-    changing: Mutex<()>,
+    /// Locked by each call that changes the folder.
+    known: Mutex<Known>,
     count: AtomicU64,
+}
+
+/// The letters that are there.
+#[derive(Default)]
+struct Known {
+    names: BTreeSet<String>,
+    /// When the folder was written last; none of a drive, where nobody changes anything by hand.
+    written: Option<SystemTime>,
 }
 
 /// The most bytes of a reason that are kept.
@@ -58,8 +68,8 @@ impl Dead {
         disk.make_folder(folder)?;
         disk.order_folder(folder)?;
         let (disk, folder) = (disk.clone(), folder.into());
-        let dead = Dead { disk, folder, free_space, changing: Mutex::new(()), count: AtomicU64::new(0) };
-        dead.keys()?;
+        let dead = Dead { disk, folder, free_space, known: Mutex::default(), count: AtomicU64::new(0) };
+        dead.look(&mut locked(&dead.known))?;
         Ok(dead)
     }
 
@@ -67,15 +77,29 @@ impl Dead {
         self.folder.join(format!("{key}.json"))
     }
 
-    /// What is there now, and is counted so: an operator moves letters out of the folder, and back, by hand.
-    fn keys(&self) -> Result<Vec<String>, Fault> {
-        let mut keys = Vec::new();
-        for name in self.disk.names(&self.folder)? {
-            let key = name.to_str().and_then(|name| name.strip_suffix(".json")).filter(|key| is_key(key));
-            keys.extend(key.map(String::from));
+    /// Locks what is known, once it is what is there. The folder is listed only after somebody else has changed it: an operator
+    /// moves letters out of it, and back, by hand.
+    fn known(&self) -> Result<MutexGuard<'_, Known>, Fault> {
+        let mut known = locked(&self.known);
+        if known.written != self.disk.written(&self.folder) {
+            self.look(&mut known)?;
         }
-        self.count.store(keys.len() as u64, Relaxed);
-        Ok(keys)
+        Ok(known)
+    }
+
+    fn look(&self, known: &mut Known) -> Result<(), Fault> {
+        known.written = self.disk.written(&self.folder);
+        let names = self.disk.names(&self.folder)?.into_iter();
+        let key = |name: OsString| Some(name.to_str()?.strip_suffix(".json")?.to_string());
+        known.names = names.filter_map(key).filter(|key| is_key(key)).collect();
+        self.count.store(known.names.len() as u64, Relaxed);
+        Ok(())
+    }
+
+    /// This call has changed the folder, and nobody else.
+    fn note(&self, known: &mut Known) {
+        known.written = self.disk.written(&self.folder);
+        self.count.store(known.names.len() as u64, Relaxed);
     }
 
     /// Keeps a request: durable when this returns, and once however often it is called for one key and body.
@@ -85,18 +109,20 @@ impl Dead {
             let source = io::Error::new(io::ErrorKind::InvalidInput, what);
             return Err(io_fault(&self.folder)(source));
         }
-        let _one = locked(&self.changing);
-        let names = self.names(key)?;
-        if names.iter().any(|name| self.has(name, body)) {
+        let mut known = self.known()?;
+        if known.of(key).any(|name| self.has(name, body)) {
             // An earlier run may have ended before its name was durable.
             return self.disk.sync_folder(&self.folder);
         }
         let (mut name, mut number) = (key.to_string(), 1);
-        while names.contains(&name) {
+        while known.names.contains(&name) || self.disk.has(&self.path(&name))? {
             number += 1;
             name = format!("{key}_{number}");
         }
-        self.write(&name, reason, body)
+        self.write(&name, reason, body)?;
+        known.names.insert(name);
+        self.note(&mut known);
+        Ok(())
     }
 
     /// The same where the disk has room for it. Whether it has.
@@ -119,15 +145,7 @@ impl Dead {
         bytes.push(b'\n');
         bytes.extend_from_slice(body);
         self.free_space.use_up(bytes.len() as u64);
-        self.disk.put_file(&path, &bytes)?;
-        self.keys().map(drop)
-    }
-
-    /// The names of the letters that came under a key.
-    fn names(&self, key: &str) -> Result<Vec<String>, Fault> {
-        let mut names = self.keys()?;
-        names.retain(|name| sent_as(name) == key || name == key);
-        Ok(names)
+        self.disk.put_file(&path, &bytes)
     }
 
     /// One that can't be read has no body: it is left as it is, and the next one is kept beside it.
@@ -140,23 +158,15 @@ impl Dead {
         if self.count() == 0 {
             return Ok(());
         }
-        let _one = locked(&self.changing);
-        for name in self.names(key)? {
-            if self.has(&name, body) {
-                self.remove(&name, Became::Taken)?;
-            }
-        }
-        Ok(())
+        let mut known = self.known()?;
+        let taken: Vec<String> = known.of(key).filter(|name| self.has(name, body)).cloned().collect();
+        taken.iter().try_for_each(|name| self.remove(&mut known, name, Became::Taken))
     }
 
     /// By age, the oldest first. The reason of one that can't be read says that.
     pub fn list(&self) -> Result<Vec<Letter>, Fault> {
-        let keys = {
-            let _one = locked(&self.changing);
-            self.keys()?
-        };
         let mut letters = Vec::new();
-        for key in keys {
+        for key in self.names()? {
             letters.extend(match self.read(&key) {
                 Ok(read) => read.map(|(letter, _)| letter),
                 Err(fault) => Some(self.unreadable(key, &fault)),
@@ -164,6 +174,13 @@ impl Dead {
         }
         letters.sort_by(|one, other| (one.since, &one.key).cmp(&(other.since, &other.key)));
         Ok(letters)
+    }
+
+    /// Looked at anew: who asks may have moved some by hand just now.
+    fn names(&self) -> Result<BTreeSet<String>, Fault> {
+        let mut known = locked(&self.known);
+        self.look(&mut known)?;
+        Ok(known.names.clone())
     }
 
     /// What is told of a letter by its file alone.
@@ -213,25 +230,26 @@ impl Dead {
 
     /// Removes it, of which this has become. Whether there was one.
     pub fn end(&self, key: &str, became: Became) -> Result<bool, Fault> {
-        let _one = locked(&self.changing);
+        let mut known = self.known()?;
         if !is_key(key) || !self.disk.has(&self.path(key))? {
             return Ok(false);
         }
-        self.remove(key, became)?;
+        self.remove(&mut known, key, became)?;
         Ok(true)
     }
 
-    /// By who holds `changing`.
-    fn remove(&self, name: &str, became: Became) -> Result<(), Fault> {
+    fn remove(&self, known: &mut Known, name: &str, became: Became) -> Result<(), Fault> {
         self.note_gone(name, became)?;
         self.disk.remove(&self.path(name))?;
         self.disk.sync_folder(&self.folder)?;
-        self.keys().map(drop)
+        known.names.remove(name);
+        self.note(known);
+        Ok(())
     }
 
     /// Gives each letter as its file has it, also one that can't be read.
     pub fn each(&self, mut each: impl FnMut(&str, Vec<u8>) -> Result<(), Fault>) -> Result<(), Fault> {
-        for key in self.keys()? {
+        for key in self.names()? {
             let path = self.path(&key);
             let bytes = self.disk.open(&path)?.read_from(0).map_err(io_fault(&path))?;
             each(&key, bytes)?;
@@ -241,13 +259,24 @@ impl Dead {
 
     /// Puts a letter as another's file has it. Durable when this returns.
     pub fn put(&self, key: &str, bytes: &[u8]) -> Result<(), Fault> {
-        let _one = locked(&self.changing);
+        let mut known = self.known()?;
         self.disk.put_file(&self.path(key), bytes)?;
-        self.keys().map(drop)
+        known.names.insert(key.into());
+        self.note(&mut known);
+        Ok(())
     }
 
     pub fn count(&self) -> u64 {
         self.count.load(Relaxed)
+    }
+}
+
+impl Known {
+    /// The names of the letters that came under a key.
+    fn of<'a>(&'a self, key: &'a str) -> impl Iterator<Item = &'a String> {
+        let beside = format!("{key}_");
+        let others = self.names.range(beside.clone()..).take_while(move |name| name.starts_with(&beside));
+        self.names.get(key).into_iter().chain(others.filter(move |name| sent_as(name) == key))
     }
 }
 

@@ -34,7 +34,7 @@ impl Dead {
         self.folder.join(NAME)
     }
 
-    /// Before it is removed, by who holds `changing`: so it is never gone without this.
+    /// Before it is removed, under the lock of what is known: so it is never gone without this.
     pub(super) fn note_gone(&self, key: &str, became: Became) -> Result<(), Fault> {
         if !self.disk.keeps_order() {
             return Ok(());

@@ -250,3 +250,35 @@ fn no_letter_of_a_slot_is_gone_without_what_became_of_it() {
         }
     }
 }
+
+/// A request is let go with each delivery as long as there is any letter, and there may be many.
+#[test]
+fn the_folder_is_listed_once_however_many_letters_come_and_go() {
+    let (store, lists) = (Arc::<Store>::default(), Arc::new(AtomicU64::new(0)));
+    let counted = lists.clone();
+    let owner = store.take_with(move |step| {
+        counted.fetch_add(u64::from(step == Step::List), Relaxed);
+        Ok(())
+    });
+    let dead = open_on(&Disk::of_drive(owner), Path::new("dead"));
+    for number in 0..20 {
+        dead.keep(&format!("0-e-{number}"), "400", b"body").unwrap();
+        dead.let_go(&format!("0-e-{}", 100 + number), b"body").unwrap();
+    }
+    assert!(dead.end("0-e-3", Became::Dropped).unwrap());
+    assert_eq!((lists.load(Relaxed), dead.count()), (1, 19));
+    assert_eq!(dead.list().unwrap().len(), 19);
+}
+
+/// In a folder who moves them out by hand is seen with the next delivery.
+#[test]
+fn letters_that_are_moved_out_are_counted_no_more_also_where_nobody_lists_them() {
+    let folder = tempfile::tempdir().unwrap();
+    let dead = open(folder.path());
+    dead.keep("k", "400", b"body").unwrap();
+    dead.keep("l", "400", b"body").unwrap();
+    std::thread::sleep(std::time::Duration::from_millis(20)); // a folder's time is that of a tick
+    std::fs::rename(folder.path().join("k.json"), folder.path().join("k.copy")).unwrap();
+    dead.let_go("m", b"body").unwrap();
+    assert_eq!(dead.count(), 1);
+}
