@@ -10,8 +10,9 @@ use super::fill::fill;
 use super::series::SeriesOfPosts;
 use super::{not_now, Amend, Carried, Done, Keeper, Trouble};
 use crate::core::Refused;
-use crate::files::Fault;
+use crate::files::{Fault, Runs};
 use crate::otlp::series::{Digest, SeriesKey};
+use crate::sinks::Rewind;
 use crate::slot::Slot;
 use crate::work::blocking;
 use std::collections::HashSet;
@@ -139,7 +140,19 @@ fn amended(slot: &Slot, amend: &Amend) -> Result<Result<(), SeriesKey>, Fault> {
     }
     match amend {
         Amend::Forget(series) => slot.outbox.leave_these(series)?,
-        Amend::PutBack { series, to } => slot.outbox.put_back(series, *to)?,
+        Amend::PutBack { series, to } => {
+            tell_sink(slot, series, *to)?;
+            slot.outbox.put_back(series, *to)?;
+        }
     }
     Ok(Ok(()))
+}
+
+/// Behind all that was forwarded of them: the sink is told where series end from now on, before the book takes what begins
+/// there. Else it would leave that out, since it overlaps what a wrong clock has put ahead.
+fn tell_sink(slot: &Slot, series: &[SeriesKey], to: u64) -> Result<(), Fault> {
+    let requests = Rewind::requests(series, to);
+    slot.outbox.commit_with(&requests, slot.outbox.journal(), Runs::new())?;
+    slot.metrics.forwarded_requests.inc_by(requests.len() as u64);
+    Ok(())
 }

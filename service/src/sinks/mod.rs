@@ -13,6 +13,7 @@ mod otlp;
 pub mod periods;
 pub mod postgres;
 mod retention;
+mod rewind;
 pub(crate) mod roots;
 pub mod sqlite;
 mod sums;
@@ -24,6 +25,7 @@ pub use keys::{Held, Keys};
 pub use otlp::header_of;
 use periods::{Deed, Told};
 pub use retention::Retention;
+pub use rewind::Rewind;
 
 use std::future::Future;
 use std::pin::Pin;

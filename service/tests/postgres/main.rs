@@ -10,6 +10,7 @@ mod model;
 mod periods;
 mod points;
 mod readers;
+mod rewind;
 mod rivals;
 mod server;
 mod spans;

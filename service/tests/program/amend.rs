@@ -1,13 +1,20 @@
 //! A series that a wrong clock has put ahead is put back, and one that is whose it should not be is forgotten.
 
-use crate::support::{points, Place};
-use std::time::{SystemTime, UNIX_EPOCH};
+use crate::support::{points, signal, Place};
+use std::process::Command;
+use std::time::{Duration, SystemTime, UNIX_EPOCH};
 
 const SECOND: u64 = 1_000_000_000;
 const YEAR: u64 = 365 * 86_400 * SECOND;
 
 fn now() -> u64 {
     SystemTime::now().duration_since(UNIX_EPOCH).unwrap().as_nanos() as u64
+}
+
+fn utc(nanoseconds: u64) -> String {
+    let at = format!("@{}", nanoseconds / SECOND);
+    let said = Command::new("date").args(["-u", "-d", &at, "+%FT%T"]).output().unwrap();
+    String::from_utf8(said.stdout).unwrap().trim().into()
 }
 
 fn acts(place: &Place) -> Vec<String> {
@@ -85,5 +92,83 @@ fn a_sink_that_can_t_tell_a_repeat_wants_it_said() {
     let said = service.said(&[&words[..], &["--anyway"]].concat());
     assert!(said.contains("what is posted again of that time counts twice"), "{said}");
     assert_eq!(service.post("A", &points(&["a"], now(), 1)).unwrap().0, 200);
+    assert_eq!(service.end(), Some(0));
+}
+
+/// What the sink has ahead is in nobody's way: right points are counted, each once, whenever the service was killed.
+#[test]
+fn what_comes_behind_a_repair_is_counted_once_over_kills() {
+    let place = Place::new();
+    let sink = place.sink();
+    let begin = now() / SECOND * SECOND - 1000 * SECOND;
+    let to = utc(begin);
+    let mut service = place.serve_with(&["--sink", &sink, "--most-ahead", "off"]);
+    for round in 0..20 {
+        let name = &*format!("a{round}");
+        for step in 1..4 {
+            let ahead = points(&[name], begin + (100 + 50 * step) * SECOND, 100);
+            assert_eq!(service.post_until_answered("A", &ahead).0, 200);
+        }
+        service.drain();
+        // It may be killed before, within, or after it.
+        let repair = &["repair", name, "--to", &to];
+        std::thread::scope(|scope| {
+            let asked = scope.spawn(|| service.said(repair));
+            std::thread::sleep(Duration::from_millis(3 * round));
+            signal(service.pid(), "KILL");
+            asked.join().unwrap();
+        });
+        service.kill();
+        service = place.serve_with(&["--sink", &sink, "--most-ahead", "off"]);
+        let said = service.said(repair);
+        assert!(said.contains("1 series ends at") || said.contains("nothing to put back"), "{said}");
+        for step in 1..=40 {
+            let right = points(&[name], begin + 10 * step * SECOND, 1);
+            assert_eq!(service.post_until_answered("A", &right).0, 200, "{round}, {step}");
+            if step % 8 == 0 {
+                assert_eq!(service.order("/flush").0, 200);
+            }
+            if step == 20 {
+                service.kill();
+                service = place.serve_with(&["--sink", &sink, "--most-ahead", "off"]);
+            }
+        }
+        service.drain();
+        assert_eq!(place.totals()[name], 340, "{name}");
+    }
+    assert_eq!(service.status()["dead"], 0);
+    service.has_no_fault();
+    assert_eq!(service.end(), Some(0));
+}
+
+/// A run that a wrong clock has put ahead goes on behind the repair with what it has more.
+#[test]
+fn a_cumulative_run_goes_on_behind_a_repair() {
+    let place = Place::new();
+    let service = place.serve_with(&["--sink", &place.sink(), "--most-ahead", "off", "--first", "count"]);
+    let begin = now() / SECOND * SECOND - 1000 * SECOND;
+    let point = |time: u64, value: i64| {
+        let sum = "\"aggregationTemporality\":2,\"isMonotonic\":true";
+        format!(
+            "{{\"resourceMetrics\":[{{\"scopeMetrics\":[{{\"metrics\":[{{\"name\":\"c\",\"sum\":{{{sum},\"dataPoints\":[{{\
+             \"asInt\":\"{value}\",\"startTimeUnixNano\":\"{begin}\",\"timeUnixNano\":\"{}\"}}]}}}}]}}]}}]}}",
+            begin + time * SECOND
+        )
+    };
+    for (time, value) in [(10, 1), (500, 5), (600, 8)] {
+        assert_eq!(service.post("A", &point(time, value)).unwrap().0, 200);
+        service.drain();
+    }
+    let said = service.said(&["repair", "c", "--to", &utc(begin + 10 * SECOND)]);
+    assert!(said.contains("1 series ends at"), "{said}");
+    for step in 1..=60 {
+        assert_eq!(service.post("A", &point(10 + 10 * step, 8 + step as i64)).unwrap().0, 200);
+        if step % 7 == 0 {
+            service.drain();
+        }
+    }
+    service.drain();
+    assert_eq!((place.totals()["c"], service.status()["dead"].as_u64()), (68, Some(0)));
+    service.has_no_fault();
     assert_eq!(service.end(), Some(0));
 }

@@ -72,11 +72,14 @@ impl Desk {
         if meant.count > meant.first.len() {
             told += &format!("\nand {} more", meant.count - meant.first.len());
         }
-        told + match self.totals {
-            Some(_) => {
+        told + match (&self.totals, sought.to) {
+            (Some(_), Some(_)) => {
+                "\nwhat is posted from then on counts, beside what the sink has after it: `totxegun correct` takes out what is wrong"
+            }
+            (Some(_), None) => {
                 "\nwhat is posted again of that time is taken again; the sink leaves out what overlaps a span that it has (dead/)"
             }
-            None => "\nwhat is posted again of that time counts twice",
+            (None, _) => "\nwhat is posted again of that time counts twice",
         }
     }
 

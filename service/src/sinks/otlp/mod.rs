@@ -9,7 +9,7 @@ mod tests;
 #[cfg(test)]
 mod tls_tests;
 
-use super::{Answer, Fate, Forwarded, Keys, Sink};
+use super::{Answer, Fate, Forwarded, Keys, Rewind, Sink};
 use crate::otlp::{protobuf_of_forwarded, Encoding};
 use crate::work::blocking;
 use bytes::Bytes;
@@ -76,6 +76,9 @@ impl OtlpSink {
     }
 
     async fn send(&self, request: &Forwarded) -> Fate {
+        if Rewind::of(&request.body).is_some() {
+            return Fate::Taken; // a receiver knows no ends of series
+        }
         let post = match self.post(request).await {
             Ok(post) => post,
             Err(reason) => return Fate::refused(reason),

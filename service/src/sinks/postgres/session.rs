@@ -70,6 +70,7 @@ statements! {
     late_hours: LATE_HOURS,
     totals: TOTALS,
     metric_hours: METRIC_HOURS,
+    rewind: REWIND,
 }
 
 /// For spans of version 4, where there are some.

@@ -215,3 +215,12 @@ pub(super) const TOTALS: &str = "update totxegun.series_total as t set
         end,
         hour_corrections = case when n.hour = t.hour then t.hour_corrections end
     from unnest($1::totxegun.new_total[]) as n where t.series = n.series";
+
+/// Series end there, where they ended later. Of the hour of the last span none is known any more where that began later.
+pub(super) const REWIND: &str = "with known as materialized (
+        select t.series from totxegun.series join totxegun.series_total as t on t.series = series.id
+        where series.digest = any($1::bytea[]) and t.last_end_ns > $2::numeric order by t.series for no key update of t
+    )
+    update totxegun.series_total as t set last_end_ns = $2::numeric,
+        hour_start_ns = case when t.hour_start_ns < $2::numeric then t.hour_start_ns end
+    from known where t.series = known.series";

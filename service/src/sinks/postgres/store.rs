@@ -14,7 +14,7 @@ use crate::otlp::series::ForwardedPoint;
 use crate::postgres::Warnings;
 use crate::sinks::left_out::LeftOut;
 use crate::sinks::periods::Closed;
-use crate::sinks::Forwarded;
+use crate::sinks::{Forwarded, Rewind};
 use tokio_postgres::types::ToSql;
 use tokio_postgres::{Row, Statement, Transaction};
 
@@ -58,6 +58,7 @@ pub(super) async fn take(
     tokio::try_join!(
         writing.spans(&all, &known),
         writing.totals(&adding),
+        writing.rewind(request),
         writing.delivered(session.fence.as_ref(), request, term, left.is_empty())
     )?;
     if !left.is_empty() {
@@ -153,6 +154,16 @@ impl Writing<'_> {
         self.late(all).await?;
         // Behind all else, since other services wait for these rows.
         self.write_rows(&self.statements.metric_hours, metric_rows::rows(all)).await
+    }
+
+    /// Where a request says that series end earlier.
+    async fn rewind(&self, request: &Forwarded) -> Result<(), NotTaken> {
+        let Some(rewind) = Rewind::of(&request.body) else {
+            return Ok(());
+        };
+        let digests: Vec<Vec<u8>> = rewind.keys().map(|key| key.digest().to_vec()).collect();
+        let to = Numeric::from(rewind.to);
+        self.rows(&self.statements.rewind, &[&digests, &to]).await.map(drop)
     }
 
     /// Writes hours that are over by this request, and adds to those what comes late.

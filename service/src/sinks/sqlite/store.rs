@@ -11,7 +11,7 @@ use super::wide_integers::Unsigned;
 use crate::otlp::series::{self, Digest, ForwardedPoint, SeriesKey};
 use crate::sinks::left_out::{shown, LeftOut};
 use crate::sinks::periods::Closed;
-use crate::sinks::Forwarded;
+use crate::sinks::{Forwarded, Rewind};
 use rusqlite::{params, Connection, OpenFlags, Transaction, TransactionBehavior};
 use std::collections::HashMap;
 use std::fs::OpenOptions;
@@ -126,6 +126,9 @@ impl Store {
             return writing.left_of(&taken, &points);
         }
         let left = writing.request(request, &points)?;
+        if let Some(rewind) = Rewind::of(&request.body) {
+            writing.rewind(&rewind)?;
+        }
         let new = writing.commit()?;
         self.series.extend(new);
         Ok(left)
@@ -250,6 +253,18 @@ impl Writing<'_> {
             repeat::set_points(&self.transaction, row, points.len() - left.places.len())?;
         }
         Ok(left)
+    }
+
+    fn rewind(&self, rewind: &Rewind) -> Result<(), NotTaken> {
+        for key in rewind.keys() {
+            let series = SeriesTotal::of_none(&key)?;
+            let series = SeriesRow::of(&series).find(&self.transaction)?;
+            let total = series.map(|series| Total::read(&self.transaction, series)).transpose()?.flatten();
+            if let (Some(series), Some(total)) = (series, total) {
+                total.rewound(rewind.to).write(&self.transaction, series)?;
+            }
+        }
+        Ok(())
     }
 
     /// Adds a point, or says why it overlaps, or may.

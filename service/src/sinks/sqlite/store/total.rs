@@ -65,6 +65,11 @@ impl Total {
         })
     }
 
+    /// What ends later stays counted, and in the way of nothing that begins from then on.
+    pub(super) fn rewound(self, to: u64) -> Total {
+        Total { last_end: self.last_end.min(Unsigned(to)), ..self }
+    }
+
     /// Whether a point may overlap a span of the series: before or behind all of them it does not.
     pub(super) fn may_overlap(&self, point: &ForwardedPoint) -> bool {
         point.start < self.last_end.0 && point.end > self.first_start.0

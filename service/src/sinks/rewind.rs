@@ -1,0 +1,86 @@
+//! A request without points that says where series end from now on (`totxegun repair`).
+//!
+//! It stands in the outbox behind all that was forwarded of these series before, and ahead of all that is forwarded after. So
+//! a sink rewinds them once and in its place, also after a kill, or after hours in which it was away.
+
+use crate::otlp::series::SeriesKey;
+use serde::{Deserialize, Serialize};
+use serde_json::json;
+
+/// How a body begins and ends that is one; the book's own begin with `resourceMetrics`.
+const BEGIN: &str = r#"{"rewind":"#;
+const END: &str = r#","resourceMetrics":[]}"#;
+/// The most bytes of keys in one, but for a longer key.
+const LONGEST: usize = if cfg!(test) { 100 } else { 1 << 20 };
+
+/// These series end at this time, in nanoseconds since 1970, where they ended later.
+///
+/// What a sink counted of them after that stays counted. A span that begins there or later overlaps nothing: the book takes
+/// each point once, in order, from there on.
+#[derive(Debug, PartialEq, Eq, Serialize, Deserialize)]
+pub struct Rewind {
+    pub(super) to: u64,
+    series: Vec<String>,
+}
+
+impl Rewind {
+    /// The requests that say it.
+    pub fn requests(series: &[SeriesKey], to: u64) -> Vec<Vec<u8>> {
+        let (mut requests, mut length) = (Vec::<Rewind>::new(), 0);
+        for key in series {
+            length += key.0.len();
+            match requests.last_mut().filter(|_| length <= LONGEST) {
+                Some(last) => last.series.push(key.0.to_string()),
+                None => {
+                    length = key.0.len();
+                    requests.push(Rewind { to, series: vec![key.0.to_string()] });
+                }
+            }
+        }
+        requests.iter().map(Rewind::body).collect()
+    }
+
+    fn body(&self) -> Vec<u8> {
+        format!("{BEGIN}{}{END}", json!(self)).into_bytes()
+    }
+
+    /// What a request says, where it is one.
+    pub(super) fn of(body: &[u8]) -> Option<Rewind> {
+        let inner = body.strip_prefix(BEGIN.as_bytes())?.strip_suffix(END.as_bytes())?;
+        serde_json::from_slice(inner).ok()
+    }
+
+    pub(super) fn keys(&self) -> impl Iterator<Item = SeriesKey> + '_ {
+        self.series.iter().map(|key| SeriesKey(key.as_str().into()))
+    }
+}
+
+#[cfg(test)]
+mod tests {
+    use super::*;
+    use crate::otlp::series::forwarded;
+
+    #[test]
+    fn many_series_are_several_requests_without_points() {
+        let key = |number| SeriesKey(format!(r#"[[],"","",[],"a{number}","","sum",[]]"#).into());
+        let all: Vec<SeriesKey> = (0..10).map(key).collect();
+        let requests = Rewind::requests(&all, u64::MAX);
+        assert!(requests.len() > 1);
+        let mut found = Vec::new();
+        for body in &requests {
+            assert_eq!(forwarded(body).expect("a request").len(), 0);
+            let rewind = Rewind::of(body).expect("a rewind");
+            assert_eq!(rewind.to, u64::MAX);
+            found.extend(rewind.keys());
+        }
+        assert_eq!(found, all);
+        assert_eq!(Rewind::requests(&[], 1).len(), 0);
+    }
+
+    #[test]
+    fn a_request_of_points_is_none() {
+        for body in [r#"{"resourceMetrics":[]}"#, r#"{"rewind":1,"resourceMetrics":[]}"#, ""] {
+            assert_eq!(Rewind::of(body.as_bytes()), None, "{body}");
+        }
+    }
+}

@@ -1,0 +1,105 @@
+//! What begins where `totxegun repair` has put a series back, although the sink has what a wrong clock has put ahead.
+
+use super::model::both;
+use super::server::{histogram, sum, Server};
+use super::{open, refused, request, taken};
+use totxegun::otlp::series::SeriesKey;
+use totxegun::sinks::{Fate, Rewind};
+
+const MINUTE: u64 = 60_000_000_000;
+const HOUR: u64 = 60 * MINUTE;
+/// A right span ends there.
+const BEGIN: u64 = 500_000 * HOUR + 55 * MINUTE;
+
+fn rewind(names: &[&str], to: u64) -> String {
+    let key = |name: &&str| {
+        let (name, kind, attributes) = match *name {
+            "h" => ("h\",\"ms", "[-5,10]", "[]"),
+            name => return key_of(&format!("{name}\",\"1"), "\"sum\"", r#"[{"key":"k","value":{"stringValue":"v"}}]"#),
+        };
+        key_of(name, kind, attributes)
+    };
+    let series: Vec<SeriesKey> = names.iter().map(key).collect();
+    let [body] = &Rewind::requests(&series, to)[..] else { panic!("several requests") };
+    String::from_utf8(body.clone()).unwrap()
+}
+
+fn key_of(name_and_unit: &str, kind: &str, attributes: &str) -> SeriesKey {
+    SeriesKey(format!(r#"[[],"s","1",[],"{name_and_unit}",{kind},{attributes}]"#).into())
+}
+
+/// Of `a` by ten minutes, of the histogram too.
+fn bodies(start: u64) -> [String; 2] {
+    let end = start + 10 * MINUTE;
+    [sum("a", start, end, 1), histogram("h", start, end, Some(3), [2, 1, 0])]
+}
+
+/// Each request comes twice, as behind a kill before its acknowledgement, and to a sink that is opened anew.
+#[tokio::test(flavor = "multi_thread")]
+async fn what_begins_behind_a_rewind_counts_once_whatever_was_ahead() {
+    let server = Server::start();
+    for database in both(&server) {
+        let address = database.address();
+        let mut number = 0;
+        let mut bring = async |body: String| {
+            number += 1;
+            for _ in 0..2 {
+                taken(&*open(&address), number, body.clone()).await;
+            }
+        };
+        let right = bodies(BEGIN - 10 * MINUTE);
+        // Two hours ahead, for half an hour.
+        let ahead = (0..3).flat_map(|step| bodies(BEGIN + 2 * HOUR + step * 10 * MINUTE));
+        let others = [sum("b", BEGIN, BEGIN + 3 * HOUR, 7)];
+        for body in right.into_iter().chain(ahead).chain(others) {
+            bring(body).await;
+        }
+        bring(rewind(&["a", "h", "c"], BEGIN)).await;
+        for step in 0..24 {
+            for body in bodies(BEGIN + step * 10 * MINUTE) {
+                bring(body).await;
+            }
+        }
+        let totals = database.ask("select name, points, total, count from t.totals order by name");
+        assert_eq!(totals, "a|28|28|\nb|1|7|\nh|28|84|56");
+        let hours = database.ask(
+            "select name, HOUR(hour)/H - 500000, points, total from t.by_hour where name <> 'b' order by 1, 2",
+        );
+        let of = |name, value: i64| {
+            let points = [1, 6, 6, 9, 6];
+            let line = move |(hour, points): (usize, i64)| format!("{name}|{hour}|{points}|{}", points * value);
+            points.into_iter().enumerate().map(line)
+        };
+        assert_eq!(hours, of("a", 1).chain(of("h", 3)).collect::<Vec<_>>().join("\n"));
+        assert_eq!(database.ask("select name, sum(points) from t.by_day group by 1 order by 1"), "a|28\nb|1\nh|28");
+        // What ends where the series was before, and what overlaps what was taken since, is left as ever; so is another series.
+        let sink = open(&address);
+        for body in [
+            sum("a", BEGIN - MINUTE, BEGIN + MINUTE, 1),
+            sum("a", BEGIN + 15 * MINUTE, BEGIN + 16 * MINUTE, 1),
+            sum("b", BEGIN + MINUTE, BEGIN + 2 * MINUTE, 1),
+        ] {
+            number += 1;
+            refused(&*sink, number, body, "overlaps").await;
+        }
+    }
+}
+
+/// A sink that was away gets it in its place; to one that has nothing of the series it says nothing.
+#[tokio::test(flavor = "multi_thread")]
+async fn a_rewind_of_what_is_not_there_changes_nothing() {
+    let server = Server::start();
+    for database in both(&server) {
+        let sink = open(&database.address());
+        taken(&*sink, 1, rewind(&["a"], BEGIN)).await;
+        taken(&*sink, 2, sum("a", BEGIN - 2 * HOUR, BEGIN - HOUR, 1)).await;
+        taken(&*sink, 3, rewind(&["a"], BEGIN)).await;
+        refused(&*sink, 4, sum("a", BEGIN - 2 * HOUR, BEGIN, 1), "overlaps").await;
+        match sink.deliver(&request(3, rewind(&["a"], BEGIN - 1))).await {
+            Fate::Taken => {} // SQLite tells a request by its points alone
+            Fate::Refused { reason } => assert!(reason.contains("key is that of another"), "{reason}"),
+            other => panic!("{other:?}"),
+        }
+        assert_eq!(database.ask("select points, total from t.totals"), "1|1");
+    }
+}
