@@ -4,12 +4,13 @@
 //! |---|---|
 //! | 2xx | is taken; where a partial success names rejected points, taken in part |
 //! | 408, 425, 429, 502, 503, 504 | is sent again, by `Retry-After` where it is there |
-//! | 401, 403, any other 5xx | is sent again so for a while, and then refused for good |
+//! | 3xx, 401, 403, 404, 405, any other 5xx | is sent again so for a while, and then refused for good |
 //! | any other | is refused for good |
 //!
 //! OTLP names 429, 502, 503 and 504 as those to repeat. 408 and 425 say the same of themselves: nothing was taken. The
 //! other 5xx are of a sink that failed, which may pass (`delivery`); 401 and 403 are of a token that has expired, as a
-//! rule, and then each request would be refused until somebody sees it.
+//! rule, and 3xx, 404 and 405 of a proxy whose receiver is being deployed: each request would be refused until somebody sees
+//! it.
 
 use super::without_query;
 use crate::log;
@@ -65,7 +66,7 @@ pub(super) async fn fate(response: Response<Body>, sent: Encoding, deadline: Ins
     match status {
         408 | 425 | 429 | 502..=504 => Fate::Again { reason, after },
         401 | 403 => Fate::Denied { reason, after },
-        500..=599 => Fate::Failed { reason, after },
+        300..=399 | 404 | 405 | 500..=599 => Fate::Failed { reason, after },
         _ => Fate::Refused { reason },
     }
 }

@@ -132,7 +132,7 @@ async fn retry_after_is_read() {
 
 #[tokio::test]
 async fn what_will_not_change_is_refused() {
-    for status in ["400 Bad Request", "404 X", "409 X", "413 X", "415 X", "422 X"] {
+    for status in ["400 Bad Request", "409 X", "413 X", "415 X", "422 X"] {
         match fate_of(status, "content-type: application/json\r\n", r#"{"code":3,"message":"bad\npoint"}"#)
             .await
         {
@@ -140,11 +140,24 @@ async fn what_will_not_change_is_refused() {
             other => panic!("{status}: {other:?}"),
         }
     }
-    match fate_of("307 Temporary Redirect", "location: http://elsewhere/?key=secret\r\n", "").await {
-        Fate::Refused { reason } => {
-            assert!(reason.contains("http://elsewhere/?..: ") && !reason.contains("secret"), "{reason}")
+}
+
+/// As while the receiver behind an ingress is deployed.
+#[tokio::test]
+async fn a_proxy_without_its_receiver_says_not_whether_it_passes() {
+    for status in ["404 Not Found", "405 Method Not Allowed"] {
+        match fate_of(status, "retry-after: 7\r\n", "no backend").await {
+            Fate::Failed { reason, after: Some(Duration { .. }) } => assert!(reason.contains("no backend"), "{reason}"),
+            other => panic!("{status}: {other:?}"),
         }
-        other => panic!("{other:?}"),
+    }
+    for status in ["301 Moved Permanently", "302 Found", "307 Temporary Redirect"] {
+        match fate_of(status, "location: http://elsewhere/?key=secret\r\n", "").await {
+            Fate::Failed { reason, after: None } => {
+                assert!(reason.contains("http://elsewhere/?..: ") && !reason.contains("secret"), "{reason}")
+            }
+            other => panic!("{status}: {other:?}"),
+        }
     }
 }
 
