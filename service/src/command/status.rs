@@ -184,7 +184,9 @@ fn trouble(status: &Status, slot: &SlotStatus) -> [Option<String>; 2] {
         (_, Some(why), _) => Some(format!("\nthe delivery of slot {number} stops: {why}\n")),
         (.., Some(why)) if slot.tries == 0 => Some(format!("\nno request of slot {number} is sent: {why}\n")),
         (.., Some(why)) => {
-            let tries = values::counted(slot.tries, "attempt");
+            let next = slot.next_try_seconds.map(values::seconds_shown);
+            let next = next.map_or(String::new(), |next| format!(" (the next in {next})"));
+            let tries = values::counted(slot.tries, "attempt") + &next;
             Some(format!("\nthe sink has not taken a request of slot {number} in {tries}: {why}\n"))
         }
         (None, None, None) => None,

@@ -67,9 +67,10 @@ impl Desk {
                 return Ok(taken(key, Some(reason)));
             }
             Fate::Refused { reason } => (Some(reason), false),
-            Fate::Again { reason, .. } | Fate::Failed { reason, .. } | Fate::Denied { reason, .. } => {
-                (Some(reason), true)
-            }
+            Fate::Away { reason }
+            | Fate::Again { reason, .. }
+            | Fate::Failed { reason, .. }
+            | Fate::Denied { reason, .. } => (Some(reason), true),
         };
         Ok(resent(Resent { key: key.into(), taken: reason.is_none(), reason, later }))
     }

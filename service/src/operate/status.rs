@@ -12,7 +12,6 @@ use crate::log::seconds;
 use crate::metrics::{RoundedSeries, SeriesOfRule};
 use crate::otlp::Rounding;
 use crate::shares::Used;
-use crate::work::locked;
 use serde::{Deserialize, Serialize};
 use std::collections::BTreeSet;
 
@@ -59,6 +58,11 @@ impl Status {
     /// Why the sink does not take what waits.
     pub fn trouble(&self) -> Option<&str> {
         self.slots.iter().find_map(|slot| slot.stuck.as_deref().or(slot.trouble.as_deref()))
+    }
+
+    /// How long until it is asked again.
+    pub fn next_try_seconds(&self) -> Option<u64> {
+        self.slots.iter().filter_map(|slot| slot.next_try_seconds).min()
     }
 
     /// The first slot of which nothing is known, and why.
@@ -140,6 +144,9 @@ pub struct SlotStatus {
     pub tries: u64,
     /// Why the last try was not taken.
     pub trouble: Option<String>,
+    /// How long until the next try.
+    #[serde(default, skip_serializing_if = "Option::is_none")]
+    pub next_try_seconds: Option<u64>,
     /// Why the first waiting request can't be delivered: its file was changed.
     pub stuck: Option<String>,
 }
@@ -260,7 +267,7 @@ impl SlotStatus {
     fn of(undelivered: &Undelivered) -> SlotStatus {
         let outbox = &undelivered.outbox;
         let (waiting, bytes, first) = outbox.waiting();
-        let delivery = locked(&undelivered.delivery).clone();
+        let delivery = undelivered.delivery.state();
         SlotStatus {
             slot: undelivered.number,
             series: outbox.series_count(),
@@ -269,6 +276,7 @@ impl SlotStatus {
             outbox: Stock::new(bytes, first.map(|first| first.since)),
             tries: delivery.tries,
             trouble: delivery.trouble,
+            next_try_seconds: delivery.next_try.map(|at| at.saturating_sub(seconds())),
             stuck: outbox.stuck(),
             ..SlotStatus::default()
         }

@@ -4,7 +4,7 @@ use crate::files::{Dead, Outbox};
 use crate::keeper::Orders;
 use crate::otlp::series::SeriesKey;
 use crate::shares::Owned;
-use crate::sinks::Delivery;
+use crate::sinks::Attempts;
 use crate::slot::Slot;
 use crate::work::locked;
 use std::collections::hash_map::DefaultHasher;
@@ -23,11 +23,19 @@ pub struct Unit {
     pub dead: Arc<Dead>,
 }
 
+impl Unit {
+    /// What its sink has not taken is tried now.
+    pub fn hurry(&self) {
+        let all = std::iter::once(&self.undelivered).chain(&self.former);
+        all.for_each(|undelivered| undelivered.delivery.hurry());
+    }
+}
+
 /// What a slot has for the sink.
 pub struct Undelivered {
     pub number: u16,
     pub outbox: Arc<Outbox>,
-    pub delivery: Arc<Mutex<Delivery>>,
+    pub delivery: Arc<Attempts>,
 }
 
 /// Those that are here now, of so many. They come and go.

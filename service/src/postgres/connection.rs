@@ -24,6 +24,16 @@ pub(crate) enum NotConnected {
     Silent(Duration),
 }
 
+impl NotConnected {
+    /// Whether the server is there, and does not let us in (class 28, invalid authorization).
+    pub(crate) fn is_denied(&self) -> bool {
+        let NotConnected::Server(error) = self else {
+            return false;
+        };
+        error.code().is_some_and(|code| code.code().starts_with("28"))
+    }
+}
+
 /// Connects to a server of an address, of which `config` is the whole or one host, and sets what the session is to have.
 /// What takes a connection and then is silent, as a proxy whose server is away, would be waited for without end.
 pub(crate) async fn connect(

@@ -6,10 +6,10 @@ use crate::core::Core;
 use crate::files::{Dead, Fault, Journal, Outbox};
 use crate::keeper::{Keeper, Orders, Priming, Trouble};
 use crate::operate::{self, Undelivered};
-use crate::sinks::{self, Delivery, Sink};
+use crate::sinks::{self, Attempts, Sink};
 use crate::slot::{Shared, Slot};
 use anyhow::{anyhow, Context};
-use std::sync::{Arc, Mutex};
+use std::sync::Arc;
 use std::time::Duration;
 use tokio::sync::watch;
 use tokio::task::{JoinError, JoinSet};
@@ -115,7 +115,7 @@ impl Opened {
         let (stop_deliveries, deliveries_stopped) = watch::channel(false);
         let (slot, dead, mut deliveries) = (self.slot, self.dead, JoinSet::new());
         let mut deliver = |number: u16, outbox: Arc<Outbox>| {
-            let delivery = Arc::new(Mutex::new(Delivery::default()));
+            let delivery = Arc::<Attempts>::default();
             deliveries.spawn(sinks::deliver(
                 number,
                 outbox.clone(),

@@ -4,6 +4,7 @@ use super::{backoff, Fate, Forwarded, Sink};
 use crate::files::outbox::Waiting;
 use crate::files::{Dead, Fault, Lost, Outbox};
 use crate::latch::Latch;
+use crate::log;
 use crate::metrics::Metrics;
 use crate::work::blocking;
 use crate::work::locked;
@@ -12,7 +13,7 @@ use std::future::Future;
 use std::pin::pin;
 use std::sync::{Arc, Mutex};
 use std::time::{Duration, Instant};
-use tokio::sync::watch;
+use tokio::sync::{watch, Notify};
 use tokio::time::timeout;
 
 /// How long a request is sent again at which the sink fails, or does not let this service in. What OTLP says is to send
@@ -34,6 +35,26 @@ pub struct Delivery {
     pub trouble: Option<String>,
     /// How often the first waiting request was tried; 0 once it is taken.
     pub tries: u64,
+    /// When it is tried again, in seconds since 1970, while that is waited for.
+    pub next_try: Option<u64>,
+}
+
+/// A delivery, as operators see and hurry it.
+#[derive(Default)]
+pub struct Attempts {
+    state: Mutex<Delivery>,
+    hurried: Notify,
+}
+
+impl Attempts {
+    pub fn state(&self) -> Delivery {
+        locked(&self.state).clone()
+    }
+
+    /// What is to be tried again later is tried now.
+    pub fn hurry(&self) {
+        self.hurried.notify_one();
+    }
 }
 
 /// Brings a slot's outbox to the sink. It returns by a fault of a file, once it is told to stop, or once the slot is lost; what
@@ -44,11 +65,11 @@ pub async fn deliver(
     dead: Arc<Dead>,
     sink: Arc<dyn Sink>,
     metrics: Arc<Metrics>,
-    state: Arc<Mutex<Delivery>>,
+    attempts: Arc<Attempts>,
     stop: watch::Receiver<bool>,
 ) -> Result<(), Fault> {
     let files = Files { outbox, dead };
-    Run { slot, files, sink, metrics, state, failing: FAILING, unsure: UNSURE, stop }.until_it_ends().await
+    Run { slot, files, sink, metrics, attempts, failing: FAILING, unsure: UNSURE, stop }.until_it_ends().await
 }
 
 /// What a delivery needs of the files.
@@ -124,7 +145,7 @@ struct Run<S> {
     files: S,
     sink: Arc<dyn Sink>,
     metrics: Arc<Metrics>,
-    state: Arc<Mutex<Delivery>>,
+    attempts: Arc<Attempts>,
     /// How long a request is sent again at which the sink fails.
     failing: Duration,
     /// How long it is not said that it is not sure of its slot.
@@ -171,11 +192,15 @@ impl<S: Store> Run<S> {
                     self.ended("taken");
                     return Ok(());
                 }
+                Fate::Away { reason } => {
+                    drop(held);
+                    let tries = self.failed(&key, reason, outcome);
+                    self.pause(backoff::wait(tries, backoff::LONGEST_OF_AWAY, None)).await?;
+                }
                 Fate::Again { reason, after } => {
                     drop(held);
                     let tries = self.failed(&key, reason, outcome);
-                    let wait = backoff::wait(tries, after);
-                    self.unless_stopped(tokio::time::sleep(wait)).await?;
+                    self.pause(backoff::wait(tries, backoff::LONGEST_OF_BUSY, after)).await?;
                 }
                 Fate::Refused { reason } | Fate::Failed { reason, .. } | Fate::Denied { reason, .. } => {
                     return self.put_aside(request, reason).await;
@@ -185,6 +210,15 @@ impl<S: Store> Run<S> {
                 }
             }
         }
+    }
+
+    /// Waits so long, or until somebody asks for the next try.
+    async fn pause(&self, wait: Duration) -> Result<(), End> {
+        locked(&self.attempts.state).next_try = Some(log::seconds() + wait.as_secs());
+        let hurried = timeout(wait, self.attempts.hurried.notified());
+        let _ = self.unless_stopped(hurried).await?;
+        locked(&self.attempts.state).next_try = None;
+        Ok(())
     }
 
     /// Returns once a request may be sent. Where that takes long it says so: else nobody would see why nothing is.
@@ -199,9 +233,9 @@ impl<S: Store> Run<S> {
              or away"
         );
         tracing::warn!(slot, reason, "slot {slot}: {reason}");
-        let before = locked(&self.state).trouble.replace(reason);
+        let before = locked(&self.attempts.state).trouble.replace(reason);
         sure.await??;
-        locked(&self.state).trouble = before;
+        locked(&self.attempts.state).trouble = before;
         tracing::info!(
             slot,
             "slot {slot}: the store says in time that it is this instance's: requests are sent again"
@@ -217,12 +251,12 @@ impl<S: Store> Run<S> {
                 let full =
                     format!("the disk has no room to keep {key} in dead/, which the sink refused: {reason}");
                 tracing::warn!(key, reason = full, "{full}; nothing is sent until there is more");
-                before = Some(locked(&self.state).trouble.replace(full));
+                before = Some(locked(&self.attempts.state).trouble.replace(full));
             }
             self.unless_stopped(tokio::time::sleep(ROOM)).await?;
         }
         if let Some(before) = before {
-            locked(&self.state).trouble = before;
+            locked(&self.attempts.state).trouble = before;
         }
         Ok(())
     }
@@ -294,7 +328,7 @@ impl<S: Store> Run<S> {
     /// Notes a try that failed. How many it were.
     fn failed(&self, key: &str, reason: String, outcome: &str) -> u64 {
         self.metrics.deliveries.with_label_values(&[outcome]).inc();
-        let mut state = locked(&self.state);
+        let mut state = locked(&self.attempts.state);
         state.tries += 1;
         if state.trouble.is_none() {
             let sink = self.sink.name();
@@ -311,7 +345,7 @@ impl<S: Store> Run<S> {
 
     fn ended(&self, outcome: &str) {
         self.metrics.deliveries.with_label_values(&[outcome]).inc();
-        let mut state = locked(&self.state);
+        let mut state = locked(&self.attempts.state);
         if state.trouble.is_some() {
             let (sink, tries) = (self.sink.name(), state.tries);
             tracing::info!(sink, tries, "{sink} answers again; attempts that failed: {tries}");

@@ -20,7 +20,7 @@ mod sums;
 mod utc;
 
 pub use address::{Address, BadAddress};
-pub use delivery::{deliver, of_part, Delivery};
+pub use delivery::{deliver, of_part, Attempts, Delivery};
 pub use keys::{Held, Keys};
 pub use otlp::header_of;
 use periods::{Deed, Told};
@@ -49,6 +49,10 @@ pub enum Fate {
         reason: String,
         after: Option<Duration>,
     },
+    /// The sink could not be reached, so it was not sent. It is sent again soon.
+    Away {
+        reason: String,
+    },
     /// The sink says that it has failed, not whether that passes. It is sent again for a while, not before so long, and
     /// then put aside.
     Failed {
@@ -69,6 +73,10 @@ pub enum Fate {
 impl Fate {
     pub(crate) fn again(reason: impl Into<String>) -> Fate {
         Fate::Again { reason: reason.into(), after: None }
+    }
+
+    pub(crate) fn away(reason: impl Into<String>) -> Fate {
+        Fate::Away { reason: reason.into() }
     }
 
     pub(crate) fn refused(reason: impl Into<String>) -> Fate {

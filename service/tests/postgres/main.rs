@@ -47,7 +47,9 @@ async fn refused(sink: &dyn Sink, number: u64, body: String, part: &str) {
 
 async fn again(sink: &dyn Sink, number: u64, body: String, part: &str) {
     match sink.deliver(&request(number, body)).await {
-        Fate::Again { reason, .. } => assert!(reason.contains(part), "{part} in {reason}"),
+        Fate::Again { reason, .. } | Fate::Away { reason } => {
+            assert!(reason.contains(part), "{part} in {reason}")
+        }
         other => panic!("{other:?}"),
     }
 }

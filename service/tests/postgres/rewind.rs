@@ -15,7 +15,13 @@ fn rewind(names: &[&str], to: u64) -> String {
     let key = |name: &&str| {
         let (name, kind, attributes) = match *name {
             "h" => ("h\",\"ms", "[-5,10]", "[]"),
-            name => return key_of(&format!("{name}\",\"1"), "\"sum\"", r#"[{"key":"k","value":{"stringValue":"v"}}]"#),
+            name => {
+                return key_of(
+                    &format!("{name}\",\"1"),
+                    "\"sum\"",
+                    r#"[{"key":"k","value":{"stringValue":"v"}}]"#,
+                )
+            }
         };
         key_of(name, kind, attributes)
     };
@@ -67,11 +73,15 @@ async fn what_begins_behind_a_rewind_counts_once_whatever_was_ahead() {
         );
         let of = |name, value: i64| {
             let points = [1, 6, 6, 9, 6];
-            let line = move |(hour, points): (usize, i64)| format!("{name}|{hour}|{points}|{}", points * value);
+            let line =
+                move |(hour, points): (usize, i64)| format!("{name}|{hour}|{points}|{}", points * value);
             points.into_iter().enumerate().map(line)
         };
         assert_eq!(hours, of("a", 1).chain(of("h", 3)).collect::<Vec<_>>().join("\n"));
-        assert_eq!(database.ask("select name, sum(points) from t.by_day group by 1 order by 1"), "a|28\nb|1\nh|28");
+        assert_eq!(
+            database.ask("select name, sum(points) from t.by_day group by 1 order by 1"),
+            "a|28\nb|1\nh|28"
+        );
         // What ends where the series was before, and what overlaps what was taken since, is left as ever; so is another series.
         let sink = open(&address);
         for body in [

@@ -98,7 +98,13 @@ impl Seen<'_> {
     fn waits(&self, html: &mut Html) {
         html.section("What waits");
         if let Some(trouble) = self.status.trouble() {
-            html.markup("<p class=\"note bad\">The sink: ").text(trouble).markup("</p>");
+            html.markup("<p class=\"note bad\">The sink: ").text(trouble);
+            if let Some(seconds) = self.status.next_try_seconds() {
+                html.markup("; the next try in ")
+                    .text(&seconds_shown(seconds))
+                    .markup(", or at <code>totxegun flush</code>");
+            }
+            html.markup("</p>");
         }
         let names: Vec<String> =
             quarantined(&self.status.slots).into_iter().take(ROWS).map(sender_shown).collect();

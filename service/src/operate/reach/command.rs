@@ -116,7 +116,11 @@ impl Desk {
     pub(super) async fn in_slot(self: Arc<Self>, slot: u16, command: Command) -> Option<Answer> {
         let unit = self.units.get(slot)?;
         match command {
-            Command::Flush => ordered(&unit, Order::Checkpoint).await,
+            Command::Flush => {
+                let flushed = ordered(&unit, Order::Checkpoint).await;
+                unit.hurry();
+                flushed
+            }
             Command::Quarantine(sender) => ordered(&unit, Order::Quarantine(sender)).await,
             Command::Lift(sender) => ordered(&unit, Order::Lift(sender)).await,
             Command::Report => Some(report(unit).await),

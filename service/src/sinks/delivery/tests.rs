@@ -142,7 +142,7 @@ impl Store for &Memory {
 struct Tried {
     sink: Arc<Script>,
     metrics: Arc<Metrics>,
-    state: Arc<Mutex<Delivery>>,
+    attempts: Arc<Attempts>,
 }
 
 fn again(after: Option<Duration>) -> Fate {
@@ -174,7 +174,7 @@ async fn run_at(
 ) -> (Tried, Result<(), Fault>) {
     let run = prepared(sink.clone(), memory, stop);
     let end = run.until_it_ends().await;
-    (Tried { sink, metrics: run.metrics, state: run.state }, end)
+    (Tried { sink, metrics: run.metrics, attempts: run.attempts }, end)
 }
 
 fn prepared(sink: Arc<Script>, memory: &Memory, stop: watch::Receiver<bool>) -> Run<&Memory> {
@@ -183,7 +183,7 @@ fn prepared(sink: Arc<Script>, memory: &Memory, stop: watch::Receiver<bool>) -> 
         files: memory,
         sink,
         metrics: Arc::new(Metrics::new().expect("metrics")),
-        state: Arc::default(),
+        attempts: Arc::default(),
         failing: Duration::from_millis(400),
         unsure: Duration::from_millis(50),
         stop,
@@ -221,7 +221,7 @@ async fn a_request_is_sent_again_unchanged_before_the_next() {
     let came = tried.sink.came.lock().expect("came");
     assert!(came[..3].iter().all(|request| *request == came[0]));
     assert_eq!((tried.outcome("taken"), tried.outcome("again")), (2, 2));
-    assert_eq!(*tried.state.lock().expect("state"), Delivery::default(), "no trouble is left");
+    assert_eq!(tried.attempts.state(), Delivery::default(), "no trouble is left");
 }
 
 #[tokio::test]
@@ -243,8 +243,51 @@ async fn trouble_is_told_while_it_lasts_and_a_stop_ends_the_wait() {
         });
     assert!(end.is_ok());
     assert_eq!(tried.keys(), ["2-e-1"]);
-    assert_eq!(*tried.state.lock().expect("state"), Delivery { trouble: Some("busy".into()), tries: 1 });
+    let state = tried.attempts.state();
+    assert_eq!((state.trouble.as_deref(), state.tries), (Some("busy"), 1));
+    let next = state.next_try.expect("it waits").saturating_sub(log::seconds());
+    assert!((55..=60).contains(&next), "{next}");
     assert!(memory.acknowledged.lock().expect("acknowledged").is_empty());
+}
+
+fn away() -> Fate {
+    Fate::Away { reason: "refused".into() }
+}
+
+/// However long it was away: else a sink that is back gets nothing for a minute.
+#[tokio::test]
+async fn a_sink_that_is_away_is_asked_again_soon() {
+    let memory = waiting([1, 2]);
+    let tried = run(&memory, (0..20).map(|_| away()).collect()).await;
+    assert_eq!((tried.outcome("again"), tried.outcome("taken")), (20, 2));
+    let at = tried.sink.at.lock().expect("at");
+    let last = at[20] - at[19];
+    assert!(last < Duration::from_secs(10), "{last:?}: as of one that is busy");
+}
+
+/// By `flush`: whoever has mended the sink need not wait.
+#[tokio::test]
+async fn who_hurries_a_delivery_has_it_tried_at_once() {
+    for fate in [
+        again(Some(Duration::from_secs(600))),
+        Fate::Failed { reason: "500".into(), after: Some(Duration::from_secs(600)) },
+    ] {
+        let memory = waiting([1]);
+        let (_never, stop) = watch::channel(false);
+        let fates = Mutex::new([fate].into());
+        let run = prepared(Arc::new(Script { fates, ..Script::default() }), &memory, stop);
+        let hurrying = async {
+            while run.attempts.state().next_try.is_none() {
+                tokio::time::sleep(Duration::from_millis(5)).await;
+            }
+            run.attempts.hurry();
+        };
+        let both = async { tokio::join!(run.until_it_ends(), hurrying) };
+        let (end, ()) = timeout(Duration::from_secs(20), both).await.expect("it was tried");
+        assert!(end.is_err(), "it ends by a fault alone");
+        assert_eq!(*memory.acknowledged.lock().expect("acknowledged"), [1]);
+        assert_eq!(run.attempts.state(), Delivery::default());
+    }
 }
 
 #[tokio::test]

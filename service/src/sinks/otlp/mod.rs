@@ -86,6 +86,7 @@ impl OtlpSink {
         let deadline = Instant::now() + self.patience;
         match timeout_at(deadline, self.client.request(post)).await {
             Err(_) => Fate::again(format!("no answer within {} s", self.patience.as_secs_f64())),
+            Ok(Err(error)) if error.is_connect() => Fate::away(format!("no answer: {}", chain(&error))),
             Ok(Err(error)) => Fate::again(format!("no answer: {}", chain(&error))),
             Ok(Ok(response)) => answer::fate(response, self.encoding, deadline).await,
         }

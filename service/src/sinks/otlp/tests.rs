@@ -147,7 +147,9 @@ async fn what_will_not_change_is_refused() {
 async fn a_proxy_without_its_receiver_says_not_whether_it_passes() {
     for status in ["404 Not Found", "405 Method Not Allowed"] {
         match fate_of(status, "retry-after: 7\r\n", "no backend").await {
-            Fate::Failed { reason, after: Some(Duration { .. }) } => assert!(reason.contains("no backend"), "{reason}"),
+            Fate::Failed { reason, after: Some(Duration { .. }) } => {
+                assert!(reason.contains("no backend"), "{reason}")
+            }
             other => panic!("{status}: {other:?}"),
         }
     }
@@ -184,7 +186,7 @@ async fn nobody_there_is_tried_again() {
     let free = std::net::TcpListener::bind("127.0.0.1:0").expect("a port").local_addr().expect("its address");
     let sink = OtlpSink::open(&format!("http://{free}/"), false, false, &[]).expect("a sink");
     match sink.deliver(&request(1)).await {
-        Fate::Again { reason, .. } => assert!(reason.contains("refused"), "{reason}"),
+        Fate::Away { reason } => assert!(reason.contains("refused"), "{reason}"),
         other => panic!("{other:?}"),
     }
 }
@@ -296,7 +298,7 @@ async fn https_with_a_server_that_has_no_certificate_is_tried_again() {
     };
     sink.patience = Duration::from_secs(5);
     match sink.deliver(&request(1)).await {
-        Fate::Again { reason, .. } => assert!(reason.starts_with("no answer"), "{reason}"),
+        Fate::Away { reason } => assert!(reason.starts_with("no answer"), "{reason}"),
         other => panic!("{other:?}"),
     }
 }

@@ -89,7 +89,7 @@ async fn a_sink_behind_tls_takes_where_its_root_is_known() {
     }
     let (port, thread) = serve(folder.path(), &rustls::version::TLS13);
     match sink(port, rustls::RootCertStore::empty()).deliver(&request).await {
-        Fate::Again { reason, .. } => assert!(reason.contains("certificate"), "{reason}"),
+        Fate::Away { reason } => assert!(reason.contains("certificate"), "{reason}"),
         other => panic!("{other:?}"),
     }
     assert_eq!(thread.join().expect("it ended"), "", "nothing was sent");

@@ -18,6 +18,8 @@ pub(super) enum Fault {
     Another(String),
     /// What may mend itself.
     Server(String),
+    /// So may this: there is no connection.
+    Away(String),
 }
 
 impl Fault {
@@ -27,7 +29,7 @@ impl Fault {
 
     /// Whether it stays until somebody names another database or starts another version.
     pub(super) fn is_lasting(&self) -> bool {
-        !matches!(self, Fault::Server(_))
+        !matches!(self, Fault::Server(_) | Fault::Away(_))
     }
 
     /// It says of which server it is.
@@ -37,7 +39,7 @@ impl Fault {
             Fault::Foreign => anyhow!("the schema totxegun of {server} is of another program: name another database"),
             Fault::Encoding(encoding) => anyhow!("the database of {server} is in {encoding}, which can't hold each text: make one with `encoding utf8`"),
             Fault::Another(what) => anyhow!(what),
-            Fault::Server(what) => anyhow!("{server}: {what}"),
+            Fault::Server(what) | Fault::Away(what) => anyhow!("{server}: {what}"),
         }
     }
 }
@@ -49,8 +51,12 @@ impl From<Error> for Fault {
 }
 
 impl From<NotConnected> for Fault {
+    /// Who is not let in is not asked every two seconds: a server may count that as an attack.
     fn from(error: NotConnected) -> Fault {
-        Fault::Server(error.to_string())
+        match error.is_denied() {
+            true => Fault::Server(error.to_string()),
+            false => Fault::Away(error.to_string()),
+        }
     }
 }
 

@@ -111,6 +111,7 @@ impl PostgresSink {
             Ok(left) => left.fate(&request.body),
             Err(NotTaken::Refused(reason)) => Fate::refused(reason),
             Err(NotTaken::Failed(fault)) => Fate::Failed { reason: reason(fault), after: None },
+            Err(NotTaken::Fault(fault @ Fault::Away(_))) => Fate::away(reason(fault)),
             Err(NotTaken::Fault(fault)) => Fate::again(reason(fault)),
         }
     }
@@ -182,7 +183,7 @@ mod tests {
         let (one, other) = (request(0), request(1));
         let fates = tokio::join!(sink.send(&one, None), sink.send(&other, None));
         for fate in [fates.0, fates.1] {
-            let Fate::Again { reason, .. } = fate else { panic!("{fate:?}") };
+            let Fate::Away { reason } = fate else { panic!("{fate:?}") };
             assert!(reason.ends_with("no answer within 0.3 s"), "{reason}");
         }
         assert_eq!(asked.load(SeqCst), 2);

@@ -93,7 +93,8 @@ impl Session {
             let version = schema::version(&client).await?;
             Ok::<_, Fault>((client, connection, version))
         };
-        let (mut client, connection, version) = within(patience, connecting).await?;
+        let late = |_| Fault::Away(no_answer(patience));
+        let (mut client, connection, version) = timeout(patience, connecting).await.map_err(late)??;
         schema::migrate(&mut client, server, version, memory, was_there).await?;
         let preparing = async {
             client.batch_execute(PLANS).await?;
@@ -110,8 +111,11 @@ pub(super) async fn within<T, E: From<Fault>>(
     patience: Duration,
     work: impl Future<Output = Result<T, E>>,
 ) -> Result<T, E> {
-    let late = || Fault::told(format!("no answer within {} s", patience.as_secs_f64()));
-    timeout(patience, work).await.unwrap_or_else(|_| Err(late().into()))
+    timeout(patience, work).await.unwrap_or_else(|_| Err(Fault::told(no_answer(patience)).into()))
+}
+
+fn no_answer(patience: Duration) -> String {
+    format!("no answer within {} s", patience.as_secs_f64())
 }
 
 /// A connection with our settings, whatever schema is there.

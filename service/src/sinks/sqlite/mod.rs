@@ -96,7 +96,7 @@ impl Sink for SqliteSink {
     fn deliver_of<'a>(&'a self, request: &'a Forwarded, _term: Option<u64>) -> Answer<'a, Fate> {
         let request = request.clone();
         let fate = self.ask(move |writer| writer.take(&request));
-        Box::pin(async { fate.await.unwrap_or_else(Fate::again) })
+        Box::pin(async { fate.await.unwrap_or_else(Fate::away) })
     }
 
     fn settle<'a>(&'a self, who: &'a str, deed: &'a Deed) -> Answer<'a, Told> {
@@ -250,7 +250,7 @@ impl Writer {
     fn take(&mut self, request: &Forwarded) -> Fate {
         match self.store().map_err(NotTaken::from).and_then(|store| store.take(request)) {
             // It is written where nobody will read it: the key says what there is to be done.
-            Ok(_) if !self.is(FileState::Intact) => Fate::again(format!(
+            Ok(_) if !self.is(FileState::Intact) => Fate::away(format!(
                 "{} or its -wal was deleted meanwhile: it is opened again",
                 self.path.display()
             )),
@@ -258,7 +258,7 @@ impl Writer {
             Err(NotTaken::Refused(reason)) => Fate::refused(reason),
             Err(NotTaken::Fault(fault)) => {
                 self.close_after(&fault);
-                Fate::again(fault.at(&self.path).to_string())
+                Fate::away(fault.at(&self.path).to_string())
             }
         }
     }

@@ -72,7 +72,7 @@ impl Trial {
 
     fn again(&mut self, number: u64, body: String, part: &str) {
         match self.take(number, body) {
-            Fate::Again { reason, after: None } => {
+            Fate::Away { reason } => {
                 assert!(reason.contains(part) && reason.contains("totals.db"), "{reason}")
             }
             other => panic!("{other:?}"),

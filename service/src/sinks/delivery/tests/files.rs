@@ -23,7 +23,7 @@ async fn a_request_stays_in_the_outbox_until_its_letter_has_room() {
         assert_eq!(tried.keys(), ["2-e-1", "2-e-2"]);
         assert_eq!(memory.dead.lock().expect("dead")[0].0, letter);
         assert_eq!(*memory.acknowledged.lock().expect("acknowledged"), [1, 2]);
-        assert_eq!(*tried.state.lock().expect("state"), Delivery::default(), "no trouble is left");
+        assert_eq!(tried.attempts.state(), Delivery::default(), "no trouble is left");
     }
     let (stop, told) = watch::channel(false);
     let memory = Memory { full: Mutex::new(u64::MAX), ..waiting([1]) };
@@ -32,7 +32,7 @@ async fn a_request_stays_in_the_outbox_until_its_letter_has_room() {
         stop.send_replace(true);
     });
     assert!(end.is_ok() && memory.acknowledged.lock().expect("acknowledged").is_empty());
-    let trouble = tried.state.lock().expect("state").trouble.clone().expect("trouble");
+    let trouble = tried.attempts.state().trouble.clone().expect("trouble");
     assert!(trouble.contains("no room to keep 2-e-1") && trouble.ends_with("400"), "{trouble}");
 }
 

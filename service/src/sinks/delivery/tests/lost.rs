@@ -40,21 +40,21 @@ async fn it_is_said_where_it_is_long_not_sure_that_the_slot_is_this_instances() 
     let sink = Arc::new(Script { fates, ..Script::default() });
     let run = prepared(sink.clone(), &memory, stop);
     let looking = async {
-        while locked(&run.state).trouble.is_none() {
+        while run.attempts.state().trouble.is_none() {
             tokio::time::sleep(Duration::from_millis(5)).await;
         }
-        let said = locked(&run.state).clone();
+        let said = run.attempts.state();
         assert!(said.trouble.is_some_and(|why| why.contains("nothing is sent")) && said.tries == 0);
         assert!(sink.came.lock().expect("came").is_empty());
         tell.send_replace(true);
         while sink.came.lock().expect("came").is_empty() {
             tokio::time::sleep(Duration::from_millis(1)).await;
         }
-        assert!(locked(&run.state).trouble.as_deref().is_none_or(|why| why == "busy"), "it is sure again");
+        assert!(run.attempts.state().trouble.as_deref().is_none_or(|why| why == "busy"), "it is sure again");
     };
     let (end, ()) = tokio::join!(run.until_it_ends(), looking);
     assert!(end.is_err(), "it ends by a fault alone");
-    assert_eq!((sink.came.lock().expect("came").len(), locked(&run.state).clone()), (2, Delivery::default()));
+    assert_eq!((sink.came.lock().expect("came").len(), run.attempts.state()), (2, Delivery::default()));
 }
 
 /// The sink may have it already, of the owner before.
