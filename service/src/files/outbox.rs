@@ -3,6 +3,7 @@
 //! What is written is a `Change`; the same change is then made in memory, as a start makes it when it reads. The
 //! bytes are described in `rows`.
 
+mod behind;
 mod beside;
 mod brought;
 mod changes;

@@ -1,4 +1,7 @@
-//! Brings a slot's outbox to the sink: one request after the other, each under its own key until it is taken.
+//! Brings a slot's outbox to the sink: one request after the other, or several at once, each under its own key until it is
+//! taken.
+
+mod together;
 
 use super::{backoff, Fate, Forwarded, Sink};
 use crate::files::outbox::Waiting;
@@ -13,6 +16,7 @@ use std::future::Future;
 use std::pin::pin;
 use std::sync::{Arc, Mutex};
 use std::time::{Duration, Instant};
+use together::Size;
 use tokio::sync::{watch, Notify};
 use tokio::time::timeout;
 
@@ -82,6 +86,8 @@ trait Store: Sync {
     async fn first(&self) -> Result<(Waiting, Vec<u8>), Fault>;
     /// Returns once a request may be sent: it is durable, and the slot is this instance's.
     async fn may_deliver(&self, number: u64) -> Result<(), Fault>;
+    /// Those that wait behind the first, by their numbers: so many, of so many bytes together.
+    async fn behind_first(&self, most: usize, bytes: usize) -> Vec<(u64, Vec<u8>)>;
     async fn lost(&self) -> Lost;
     async fn acknowledge(&self, number: u64) -> Result<(), Fault>;
     /// Durable once it returns. Whether the disk has room for it.
@@ -115,6 +121,10 @@ impl Store for Files {
             blocking(move || outbox.settle()).await?;
         }
         Ok(())
+    }
+
+    async fn behind_first(&self, most: usize, bytes: usize) -> Vec<(u64, Vec<u8>)> {
+        self.outbox.behind_first(most, bytes).await
     }
 
     async fn lost(&self) -> Lost {
@@ -163,14 +173,21 @@ impl<S: Store> Run<S> {
     }
 
     async fn run(&self) -> Result<Infallible, End> {
+        let mut size = Size::of(&*self.sink);
         loop {
             let (waiting, body) = self.unless_stopped(self.files.first()).await??;
-            let request =
-                Forwarded { slot: self.slot, epoch: self.files.epoch(), number: waiting.number, body };
+            let request = self.request(waiting.number, body);
+            if self.together(&request, &mut size).await? {
+                continue;
+            }
             self.settle(request).await?;
             // Only what the sink has, or what lies in `dead/`, leaves the outbox.
             self.files.acknowledge(waiting.number).await?;
         }
+    }
+
+    fn request(&self, number: u64, body: Vec<u8>) -> Forwarded {
+        Forwarded { slot: self.slot, epoch: self.files.epoch(), number, body }
     }
 
     /// Sends a request, the same bytes under the same key, until its fate is known; what is not taken whole is kept.
@@ -214,7 +231,7 @@ impl<S: Store> Run<S> {
 
     /// Waits so long, or until somebody asks for the next try.
     async fn pause(&self, wait: Duration) -> Result<(), End> {
-        locked(&self.attempts.state).next_try = Some(log::seconds() + wait.as_secs());
+        locked(&self.attempts.state).next_try = Some(log::seconds() + wait.as_secs_f64().ceil() as u64);
         let hurried = timeout(wait, self.attempts.hurried.notified());
         let _ = self.unless_stopped(hurried).await?;
         locked(&self.attempts.state).next_try = None;

@@ -84,6 +84,9 @@ impl Fate {
     }
 }
 
+/// How many requests are one transaction of a database, at most.
+const TOGETHER: usize = 1000;
+
 /// A forwarded request under its key.
 #[derive(Clone, Debug, PartialEq, Eq)]
 pub struct Forwarded {
@@ -113,6 +116,17 @@ pub trait Sink: Send + Sync {
     /// The same of a slot that this instance has under a term: where the sink is in the database that has the slot's row, it
     /// takes the request and notes that it has, in one transaction, and takes none of an earlier term.
     fn deliver_of<'a>(&'a self, request: &'a Forwarded, term: Option<u64>) -> Answer<'a, Fate>;
+
+    /// How many requests it takes in one go.
+    fn most_together(&self) -> usize {
+        1
+    }
+
+    /// Takes all of these whole, in one go, or nothing of them; whether it has. Where it has not each is delivered by itself,
+    /// by which it is known why.
+    fn deliver_together<'a>(&'a self, _all: &'a [Forwarded], _term: Option<u64>) -> Answer<'a, bool> {
+        Box::pin(std::future::ready(false))
+    }
 
     /// Closes or opens a period, or corrects: wholly or not at all, between two requests.
     fn settle<'a>(&'a self, _who: &'a str, _deed: &'a Deed) -> Answer<'a, Told> {

@@ -15,6 +15,7 @@ mod rivals;
 mod server;
 mod spans;
 mod speed;
+mod together;
 mod versions;
 
 use model::both;

@@ -117,6 +117,12 @@ impl State {
         self.batches.front().map(Batch::front)
     }
 
+    /// The first of them, whose requests have the epoch of the first.
+    pub fn of_one_epoch(&self, most: usize) -> Vec<Batch> {
+        let those = self.batches.iter().take_while(|batch| *batch.epoch == *self.epoch());
+        those.take(most).cloned().collect()
+    }
+
     /// The series get the ids that they have in a snapshot.
     pub fn snapshot(&mut self) -> Snapshot {
         self.series.renumber();

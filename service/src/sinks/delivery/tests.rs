@@ -7,6 +7,7 @@ use std::collections::VecDeque;
 mod files;
 mod held;
 mod lost;
+mod several;
 
 /// Says these fates, then `Taken`.
 #[derive(Default)]
@@ -98,6 +99,12 @@ impl Store for &Memory {
         let mut ours = ours.lock().expect("ours");
         *ours = ours.checked_sub(1).ok_or(Lost)?;
         Ok(())
+    }
+
+    async fn behind_first(&self, most: usize, _bytes: usize) -> Vec<(u64, Vec<u8>)> {
+        let waiting = self.waiting.lock().expect("waiting");
+        let behind = waiting.iter().skip(1).take(most);
+        behind.map(|number| (*number, format!("body {number}").into_bytes())).collect()
     }
 
     async fn lost(&self) -> Lost {

@@ -298,7 +298,7 @@ async fn https_with_a_server_that_has_no_certificate_is_tried_again() {
     };
     sink.patience = Duration::from_secs(5);
     match sink.deliver(&request(1)).await {
-        Fate::Away { reason } => assert!(reason.starts_with("no answer"), "{reason}"),
+        Fate::Again { reason, .. } | Fate::Away { reason } => assert!(reason.starts_with("no answer"), "{reason}"),
         other => panic!("{other:?}"),
     }
 }

@@ -27,7 +27,7 @@ pub use crate::postgres::Server;
 
 use super::left_out::LeftOut;
 use super::periods::{Deed, Told};
-use super::{Answer, Fate, Forwarded, Keys, Memory, Retention, Sink};
+use super::{Answer, Fate, Forwarded, Keys, Memory, Retention, Rewind, Sink};
 use crate::work::blocking;
 use fault::{Fault, NotTaken};
 use session::{within, Session};
@@ -90,7 +90,17 @@ impl PostgresSink {
         let content = blocking(move || rows::read(&body)).await?;
         // It is not the server that is late where other slots' requests go first.
         let mut place = self.session.lock().await;
-        let mut session = match place.take() {
+        let mut session = self.session(&mut place).await?;
+        let taken = within(self.patience, store::take(&mut session, request, term, content)).await;
+        if matches!(taken, Ok(_) | Err(NotTaken::Refused(_))) {
+            *place = Some(session);
+        }
+        taken
+    }
+
+    /// The one that is there, or a new one.
+    async fn session(&self, place: &mut Option<Session>) -> Result<Session, Fault> {
+        let session = match place.take() {
             Some(session) if !session.client.is_closed() => session,
             _ => {
                 let was_there = self.was_there.load(Relaxed);
@@ -98,7 +108,20 @@ impl PostgresSink {
             }
         };
         self.was_there.store(true, Relaxed);
-        let taken = within(self.patience, store::take(&mut session, request, term, content)).await;
+        Ok(session)
+    }
+
+    /// As `take`, of several, which are all taken or none of them.
+    async fn take_together(&self, all: &[Forwarded], term: Option<u64>) -> Result<bool, NotTaken> {
+        if all.iter().any(|one| Rewind::of(&one.body).is_some()) {
+            return Ok(false); // it has its place between the others
+        }
+        let bodies: Vec<Vec<u8>> = all.iter().map(|one| one.body.clone()).collect();
+        let read = move || bodies.iter().map(|body| rows::read(body)).collect::<Result<Vec<_>, _>>();
+        let contents = blocking(read).await?;
+        let mut place = self.session.lock().await;
+        let mut session = self.session(&mut place).await?;
+        let taken = within(self.patience, store::take_together(&mut session, all, term, contents)).await;
         if matches!(taken, Ok(_) | Err(NotTaken::Refused(_))) {
             *place = Some(session);
         }
@@ -130,6 +153,14 @@ fn try_once(server: &Server, memory: Arc<dyn Memory>) -> anyhow::Result<Result<(
 impl Sink for PostgresSink {
     fn deliver_of<'a>(&'a self, request: &'a Forwarded, term: Option<u64>) -> Answer<'a, Fate> {
         Box::pin(self.send(request, term))
+    }
+
+    fn most_together(&self) -> usize {
+        super::TOGETHER
+    }
+
+    fn deliver_together<'a>(&'a self, all: &'a [Forwarded], term: Option<u64>) -> Answer<'a, bool> {
+        Box::pin(async move { self.take_together(all, term).await.unwrap_or(false) })
     }
 
     fn settle<'a>(&'a self, who: &'a str, deed: &'a Deed) -> Answer<'a, Told> {

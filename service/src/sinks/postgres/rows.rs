@@ -6,6 +6,7 @@ use crate::sinks::left_out::shown;
 use crate::sinks::periods::Closed;
 use crate::sinks::utc;
 use sha2::{Digest, Sha256};
+use std::collections::btree_map::Entry;
 use std::collections::BTreeMap;
 
 /// A request as it is written down.
@@ -58,6 +59,20 @@ pub(super) fn read(body: &[u8]) -> Result<Content, NotTaken> {
     all.iter_mut().try_for_each(OfSeries::put_in_order)?;
     let digest = Sha256::digest(body).to_vec();
     Ok(Content { digest, all })
+}
+
+/// What several requests have for their series, as one would.
+pub(super) fn together(contents: Vec<Content>) -> Result<Vec<OfSeries>, NotTaken> {
+    let mut all: BTreeMap<Vec<u8>, OfSeries> = BTreeMap::new();
+    for of in contents.into_iter().flat_map(|content| content.all) {
+        match all.entry(of.digest.clone()) {
+            Entry::Vacant(place) => drop(place.insert(of)),
+            Entry::Occupied(mut found) => found.get_mut().points.extend(of.points),
+        }
+    }
+    let mut all: Vec<OfSeries> = all.into_values().collect();
+    all.iter_mut().try_for_each(OfSeries::put_in_order)?;
+    Ok(all)
 }
 
 /// In which a span of at least a nanosecond counts.

@@ -53,6 +53,7 @@ statements! {
     hold_periods: HOLD_PERIODS,
     closed: CLOSED,
     key: KEY,
+    keys: KEYS,
     is_taken: IS_TAKEN,
     set_left_out: SET_LEFT_OUT,
     make: MAKE,

@@ -21,6 +21,13 @@ pub(super) const KEY: &str = "insert into totxegun.request (slot, epoch, number,
     select $1::int4, $2::text, $3::numeric, $4::int8, $6::bytea from totxegun.version where version = $5::int4
     on conflict (slot, epoch, number) do nothing returning id";
 
+/// The same of several requests of one slot; fewer rows come where one was there.
+pub(super) const KEYS: &str = "insert into totxegun.request (slot, epoch, number, points, digest)
+    select $1::int4, $2::text, new.number, new.points, new.digest
+    from unnest($3::numeric[], $4::int8[], $5::bytea[]) as new(number, points, digest)
+    join totxegun.version on version = $6::int4 order by new.number
+    on conflict (slot, epoch, number) do nothing returning id";
+
 /// A row that is locked makes the commit behind it a write, which waits for the standby.
 pub(super) const IS_TAKEN: &str = "select id, points, digest, left_out from totxegun.request
     where slot = $1::int4 and epoch = $2::text and number = $3::numeric for update";

@@ -1,13 +1,13 @@
-//! One transaction a request, whole or not at all.
+//! One transaction a request, whole or not at all; or one for several.
 
 use super::fault::{Fault, NotTaken};
 use super::metric_rows;
 use super::periods;
 use super::point_rows::{hour_row, span_row, total_row, Adding};
 use super::repeat::{self, Taken};
-use super::rows::{Content, OfSeries};
+use super::rows::{self, Content, OfSeries};
 use super::schema::KNOWN;
-use super::series::StoredSeries;
+use super::series::{Seen, StoredSeries};
 use super::session::{Session, Statements};
 use super::values::{NewRow, Numeric};
 use crate::otlp::series::ForwardedPoint;
@@ -45,22 +45,9 @@ pub(super) async fn take(
             return Ok(left);
         }
     };
-    let all = content.all;
-    let (closed, known) = tokio::try_join!(writing.closed(), writing.series(&all, &session.seen))?;
-    let left = writing.overlapping(&all, &known).await?;
-    let (all, known) = repeat::without(all, known, &left);
-    if all.is_empty() && !left.is_empty() {
-        return Err(NotTaken::Refused(left.reason));
-    }
-    let both = all.iter().zip(&known);
-    let adding: Vec<Adding> = both.map(|(of, known)| Adding::of(of, known, &closed)).collect();
-    // The totals are written down here while the server has the spans.
-    tokio::try_join!(
-        writing.spans(&all, &known),
-        writing.totals(&adding),
-        writing.rewind(request),
-        writing.delivered(session.fence.as_ref(), request, term, left.is_empty())
-    )?;
+    let (all, left) = writing.add(content.all, &session.seen).await?;
+    writing.rewind(request).await?;
+    writing.delivered(session.fence.as_ref(), request, term, left.is_empty()).await?;
     if !left.is_empty() {
         writing.leave_out(row, repeat::points(&all), &left).await?;
     }
@@ -68,6 +55,34 @@ pub(super) async fn take(
     writing.commit().await?;
     session.seen.add(&all);
     Ok(left)
+}
+
+/// Takes all of these whole, in one transaction, where none is taken yet and nothing of them is left; whether it did. It has
+/// each lock once, in the order in which one request has them.
+pub(super) async fn take_together(
+    session: &mut Session,
+    requests: &[Forwarded],
+    term: Option<u64>,
+    contents: Vec<Content>,
+) -> Result<bool, NotTaken> {
+    let Some(last) = requests.last() else {
+        return Ok(true);
+    };
+    let warnings = &session.connection.warnings;
+    let transaction = session.client.transaction().await?;
+    let writing = Writing { transaction, warnings, statements: &session.statements };
+    let (_, are_new) = tokio::try_join!(writing.hold_periods(), writing.keys(requests, &contents))?;
+    if !are_new {
+        return Ok(false);
+    }
+    let (all, left) = writing.add(rows::together(contents)?, &session.seen).await?;
+    if !left.is_empty() {
+        return Ok(false);
+    }
+    writing.delivered(session.fence.as_ref(), last, term, true).await?;
+    writing.commit().await?;
+    session.seen.add(&all);
+    Ok(true)
 }
 
 pub(super) struct Writing<'a> {
@@ -132,6 +147,32 @@ impl Writing<'_> {
             return Ok(Key::Taken(Taken::of(row)));
         }
         Err(Fault::told("the schema's version has changed: it is read again").into())
+    }
+
+    /// Makes the rows of requests of one slot; whether none was there.
+    async fn keys(&self, requests: &[Forwarded], contents: &[Content]) -> Result<bool, NotTaken> {
+        let (slot, epoch) = (i32::from(requests[0].slot), &requests[0].epoch);
+        let numbers: Vec<Numeric> = requests.iter().map(|one| one.number.into()).collect();
+        let points: Vec<i64> = contents.iter().map(|one| repeat::points(&one.all)).collect();
+        let digests: Vec<&[u8]> = contents.iter().map(|one| &one.digest[..]).collect();
+        let columns: [&(dyn ToSql + Sync); 6] = [&slot, epoch, &numbers, &points, &digests, &KNOWN];
+        Ok(self.rows(&self.statements.keys, &columns).await?.len() == requests.len())
+    }
+
+    /// Adds what does not overlap: of which series, and what is left.
+    async fn add(&self, all: Vec<OfSeries>, seen: &Seen) -> Result<(Vec<OfSeries>, LeftOut), NotTaken> {
+        let (closed, known) = tokio::try_join!(self.closed(), self.series(&all, seen))?;
+        let left = self.overlapping(&all, &known).await?;
+        let (all, known) = repeat::without(all, known, &left);
+        if all.is_empty() && !left.is_empty() {
+            return Err(NotTaken::Refused(left.reason));
+        }
+        let both = all.iter().zip(&known);
+        let adding: Vec<Adding> = both.map(|(of, known)| Adding::of(of, known, &closed)).collect();
+        // The totals are written down here while the server has the spans.
+        tokio::try_join!(self.spans(&all, &known), self.totals(&adding))?;
+        drop(adding);
+        Ok((all, left))
     }
 
     /// Writes down what of the request is not added, so a repeat is told the same.

@@ -99,6 +99,16 @@ impl Sink for SqliteSink {
         Box::pin(async { fate.await.unwrap_or_else(Fate::away) })
     }
 
+    fn most_together(&self) -> usize {
+        super::TOGETHER
+    }
+
+    fn deliver_together<'a>(&'a self, all: &'a [Forwarded], _term: Option<u64>) -> Answer<'a, bool> {
+        let all = all.to_vec();
+        let taken = self.ask(move |writer| writer.take_together(&all));
+        Box::pin(async { taken.await.unwrap_or(false) })
+    }
+
     fn settle<'a>(&'a self, who: &'a str, deed: &'a Deed) -> Answer<'a, Told> {
         let (who, deed) = (who.to_string(), deed.clone());
         let told = self.ask(move |writer| writer.settle(&who, &deed));
@@ -261,6 +271,15 @@ impl Writer {
                 Fate::away(fault.at(&self.path).to_string())
             }
         }
+    }
+
+    /// Whether it has all of them. What is wrong else each one by itself says.
+    fn take_together(&mut self, all: &[Forwarded]) -> bool {
+        let taken = self.store().map_err(NotTaken::from).and_then(|store| store.take_together(all));
+        if let Err(NotTaken::Fault(fault)) = &taken {
+            self.close_after(fault);
+        }
+        taken.is_ok_and(|is_taken| is_taken) && self.is(FileState::Intact)
     }
 
     /// Where the file is opened anew meanwhile nothing is known of what was asked for: it may be asked for again.

@@ -105,33 +105,48 @@ impl Store {
     /// Takes a request that is not taken yet, but for spans that overlap: these are left.
     pub(super) fn take(&mut self, request: &Forwarded) -> Result<LeftOut, NotTaken> {
         let points = series::forwarded(&request.body)?;
+        let mut writing = self.begin()?;
+        if let Some(taken) = repeat::find(&writing.transaction, request)? {
+            return writing.left_of(&taken, &points);
+        }
+        let left = writing.request(request, &points)?;
+        let new = writing.commit()?;
+        self.series.extend(new);
+        Ok(left)
+    }
+
+    /// Takes all of these whole, in one transaction, where none is taken yet and nothing of them is left; whether it did.
+    pub(super) fn take_together(&mut self, all: &[Forwarded]) -> Result<bool, NotTaken> {
+        let mut writing = self.begin()?;
+        for request in all {
+            let points = series::forwarded(&request.body)?;
+            let is_taken = repeat::find(&writing.transaction, request)?.is_some();
+            if is_taken || !writing.request(request, &points)?.is_empty() {
+                return Ok(false);
+            }
+        }
+        let new = writing.commit()?;
+        self.series.extend(new);
+        Ok(true)
+    }
+
+    fn begin(&mut self) -> Result<Writing<'_>, NotTaken> {
         let transaction = self.connection.transaction_with_behavior(TransactionBehavior::Immediate)?;
         let version: i64 = cached::one(&transaction, "pragma data_version", [], |row| row.get(0))?;
         if version != self.data_version || self.series.len() > CACHED {
             self.series.clear();
             self.data_version = version;
         }
-        let taken = repeat::find(&transaction, request)?;
         let horizon = Horizon::read(&transaction)?;
         let closed = periods::read(&transaction)?;
-        let mut writing = Writing {
+        Ok(Writing {
             transaction,
             horizon,
             closed,
             known: &self.series,
             new: HashMap::new(),
             hours: Hours::default(),
-        };
-        if let Some(taken) = taken {
-            return writing.left_of(&taken, &points);
-        }
-        let left = writing.request(request, &points)?;
-        if let Some(rewind) = Rewind::of(&request.body) {
-            writing.rewind(&rewind)?;
-        }
-        let new = writing.commit()?;
-        self.series.extend(new);
-        Ok(left)
+        })
     }
 }
 
@@ -251,6 +266,9 @@ impl Writing<'_> {
         hours.write(&self.transaction, self.horizon.hours_from)?;
         if !left.is_empty() {
             repeat::set_points(&self.transaction, row, points.len() - left.places.len())?;
+        }
+        if let Some(rewind) = Rewind::of(&request.body) {
+            self.rewind(&rewind)?;
         }
         Ok(left)
     }

@@ -1,0 +1,56 @@
+//! Waiting requests behind the first one, for a sink that takes several in one go.
+
+use super::state::{Batch, Front};
+use super::{rows, segment, Outbox};
+use crate::files::disk::Disk;
+use crate::files::locked;
+use crate::work::blocking;
+use std::path::{Path, PathBuf};
+
+impl Outbox {
+    /// Those behind the first, by their numbers: so many, of so many bytes together. One that can't be read ends them; that is
+    /// told once it is the first.
+    pub async fn behind_first(&self, most: usize, bytes: usize) -> Vec<(u64, Vec<u8>)> {
+        let batches = locked(&self.state).of_one_epoch(most);
+        let (disk, folder) = (self.disk.clone(), self.folder.clone());
+        blocking(move || read(&disk, &folder, batches, most, bytes)).await
+    }
+}
+
+fn read(disk: &Disk, folder: &Path, all: Vec<Batch>, most: usize, mut bytes: usize) -> Vec<(u64, Vec<u8>)> {
+    let Some(first) = all.first().map(|batch| batch.first) else {
+        return Vec::new();
+    };
+    let items = all.iter().flat_map(|batch| {
+        let path = segment::path(folder, batch.segment);
+        Items { disk, path, front: batch.front(), left: batch.count }
+    });
+    // None is skipped: what is behind one that can't be read is no next one.
+    let next = items.skip(1).zip(first + 1..).map_while(|(item, wanted)| (item.0 == wanted).then_some(item));
+    let in_bounds = next.take(most).map_while(|(number, body)| {
+        bytes = bytes.checked_sub(body.len())?;
+        Some((number, body))
+    });
+    in_bounds.collect()
+}
+
+/// The requests of a batch, which lie behind one another.
+struct Items<'a> {
+    disk: &'a Disk,
+    path: PathBuf,
+    front: Front,
+    left: u64,
+}
+
+impl Iterator for Items<'_> {
+    type Item = (u64, Vec<u8>);
+
+    fn next(&mut self) -> Option<(u64, Vec<u8>)> {
+        self.left = self.left.checked_sub(1)?;
+        let (packed, length) = rows::packed_item(self.disk, &self.path, &self.front).ok()?;
+        let number = self.front.waiting.number;
+        self.front.at += length;
+        self.front.waiting.number += 1;
+        Some((number, rows::inflated(&packed)?))
+    }
+}

@@ -1,0 +1,68 @@
+//! Requests that go in one go, where the sink can: after a flush of many hours, or hours in which it was away, thousands wait.
+
+use super::{End, Run, Store};
+use crate::sinks::{Forwarded, Sink};
+
+/// The most bytes of requests that go in one go, but for a longer first one.
+const BYTES: usize = 4 << 20;
+
+/// How many requests are tried in one go.
+pub(super) struct Size {
+    now: usize,
+    most: usize,
+}
+
+impl Size {
+    pub(super) fn of(sink: &dyn Sink) -> Size {
+        let most = sink.most_together();
+        Size { now: most, most }
+    }
+
+    /// One of them may be at fault: fewer are tried then, until that one is by itself.
+    fn tried(&mut self, count: usize, is_taken: bool) {
+        self.now = match is_taken {
+            true => self.now.saturating_mul(2),
+            false => (count / 2).max(1),
+        };
+        self.now = self.now.min(self.most);
+    }
+}
+
+impl<S: Store> Run<S> {
+    /// Brings the first request and those behind it in one go, and has them leave the outbox; whether it did. Else nothing of
+    /// them is in the sink, or their keys say what is.
+    pub(super) async fn together(&self, first: &Forwarded, size: &mut Size) -> Result<bool, End> {
+        let room = BYTES.saturating_sub(first.body.len());
+        let behind = match size.now {
+            0 | 1 => Vec::new(),
+            now => self.unless_stopped(self.files.behind_first(now - 1, room)).await?,
+        };
+        if behind.is_empty() {
+            size.tried(1, true);
+            return Ok(false);
+        }
+        let behind = behind.into_iter().map(|(number, body)| self.request(number, body));
+        let all: Vec<Forwarded> = std::iter::once(first.clone()).chain(behind).collect();
+        let is_taken = self.bring(&all).await?;
+        size.tried(all.len(), is_taken);
+        if is_taken {
+            for request in all {
+                self.files.let_go(request.key(), request.body).await?;
+                self.ended("taken");
+                self.files.acknowledge(request.number).await?;
+            }
+        }
+        Ok(is_taken)
+    }
+
+    async fn bring(&self, all: &[Forwarded]) -> Result<bool, End> {
+        let mut held = Vec::new();
+        for request in all {
+            held.push(self.unless_stopped(self.sink.keys().hold(&request.key())).await?);
+        }
+        if let Some(last) = all.last() {
+            self.wait_until_sure(last.number).await?;
+        }
+        self.unless_stopped(self.sink.deliver_together(all, self.files.term())).await
+    }
+}

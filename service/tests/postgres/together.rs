@@ -1,0 +1,68 @@
+//! Several requests in one transaction.
+
+use super::model::both;
+use super::server::{sum, sums, Server};
+use super::{open, request, taken};
+use totxegun::sinks::Forwarded;
+
+const HOUR: u64 = 3_600_000_000_000;
+
+/// Of each hour one of three series, as after a flush over many hours.
+fn of_hours(first: u64, count: u64) -> Vec<Forwarded> {
+    let body = |hour: u64| {
+        let end = (500_000 + hour) * HOUR;
+        sums(&[("a", end - 10, end, 1), ("b", end - 7, end - 1, 2), ("c", end - 5, end - 4, 3)])
+    };
+    (first..first + count).map(|number| request(number, body(number))).collect()
+}
+
+#[tokio::test(flavor = "multi_thread")]
+async fn all_of_them_are_taken_each_under_its_key() {
+    let server = Server::start();
+    for database in both(&server) {
+        let sink = open(&database.address());
+        assert!(sink.most_together() >= 40);
+        taken(&*sink, 1, sum("other", 1, 2, 1)).await;
+        let all = of_hours(2, 40);
+        assert!(sink.deliver_together(&all, None).await);
+        let totals = database.ask("select name, points, total from t.totals order by 1");
+        assert_eq!(totals, "a|40|40\nb|40|80\nc|40|120\nother|1|1");
+        assert_eq!(
+            database.ask("select count(*), count(distinct hour) from t.by_hour where name <> 'other'"),
+            "120|40"
+        );
+        assert_eq!(database.ask("select count(*), sum(points) from t.request"), "41|121");
+        // As behind a lost answer: each by itself says that it was taken.
+        assert!(!sink.deliver_together(&all, None).await);
+        for one in &all {
+            assert_eq!(sink.deliver(one).await, totxegun::sinks::Fate::Taken);
+        }
+        assert!(sink.deliver_together(&of_hours(42, 3), None).await);
+        assert_eq!(database.ask("select sum(points) from t.totals"), "130");
+    }
+}
+
+/// Nothing of the others is there, and nothing is in the way of them.
+#[tokio::test(flavor = "multi_thread")]
+async fn where_one_can_not_be_taken_whole_nothing_is() {
+    let server = Server::start();
+    for database in both(&server) {
+        let sink = open(&database.address());
+        let before = (500_000 + 100) * HOUR;
+        taken(&*sink, 1, sum("a", before - 1000, before, 1)).await;
+        let overlaps = sums(&[("new", 1, 2, 1), ("a", before - 10, before - 5, 1)]);
+        for wrong in [overlaps, sum("a", before - 10, before - 5, 1), sum("a", 5, 5, 1), "{".into()] {
+            let mut all = of_hours(2, 9);
+            all.insert(5, request(90, wrong));
+            assert!(!sink.deliver_together(&all, None).await);
+            assert_eq!(database.ask("select name, points from t.totals"), "a|1");
+            assert_eq!(database.ask("select count(*) from t.request"), "1");
+        }
+        // Two that overlap each other.
+        let mut all = of_hours(2, 2);
+        all.push(request(4, String::from_utf8(all[0].body.clone()).unwrap()));
+        assert!(!sink.deliver_together(&all, None).await);
+        assert!(sink.deliver_together(&of_hours(2, 9), None).await);
+        assert_eq!(database.ask("select sum(points) from t.totals"), "28");
+    }
+}
