@@ -1,6 +1,9 @@
 //! Where a server is, and as whom to come to it.
 
-use crate::sinks::roots;
+use super::passfile;
+use crate::sinks::roots::{self, ClientFiles, NoRoots};
+use rustls::ClientConfig;
+use std::path::PathBuf;
 use std::str::FromStr;
 use std::time::Duration;
 use tokio_postgres::config::{ChannelBinding, Host, SslMode, TargetSessionAttrs};
@@ -12,19 +15,18 @@ const PORT: u16 = 5432;
 /// How long a connection is silent before it is asked whether it is there.
 const KEEPALIVE: Duration = Duration::from_secs(30);
 
-/// What is written for TLS whose certificate is looked at. Here it always is, so it is one with `require`.
-const VERIFY: &str = "sslmode=verify-full";
-const REQUIRE: &str = "sslmode=require";
-
 /// Its `Debug` shows no password.
 #[derive(Clone, Debug, PartialEq, Eq)]
-pub struct Server(Config);
+pub struct Server {
+    config: Config,
+    tls: ClientFiles,
+}
 
 impl Server {
     /// Reads what follows `postgres:`. What it says of a faulty one has no part of it, since that may be a password.
     pub(crate) fn read(rest: &str) -> Result<Server, String> {
         let server = Server::read_hosts(rest)?;
-        match server.0.get_hosts() {
+        match server.config.get_hosts() {
             [_] => Ok(server),
             _ => Err("there is more than one host, and two servers would count apart".into()),
         }
@@ -35,7 +37,7 @@ impl Server {
         if !rest.starts_with("//") {
             return Err("`//` is missing".into());
         }
-        let written = format!("postgres:{}", rest.replace(VERIFY, REQUIRE));
+        let (written, tls) = without_tls(rest)?;
         let mut config = Config::from_str(&written).map_err(|error| error.to_string())?;
         if config.get_user().is_none() {
             return Err("there is no user".into());
@@ -47,9 +49,11 @@ impl Server {
         if config.get_channel_binding() == ChannelBinding::Require {
             return Err("`channel_binding=require` is not known here: leave it out".into());
         }
-        // Only what was asked for: TLS that is left out where a server has none is no protection.
         if config.get_ssl_mode() != SslMode::Require {
             config.ssl_mode(SslMode::Disable);
+            if !tls.is_empty() {
+                return Err("`sslrootcert`, `sslcert` and `sslkey` are for TLS: add `sslmode=require`".into());
+            }
         }
         if config.get_application_name().is_none() {
             config.application_name("totxegun");
@@ -60,12 +64,12 @@ impl Server {
         if config.get_connect_timeout().is_none() {
             config.connect_timeout(CONNECT);
         }
-        Ok(Server(config))
+        Ok(Server { config, tls })
     }
 
     /// Where it is, whoever comes to it.
     pub(crate) fn place(&self) -> String {
-        let ports = self.0.get_ports();
+        let ports = self.config.get_ports();
         let place = |(number, host): (usize, &Host)| {
             let host = match host {
                 Host::Tcp(host) => host.clone(),
@@ -74,28 +78,39 @@ impl Server {
             let port = ports.get(number).or(ports.first()).copied().unwrap_or(PORT);
             format!("{host}:{port}")
         };
-        let places: Vec<String> = self.0.get_hosts().iter().enumerate().map(place).collect();
-        format!("{}/{}", places.join(","), self.0.get_dbname().unwrap_or_default())
+        let places: Vec<String> = self.config.get_hosts().iter().enumerate().map(place).collect();
+        format!("{}/{}", places.join(","), self.config.get_dbname().unwrap_or_default())
     }
 
     pub(super) fn wants_tls(&self) -> bool {
-        self.0.get_ssl_mode() == SslMode::Require
+        self.config.get_ssl_mode() == SslMode::Require
     }
 
-    /// With the password of the environment, where the address has none.
+    pub(super) fn client_config(&self) -> Result<ClientConfig, NoRoots> {
+        self.tls.client_config()
+    }
+
+    /// With the password of the environment, or of the file of passwords, where the address has none.
     pub(crate) fn config(&self) -> Config {
-        let mut config = self.0.clone();
-        if config.get_password().is_none() {
-            if let Some(password) = std::env::var_os("PGPASSWORD") {
-                config.password(password.as_encoded_bytes());
-            }
+        self.with_password(self.config.clone())
+    }
+
+    /// Of one host.
+    fn with_password(&self, mut config: Config) -> Config {
+        if config.get_password().is_some() {
+            return config;
+        }
+        if let Some(password) = std::env::var_os("PGPASSWORD") {
+            config.password(password.as_encoded_bytes());
+        } else if let Some(password) = passfile::password(&config) {
+            config.password(password);
         }
         config
     }
 
     /// The same for each host alone, where only one that writes counts: so each can be given its time.
     pub(crate) fn each_host(&self) -> Vec<Config> {
-        let all = self.config();
+        let all = &self.config;
         let ports = all.get_ports();
         let one = |(number, host): (usize, &Host)| {
             let mut config = Config::new();
@@ -116,10 +131,41 @@ impl Server {
                 .keepalives(all.get_keepalives())
                 .keepalives_idle(all.get_keepalives_idle())
                 .target_session_attrs(TargetSessionAttrs::ReadWrite);
-            config
+            self.with_password(config)
         };
         all.get_hosts().iter().enumerate().map(one).collect()
     }
+}
+
+/// An address without what is read here alone of its TLS, for a library that knows `require`.
+fn without_tls(rest: &str) -> Result<(String, ClientFiles), String> {
+    let (place, query) = rest.split_once('?').unwrap_or((rest, ""));
+    let (mut tls, mut others) = (ClientFiles::default(), Vec::new());
+    for pair in query.split('&') {
+        let (name, value) = pair.split_once('=').unwrap_or((pair, ""));
+        match (name, value) {
+            // Its certificate is looked at in either case.
+            ("sslmode", "verify-full") => others.push("sslmode=require"),
+            ("sslmode", "prefer" | "allow") => {
+                return Err("`sslmode=prefer` and `allow` go without TLS where a server has none: write `sslmode=require`, or `disable`".into())
+            }
+            ("sslrootcert", "system") => {}
+            ("sslrootcert", file) => tls.roots = Some(path(file)?),
+            ("sslcert", file) => tls.certificate = Some(path(file)?),
+            ("sslkey", file) => tls.key = Some(path(file)?),
+            _ => others.push(pair),
+        }
+    }
+    match tls.certificate.is_some() == tls.key.is_some() {
+        true => Ok((format!("postgres:{place}?{}", others.join("&")), tls)),
+        false => Err("`sslcert` and `sslkey` go together: name both files".into()),
+    }
+}
+
+fn path(written: &str) -> Result<PathBuf, String> {
+    let text = percent_encoding::percent_decode_str(written).decode_utf8();
+    let text = text.ok().filter(|text| !text.is_empty());
+    text.map(|text| PathBuf::from(&*text)).ok_or_else(|| "a file of its TLS has no name in UTF-8".into())
 }
 
 /// Hosts to each of which there can be the TLS that is asked for.
@@ -138,7 +184,7 @@ fn check_hosts(config: &Config) -> Result<(), &'static str> {
 
 impl std::fmt::Display for Server {
     fn fmt(&self, formatter: &mut std::fmt::Formatter<'_>) -> std::fmt::Result {
-        write!(formatter, "{}@{}", self.0.get_user().unwrap_or_default(), self.place())
+        write!(formatter, "{}@{}", self.config.get_user().unwrap_or_default(), self.place())
     }
 }
 
@@ -152,7 +198,9 @@ mod tests {
             ("//u@h/d", "u@h:5432/d"),
             ("//u:secret@h:5433/d", "u@h:5433/d"),
             ("//u@/d?host=/run/pg", "u@/run/pg:5432/d"),
-            ("//u@/d?host=/run/pg&port=5433&sslmode=prefer", "u@/run/pg:5433/d"),
+            ("//u@/d?host=/run/pg&port=5433&sslmode=disable", "u@/run/pg:5433/d"),
+            ("//u:secret@h/d?sslmode=require&sslrootcert=%2Fa%20b&sslcert=c&sslkey=k", "u@h:5432/d"),
+            ("//u:secret@h/d?sslrootcert=system&sslmode=verify-full", "u@h:5432/d"),
             ("//u@%2Frun%2Fpg/d?sslmode=disable", "u@/run/pg:5432/d"),
             ("//u:secret@h/d?sslmode=require", "u@h:5432/d"),
             ("//u:secret@h/d?sslmode=verify-full", "u@h:5432/d"),
@@ -186,6 +234,14 @@ mod tests {
     }
 
     #[test]
+    fn the_files_of_tls_are_read_as_they_are_written() {
+        let server =
+            Server::read("//u@h/d?sslmode=require&sslrootcert=%2Fa%20b&sslcert=c&sslkey=k").expect("one");
+        let file = |name: &str| Some(PathBuf::from(name));
+        assert_eq!(server.tls, ClientFiles { roots: file("/a b"), certificate: file("c"), key: file("k") });
+    }
+
+    #[test]
     fn what_an_address_says_counts() {
         let config = |rest| Server::read(rest).expect(rest).config();
         let own = config("//u@127.0.0.1/d");
@@ -205,6 +261,11 @@ mod tests {
             ("//u:secret@/d", "no host"),
             ("//u:secret@h1,h2/d", "more than one"),
             ("//u:secret@h/d?sslmode=verify-ca", "sslmode"),
+            ("//u:secret@h/d?sslmode=prefer", "`sslmode=prefer`"),
+            ("//u:secret@h/d?sslmode=allow", "`sslmode=prefer` and `allow`"),
+            ("//u:secret@h/d?sslrootcert=/a", "add `sslmode=require`"),
+            ("//u:secret@h/d?sslmode=require&sslcert=/a", "`sslkey`"),
+            ("//u:secret@h/d?sslmode=require&sslrootcert=", "no name"),
             ("//u@/d?host=/run/pg&sslmode=require", "no TLS"),
             ("//u:secret@h:x/d", "port"),
             ("//u:secret@127.0.0.1/d?sslmode=require", "name of a host"),

@@ -2,7 +2,7 @@
 
 use super::tls::Tls;
 use super::Server;
-use crate::sinks::roots::{self, NoRoots};
+use crate::sinks::roots::NoRoots;
 use crate::work::locked;
 use std::future::poll_fn;
 use std::sync::{Arc, Mutex};
@@ -52,7 +52,7 @@ pub(crate) async fn connect(
 
 async fn connect_to(server: &Server, config: &Config) -> Result<(Client, Driver), NotConnected> {
     if server.wants_tls() {
-        let tls = Tls::new(roots::client_config(roots::of_machine()?));
+        let tls = Tls::new(server.client_config()?);
         let (client, connection) = config.connect(tls).await?;
         Ok((client, Driver::of(connection)))
     } else {

@@ -3,6 +3,7 @@
 mod address;
 mod connection;
 mod identity;
+mod passfile;
 mod server_error;
 mod tls;
 

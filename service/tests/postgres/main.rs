@@ -175,13 +175,27 @@ async fn by_tls() {
     // A root that did not sign it, a name that the certificate does not have, and none, though it has the address.
     std::env::set_var("SSL_CERT_FILE", server.folder.path().join("other.pem"));
     again(&*open(&address("localhost")), 2, sum("a", 2, 3, 1), "TLS").await;
+    // Its root named by the address, and its password in a file that nobody else may read.
+    let file = server.folder.path().join("passwords");
+    std::fs::write(&file, format!("# by hand\nlocalhost:{port}:*:shop:p\n")).unwrap();
+    std::env::set_var("PGPASSFILE", &file);
+    let root = server.folder.path().join("root.pem");
+    let by_files = address("localhost").replace(":p@", "@") + &format!("&sslrootcert={}", root.display());
+    for (mode, is_read) in [(0o640, false), (0o600, true)] {
+        std::fs::set_permissions(&file, std::os::unix::fs::PermissionsExt::from_mode(mode)).unwrap();
+        match is_read {
+            true => taken(&*open(&by_files), 7, sum("a", 10, 11, 1)).await,
+            false => again(&*open(&by_files), 7, sum("a", 10, 11, 1), "password").await,
+        }
+    }
+    std::env::remove_var("PGPASSFILE");
     server.with_tls("elsewhere");
     std::env::set_var("SSL_CERT_FILE", server.folder.path().join("root.pem"));
     again(&*open(&address("localhost")), 2, sum("a", 2, 3, 1), "NotValidForName").await;
     std::env::remove_var("SSL_CERT_FILE");
     let refused = address("127.0.0.1").parse::<sinks::Address>().unwrap_err();
     assert!(refused.to_string().contains("name of a host"), "{refused}");
-    assert_eq!(server.ask("select points from totxegun.totals"), "1");
+    assert_eq!(server.ask("select points from totxegun.totals"), "2");
 }
 
 #[tokio::test(flavor = "multi_thread")]
