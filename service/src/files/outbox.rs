@@ -28,7 +28,7 @@ use super::free_space::FreeSpace;
 use super::segment::{self, Dropped};
 use super::{locked, Fault};
 use crate::otlp::series::{self, Digest, NotForwarded, SeriesKey};
-use crate::runs::{Run, Since};
+use crate::runs::{Forgotten, Run, Since};
 use crate::work::{blocking, made_in_order};
 pub use brought::{Beginning, Waits};
 use changes::Change;
@@ -167,6 +167,11 @@ impl Outbox {
     /// When what is known here began.
     pub fn since(&self) -> Since {
         locked(&self.state).facts.since.unwrap_or_default()
+    }
+
+    /// Where series ended that were forgotten.
+    pub fn forgotten(&self) -> Forgotten {
+        locked(&self.state).facts.forgotten.clone()
     }
 
     /// Where a series' last forwarded point ends; 0 of one that is not known.

@@ -5,6 +5,7 @@ mod cumulative;
 mod forget;
 mod moved;
 mod primed;
+mod processes;
 mod runs;
 mod shares;
 mod stall;

@@ -118,13 +118,12 @@ impl Draft<'_> {
     ) {
         let options = self.of.options();
         let deltas = self.deltas.get(&number).copied().unwrap_or(0);
-        if let Some((kind, frontier)) = self.runs.untaken.get(&number).copied() {
-            if !run.is_sound(kind) {
+        if let Some(terms) = self.runs.untaken.get(&number).copied() {
+            if !run.is_sound(terms.kind) {
                 self.unsound.push(place);
                 return;
             }
-            let added = added_by(options, self.runs.since, kind, None, frontier.max(deltas), run);
-            if let Err(refused) = added {
+            if let Err(refused) = added_by(options, terms, None, deltas, run) {
                 return self.turned.add(refused, 1);
             }
         }
@@ -133,18 +132,17 @@ impl Draft<'_> {
             return;
         };
         if let SeriesPlace::New(series) = &found {
-            self.runs.untaken.insert(number, (series.kind, series.frontier));
+            self.runs.untaken.insert(number, series.terms);
         }
         let series = match &found {
             SeriesPlace::At(place) => &self.runs.series[*place as usize],
             SeriesPlace::New(series) => series,
         };
-        if !run.is_sound(series.kind) {
+        if !run.is_sound(series.terms.kind) {
             self.unsound.push(place);
             return;
         }
-        let (known, frontier) = (series.run.as_deref(), series.frontier.max(deltas));
-        match added_by(options, self.runs.since, series.kind, known, frontier, run) {
+        match added_by(options, series.terms, series.run.as_deref(), deltas, run) {
             Ok(None) => {
                 let digest = series.digest;
                 match self.is_of_another(&found, run) {
@@ -211,7 +209,7 @@ impl Draft<'_> {
         let found = self.made.binary_search_by_key(&at, |made| made.0).ok()?;
         let place = self.made[found].1;
         let series = &mut self.runs.series[place as usize];
-        series.frontier = frontier;
+        series.terms.frontier = frontier;
         Some(series.digest)
     }
 

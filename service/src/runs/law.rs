@@ -67,7 +67,7 @@ pub struct Options {
 pub struct Since {
     /// Runs from here on have been in no other folder: what is older may have been counted by another service.
     pub made: u64,
-    /// Runs from here on are of no series that was forgotten.
+    /// Nothing that ends behind it was forgotten: of all series, or of one where it is known by itself.
     pub forgotten: u64,
 }
 
@@ -105,7 +105,7 @@ pub fn entry(
 ) -> Result<Option<Entry>, Cause> {
     let Some(known) = known else {
         if point.time <= since.forgotten {
-            // From before a series was forgotten that may have been its own: it may have been counted.
+            // From before the series was forgotten: it may have been counted.
             return Err(Cause::Forgotten);
         }
         return Ok(Some(match since.counts(options.first, point.start) && !is_instant(point) {

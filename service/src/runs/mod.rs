@@ -1,17 +1,20 @@
 //! Cumulative points become deltas before they reach the book: what a series' run has come to since its last point.
 //!
-//! `law` is what becomes of a point, case by case, as `crates/service_law` has it; `draft` makes the points that the book is asked to take of a post. Of each
-//! series the last point that was taken is kept here, under a lock of its own: it is taken before the book's, and held until
-//! the journal has the post. So a refused post changes nothing, and posts that have no cumulative point never wait for it.
+//! `law` is what becomes of a point, case by case, as `crates/service_law` has it; `draft` makes the points that the book is
+//! asked to take of a post; `forgotten` is where series ended that are not known any more. Of each series the last point that
+//! was taken is kept here, under a lock of its own: it is taken before the book's, and held until the journal has the post. So
+//! a refused post changes nothing, and posts that have no cumulative point never wait for it.
 //!
 //! It lasts as a frontier does. The journal has what was added, and what a run that is new or only noted is; a commit has the
 //! run of each series of its group as it was at the turn, and so has the snapshot. A start puts the journal's on top, each
 //! that is not in it yet.
 
 mod draft;
+mod forgotten;
 mod law;
 
 pub use draft::{Draft, Posted};
+pub use forgotten::Forgotten;
 pub use law::{Entry, First, Kind, Options, Reset, Run, Since};
 
 use crate::core::Names;
@@ -42,13 +45,14 @@ const UNKNOWN: u32 = u32::MAX;
 #[derive(Default)]
 pub struct State {
     since: Since,
+    forgotten: Forgotten,
     series: Vec<Series>,
     places: HashMap<Digest, u32>,
     /// By the number of a series in the names that were used last.
     by_number: Vec<u32>,
     /// By the same numbers, of series that are not here, since no point of theirs was taken yet, what a point needs of them. Their
     /// texts are long: who posts such points again and again would have all others wait while they are read.
-    untaken: HashMap<u64, (Kind, u64)>,
+    untaken: HashMap<u64, Terms>,
     generation: u64,
     /// The places of series whose runs are in no commit as they are.
     changed: Vec<u32>,
@@ -57,9 +61,16 @@ pub struct State {
 /// By the digest of its key, as the outbox knows it: the text may have 48 KB, and a number has it for who shows it.
 struct Series {
     digest: Digest,
-    kind: Kind,
+    terms: Terms,
     run: Option<Arc<Run>>,
     is_changed: bool,
+}
+
+/// What decides of a series' points beside its run.
+#[derive(Clone, Copy)]
+struct Terms {
+    kind: Kind,
+    since: Since,
     /// Where the book was found to be, where that is not the run's own last time: it has delta points too.
     frontier: u64,
 }
@@ -98,9 +109,9 @@ impl Runs {
 impl State {
     /// What an outbox knows.
     pub fn of(outbox: &Outbox) -> State {
-        let mut state = State { since: outbox.since(), ..State::default() };
+        let mut state = State { since: outbox.since(), forgotten: outbox.forgotten(), ..State::default() };
         let series = |key: SeriesKey, known: files::Series| {
-            let series = Series::new(&key, key.digest(), known.frontier)?;
+            let series = state.series_of(&key, key.digest(), |_| known.frontier)?;
             Some(Series { run: known.run, ..series })
         };
         for series in outbox.with_run(series).into_iter().flatten() {
@@ -118,7 +129,7 @@ impl State {
             let series = &mut self.series[place as usize];
             let (of_run, words) = (of_run.clone(), point[3..].to_vec());
             let entry = Entry { of_run, from: point[1], time: point[2], words };
-            series.run = entry.after(series.kind, series.run.as_deref()).map(Arc::new);
+            series.run = entry.after(series.terms.kind, series.run.as_deref()).map(Arc::new);
             self.note_change(place);
         }
     }
@@ -127,7 +138,7 @@ impl State {
     fn come_to(&mut self, place: u32, point: &Run, entry: &Entry) {
         let series = &mut self.series[place as usize];
         let run = series.run.get_or_insert_with(Arc::default);
-        entry.put_after(series.kind, point, Arc::make_mut(run));
+        entry.put_after(series.terms.kind, point, Arc::make_mut(run));
         self.note_change(place);
     }
 
@@ -182,8 +193,24 @@ impl State {
             self.number(number, place);
             return Some(SeriesPlace::At(place));
         }
-        let frontier = frontier(&digest);
-        Series::new(&key, digest, frontier).map(SeriesPlace::New)
+        self.series_of(&key, digest, frontier).map(SeriesPlace::New)
+    }
+
+    /// One that is not here yet.
+    fn series_of(
+        &self,
+        key: &SeriesKey,
+        digest: Digest,
+        frontier: impl FnOnce(&Digest) -> u64,
+    ) -> Option<Series> {
+        let kind = match key.parts().ok()?.kind {
+            series::Kind::Sum => Kind::Sum,
+            series::Kind::Monotonic => Kind::Monotonic,
+            series::Kind::Histogram { .. } => Kind::Histogram,
+        };
+        let forgotten = self.since.forgotten.max(self.forgotten.of(&digest));
+        let terms = Terms { kind, since: Since { forgotten, ..self.since }, frontier: frontier(&digest) };
+        Some(Series { digest, terms, run: None, is_changed: false })
     }
 
     /// The place of what was found, from now on.
@@ -237,33 +264,21 @@ enum SeriesPlace {
     New(Series),
 }
 
-impl Series {
-    fn new(key: &SeriesKey, digest: Digest, frontier: u64) -> Option<Series> {
-        let kind = match key.parts().ok()?.kind {
-            series::Kind::Sum => Kind::Sum,
-            series::Kind::Monotonic => Kind::Monotonic,
-            series::Kind::Histogram { .. } => Kind::Histogram,
-        };
-        Some(Series { digest, kind, run: None, is_changed: false, frontier })
-    }
-}
-
-/// What a point adds to a series that has this run. Where the book has more of it than its run, up to `frontier`, that is of
-/// delta points: what begins before these end was counted by them.
+/// What a point adds to a series that has this run. Where the book has more of it than its run, up to its frontier or to the end
+/// of delta points ahead in the post, that is of delta points: what begins before these end was counted by them.
 fn added_by(
     options: Options,
-    since: Since,
-    kind: Kind,
+    terms: Terms,
     known: Option<&Run>,
-    frontier: u64,
+    deltas: u64,
     point: &Run,
 ) -> Result<Option<Entry>, Cause> {
-    let found = entry(options, since, kind, known, point)?;
+    let found = entry(options, terms.since, terms.kind, known, point)?;
     let begins = found.as_ref().map_or(u64::MAX, |entry| match (&entry.of_run, known) {
         (OfRun::Noted { start, .. }, None) => entry.from.min(*start),
         _ => entry.from,
     });
-    match begins < frontier {
+    match begins < terms.frontier.max(deltas) {
         true => Err(Cause::Mixed),
         false => Ok(found),
     }

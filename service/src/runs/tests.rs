@@ -41,7 +41,7 @@ fn a_first_point_counts_from_its_start_as_it_was_told() {
         // Its start is not known.
         (First::Auto, 200, noted(200, 200, &[7])),
         (First::Count, 99, counted(99, 99, 200, &[7])),
-        // It may be a series that was forgotten.
+        // It may have been counted before the series was forgotten.
         (First::Count, 49, noted(49, 200, &[7])),
         (First::Count, 0, noted(0, 200, &[7])),
         (First::Drop, 150, noted(150, 200, &[7])),
@@ -49,7 +49,7 @@ fn a_first_point_counts_from_its_start_as_it_was_told() {
     for (option, start, wanted) in cases {
         assert_eq!(first(option, start, 200), wanted, "{option:?} {start}");
     }
-    // Late, of a series that may have been counted and forgotten since.
+    // Late, of a series that may have been counted before it was forgotten.
     assert_eq!(first(First::Auto, 40, 50), Err(Cause::Forgotten));
     assert_eq!(first(First::Auto, 40, 51), noted(40, 51, &[7]));
 }

@@ -7,7 +7,7 @@ use super::state::Batch;
 use super::{Outbox, Series};
 use crate::files::{locked, segment, Fault};
 use crate::otlp::series::SeriesKey;
-use crate::runs::Since;
+use crate::runs::{Forgotten, Since};
 use std::collections::BTreeSet;
 use std::sync::Arc;
 
@@ -19,6 +19,7 @@ pub struct Beginning {
     pub quarantined: BTreeSet<String>,
     pub beside: BTreeSet<UnitOfMetric>,
     pub since: Since,
+    pub forgotten: Forgotten,
 }
 
 /// Requests of a group that wait, in the order of their numbers, as they are in the outbox: so each has its bytes, and its
@@ -65,7 +66,7 @@ impl Outbox {
         self.renew(|state| {
             (state.facts.next, state.facts.acknowledged) = (beginning.next, beginning.next - 1);
             (state.facts.quarantined, state.facts.since) = (beginning.quarantined, Some(beginning.since));
-            state.facts.beside = beginning.beside;
+            (state.facts.beside, state.facts.forgotten) = (beginning.beside, beginning.forgotten);
             state.adopt(beginning.series);
         })
     }

@@ -9,7 +9,7 @@ use super::table::{KnownSeries, Table};
 use super::texts::{Texts, PART};
 use super::Series;
 use crate::otlp::series::SeriesKey;
-use crate::runs::{Run, Since};
+use crate::runs::{Forgotten, Run, Since};
 use serde::{Deserialize, Deserializer, Serialize};
 use std::collections::BTreeSet;
 use std::ops::Range;
@@ -39,6 +39,8 @@ struct Content {
     runs: Vec<RunRow>,
     #[serde(default)]
     beside: BTreeSet<UnitOfMetric>,
+    #[serde(default)]
+    forgotten: Forgotten,
 }
 
 /// A part of what is written.
@@ -78,14 +80,19 @@ impl Snapshot {
             Some(RunRow::of(id, series.frontier, run))
         };
         let runs: Vec<RunRow> = (0..).zip(&self.series).filter_map(run).collect();
-        let Facts { epoch, next, acknowledged, journal, quarantined, since, beside } = &self.facts;
+        let Facts { epoch, next, acknowledged, journal, quarantined, since, beside, forgotten } = &self.facts;
         let ahead = format!(
             r#"{{"epoch":{},"next":{next},"acknowledged":{acknowledged},"journal":{journal},"quarantined":{},"series":["#,
             json(&&**epoch),
             json(quarantined)
         );
-        let behind =
-            format!(r#"],"since":{},"runs":{},"beside":{}}}"#, json(since), json(&runs), json(beside));
+        let behind = format!(
+            r#"],"since":{},"runs":{},"beside":{},"forgotten":{}}}"#,
+            json(since),
+            json(&runs),
+            json(beside),
+            json(forgotten)
+        );
         let text = |text: &[u8]| Piece::Text(text.into());
         let pieces = std::iter::once(text(ahead.as_bytes()));
         let pieces = pieces.chain(self.parts()).chain(behind.as_bytes().chunks(PIECE).map(text));
@@ -117,9 +124,9 @@ impl Snapshot {
 
     pub fn read(bytes: &[u8]) -> Option<State> {
         let content: Content = unpacked(bytes)?;
-        let Content { next, acknowledged, journal, quarantined, since, beside, .. } = content;
-        let facts =
-            Facts { epoch: content.epoch.into(), next, acknowledged, journal, quarantined, since, beside };
+        let Content { next, acknowledged, journal, quarantined, since, beside, forgotten, .. } = content;
+        let epoch = content.epoch.into();
+        let facts = Facts { epoch, next, acknowledged, journal, quarantined, since, beside, forgotten };
         let mut state = State { facts, series: content.series, ..State::default() };
         for row in content.runs {
             let series = &mut state.series.at_mut(row.0)?.series;

@@ -6,7 +6,7 @@ use super::table::{KnownSeries, Table};
 use super::{Series, Waiting};
 use crate::files::seconds;
 use crate::otlp::series::{Digest, SeriesKey};
-use crate::runs::Since;
+use crate::runs::{Forgotten, Since};
 use std::collections::{BTreeSet, HashSet, VecDeque};
 use std::sync::Arc;
 use std::time::Duration;
@@ -37,7 +37,7 @@ impl Table {
 
 impl KnownSeries {
     /// One whose owner is unknown stays: the journal may still have its owner's posts. So does one that ends ahead of the clock:
-    /// else no run that begins before that would count.
+    /// else no run of it that begins before that would count.
     fn may_be_forgotten(&self, age: Age) -> bool {
         self.series.owner.is_some()
             && self.series.seen < age.before
@@ -92,6 +92,7 @@ pub struct Facts {
     pub beside: BTreeSet<UnitOfMetric>,
     /// None until the outbox is opened.
     pub since: Option<Since>,
+    pub forgotten: Forgotten,
 }
 
 #[derive(Default)]
@@ -163,11 +164,8 @@ impl State {
     }
 
     fn forget(&mut self, ids: &[u32]) {
-        let forgotten = ids.iter().filter_map(|id| self.series.at(*id));
-        let last = forgotten.map(|known| known.series.frontier).max();
-        self.series.forget(ids);
-        let since = self.facts.since.get_or_insert_default();
-        since.forgotten = since.forgotten.max(last.unwrap_or(0));
+        let ends = self.series.forget(ids);
+        self.facts.forgotten.note(ends, self.facts.since.get_or_insert_default());
     }
 
     /// A snapshot has to follow: no record says this. What a run has come to stays, so its next point adds what is more.

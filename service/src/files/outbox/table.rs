@@ -105,14 +105,19 @@ impl Table {
         }
     }
 
-    pub fn forget(&mut self, ids: &[u32]) {
-        for id in ids {
-            if let Some(known) = self.known.get_mut(*id as usize) {
-                *known = None;
+    /// Where each of these ended.
+    pub fn forget(&mut self, ids: &[u32]) -> Vec<(Digest, u64)> {
+        let forgotten = ids.iter().filter_map(|id| Some((*id, self.known.get_mut(*id as usize)?.take()?)));
+        let ends: AHashMap<u32, u64> = forgotten.map(|(id, known)| (id, known.series.frontier)).collect();
+        let mut forgotten = Vec::with_capacity(ends.len());
+        self.ids.retain(|digest, id| match ends.get(id) {
+            None => true,
+            Some(end) => {
+                forgotten.push((*digest, *end));
+                false
             }
-        }
-        let known = &self.known;
-        self.ids.retain(|_, id| known[*id as usize].is_some());
+        });
+        forgotten
     }
 
     /// Gives them new ids, without those of what was forgotten.

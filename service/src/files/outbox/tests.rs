@@ -255,8 +255,9 @@ fn what_was_forgotten_is_known_by_when_it_ended() {
         outbox.since().made
     };
     for _ in 0..2 {
-        let wanted = Since { made, forgotten: 70 };
-        assert_eq!(open(folder.path()).since(), wanted);
+        let (outbox, wanted) = (open(folder.path()), Since { made, forgotten: 0 });
+        let ends = ["a", "b", "c"].map(|key| outbox.forgotten().of(&key_of(key).digest()));
+        assert_eq!((ends, outbox.since()), ([40, 70, 0], wanted), "by series");
     }
 }
 
@@ -296,7 +297,7 @@ fn an_outbox_of_version_1_begins_now_also_where_it_has_forgotten_series() {
         std::fs::write(segment::path(folder.path(), 1), bytes).unwrap();
         let since = open(folder.path()).since();
         assert!((1_700_000_000_000_000_000..AHEAD).contains(&since.made), "{since:?}");
-        assert_eq!(since.forgotten, end.min(since.made));
-        assert_eq!(open(folder.path()).since(), since);
+        let outbox = open(folder.path());
+        assert_eq!((outbox.since(), outbox.forgotten().of(&key_of("a").digest())), (since, end));
     }
 }

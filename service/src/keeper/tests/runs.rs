@@ -142,12 +142,13 @@ async fn a_run_whose_series_was_forgotten_counts_from_there_on() {
     assert_eq!(run.cumulative("A", &[point("m", BEGIN, BEGIN + 20, 9)]).await, Outcome::taken(0));
     assert_eq!(run.slot.metrics.noted_runs.get(), 1);
     assert_eq!(run.cumulative("A", &[point("m", BEGIN, BEGIN + 30, 11)]).await, Outcome::taken(0));
-    // Another series of that time may be one that was forgotten; one that began after it is not.
+    // Other series of that time were not forgotten.
     let others = [point("n", BEGIN + 9, BEGIN + 30, 4), point("o", BEGIN + 10, BEGIN + 30, 3)];
     assert_eq!(run.cumulative("A", &others).await, Outcome::taken(0));
+    assert_eq!(run.slot.metrics.noted_runs.get(), 1);
     run.flush().await;
     let sums = run.forwarded().await;
-    assert_eq!((sums["m"].0, sums["n"].0, sums["o"].0), (2, 0, 3));
+    assert_eq!((sums["m"].0, sums["n"].0, sums["o"].0), (2, 4, 3));
     run.end().await;
 }
 

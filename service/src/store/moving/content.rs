@@ -8,7 +8,7 @@ use crate::keeper;
 use crate::metrics::Metrics;
 use crate::otlp::series::SeriesKey;
 use crate::otlp::slot_of_series;
-use crate::runs::Since;
+use crate::runs::{Forgotten, Since};
 use crate::service::{leave_others, move_held};
 use crate::slot::Slot;
 use crate::store::postgres::PostgresStore;
@@ -31,6 +31,7 @@ pub struct Content {
     quarantined: BTreeSet<String>,
     beside: BTreeSet<UnitOfMetric>,
     since: Since,
+    forgotten: Forgotten,
 }
 
 impl From {
@@ -102,6 +103,8 @@ impl Content {
         let made = [self.since.made, since.made].into_iter().filter(|made| *made > 0);
         self.since.made = made.min().unwrap_or_default();
         self.since.forgotten = self.since.forgotten.max(since.forgotten);
+        let forgotten = from.outbox.forgotten();
+        self.forgotten.note(forgotten.each().map(|(series, end)| (*series, end)), &mut self.since);
     }
 
     pub fn moved(&self) -> Moved {
@@ -119,6 +122,7 @@ impl Content {
             quarantined: self.quarantined.clone(),
             beside: self.beside.clone(),
             since: self.since,
+            forgotten: self.forgotten.clone(),
         }
     }
 }
@@ -129,12 +133,14 @@ mod tests {
     use crate::files::Durability;
 
     fn from(number: u16, since: Since) -> From {
+        let mut forgotten = Forgotten::default();
+        forgotten.note([([7; 32], u64::from(number)), ([number as u8; 32], 5)], &mut Since::default());
         let place = tempfile::tempdir().unwrap();
         let folder = Folder::open(place.path(), Durability::Process).unwrap();
         let outbox = folder.outbox(number).unwrap();
         let (next, series, quarantined) = (1, Vec::new(), BTreeSet::new());
         let beside = [(format!("m{number}"), "ms".to_string())].into();
-        let beginning = Beginning { next, series, quarantined, beside, since };
+        let beginning = Beginning { next, series, quarantined, beside, since, forgotten };
         outbox.begin_with(beginning).unwrap();
         From { number, outbox: Arc::new(outbox), journal: None }
     }
@@ -147,7 +153,9 @@ mod tests {
         for (number, since) in [(3, since(70, 5)), (1, since(40, 9)), (2, since(900, 0)), (0, since(0, 2))] {
             content.with(from(number, since));
         }
-        assert_eq!(content.beginning(0, 1).since, since(40, 9));
+        let beginning = content.beginning(0, 1);
+        assert_eq!(beginning.since, since(40, 9));
+        assert_eq!([0, 1, 2, 3, 7, 8].map(|one| beginning.forgotten.of(&[one; 32])), [5, 5, 5, 5, 3, 0]);
     }
 
     /// Else a start behind the move would decide by them.

@@ -89,6 +89,7 @@ pub fn former(folder: &Folder, number: u16, from: &Outbox) -> Result<u64, Fault>
         quarantined: Default::default(),
         beside: Default::default(),
         since: from.since(),
+        forgotten: from.forgotten(),
     })?;
     go_on(&to, from)
 }

@@ -20,6 +20,7 @@ fn bring(from: &Outbox, to: &Outbox) {
         quarantined: from.quarantined(),
         beside: from.beside(),
         since: from.since(),
+        forgotten: from.forgotten(),
     })
     .unwrap();
     from.each_group(|waits| to.go_on_with(waits)).unwrap();
@@ -45,8 +46,8 @@ async fn an_outbox_that_goes_on_from_another_has_its_requests_and_what_it_knows(
         kill(to);
         let to = open_on(&Disk::default(), &other, "g", longest).unwrap();
         assert_eq!(
-            (to.series(), to.quarantined(), to.beside(), to.since()),
-            (from.series(), from.quarantined(), from.beside(), from.since())
+            (to.series(), to.quarantined(), to.beside(), to.since(), to.forgotten()),
+            (from.series(), from.quarantined(), from.beside(), from.since(), from.forgotten())
         );
         to.commit(&[body(&[("a", 11)], "5")], 2).unwrap();
         from.commit(&[body(&[("a", 11)], "5")], 5).unwrap();
