@@ -1,10 +1,10 @@
 //! The points that the book is asked to take of a post.
 
-use super::{added_by, Entry, Kind, Locked, Names, Points, Run, Runs, SeriesPlace};
+use super::{added_by, EndedRun, Entry, Kind, Locked, Names, Point, Points, Run, Runs, SeriesPlace};
 use crate::core;
 use crate::files::OfRun;
 use crate::otlp::series::Digest;
-use crate::otlp::{Cause, Causes};
+use crate::otlp::Causes;
 use std::collections::HashMap;
 use std::sync::Arc;
 
@@ -21,14 +21,14 @@ pub struct Draft<'r> {
     /// First points from which alone their series count, what these have from before is left out: each by the number of its
     /// series, and its first word.
     pub noted: Vec<(u64, u64)>,
-    /// Points that add nothing, since they are no later than their runs: each by its place in the post, and its series.
+    /// Points that add nothing, since they are counted already: each by its place in the post, and its series.
     pub late: Vec<(u32, Digest)>,
-    /// Of the series of each point that was made, in their order, how many words its run had; none where there was none.
+    /// Of the series of each point that was made, in their order, how many numbers its run was; none where there was none.
     before: Vec<(u32, Option<usize>)>,
-    /// The start, the time and the words of these.
+    /// These runs, in numbers.
     was: Vec<u64>,
-    /// Of a point under way: so that its words find their room again.
-    run: Run,
+    /// One under way: so that its words find their room again.
+    point: Point,
     /// How many series were known.
     first_new: usize,
     is_kept: bool,
@@ -38,17 +38,6 @@ pub struct Draft<'r> {
     places: Vec<u32>,
     /// Of the delta points so far: by the number of their series where the last one ends.
     deltas: HashMap<u64, u64>,
-    ended: Ended,
-}
-
-/// Where runs ended ahead of a post that has gone on with them. It is looked up only for points that are late.
-#[derive(Default)]
-struct Ended {
-    /// By the place of the series.
-    times: HashMap<u32, u64>,
-    /// How much of `before` and of `was` is here.
-    seen: usize,
-    seen_words: usize,
 }
 
 /// Points some of which are cumulative, by their places.
@@ -77,11 +66,10 @@ impl Runs {
             late: Vec::new(),
             before: Vec::with_capacity(cumulative),
             was: Vec::new(),
-            run: Run::default(),
+            point: Point::default(),
             made: Vec::with_capacity(cumulative),
             places: Vec::with_capacity(points.count()),
             deltas: HashMap::new(),
-            ended: Ended::default(),
         };
         let mut cumulative = posted.cumulative.iter().copied().peekable();
         for (place, point) in (0..).zip(points.each()) {
@@ -103,27 +91,27 @@ impl Draft<'_> {
         *end = point[2].max(*end);
     }
 
-    fn add(&mut self, names: &Names, (place, point): (u32, &[u64]), frontier: impl Fn(&Digest) -> u64) {
-        let mut run = std::mem::take(&mut self.run);
-        run.set(point[1], point[2], &point[3..]);
-        self.add_run(names, (place, point[0], &run), frontier);
-        self.run = run;
+    fn add(&mut self, names: &Names, (place, words): (u32, &[u64]), frontier: impl Fn(&Digest) -> u64) {
+        let mut point = std::mem::take(&mut self.point);
+        point.set(words[1], words[2], &words[3..]);
+        self.add_point(names, (place, words[0], &point), frontier);
+        self.point = point;
     }
 
-    fn add_run(
+    fn add_point(
         &mut self,
         names: &Names,
-        (place, number, run): (u32, u64, &Run),
+        (place, number, point): (u32, u64, &Point),
         frontier: impl Fn(&Digest) -> u64,
     ) {
         let options = self.of.options();
         let deltas = self.deltas.get(&number).copied().unwrap_or(0);
         if let Some(terms) = self.runs.untaken.get(&number).copied() {
-            if !run.is_sound(terms.kind) {
+            if !point.is_sound(terms.kind) {
                 self.unsound.push(place);
                 return;
             }
-            if let Err(refused) = added_by(options, terms, None, deltas, run) {
+            if let Err(refused) = added_by(options, terms, None, deltas, point) {
                 return self.turned.add(refused, 1);
             }
         }
@@ -138,50 +126,18 @@ impl Draft<'_> {
             SeriesPlace::At(place) => &self.runs.series[*place as usize],
             SeriesPlace::New(series) => series,
         };
-        if !run.is_sound(series.terms.kind) {
+        if !point.is_sound(series.terms.kind) {
             self.unsound.push(place);
             return;
         }
-        match added_by(options, series.terms, series.run.as_deref(), deltas, run) {
-            Ok(None) => {
-                let digest = series.digest;
-                match self.is_of_another(&found, run) {
-                    true => self.turned.add(Cause::EarlierRun, 1),
-                    false => self.late.push((place, digest)),
-                }
-            }
-            Ok(Some(entry)) => self.take(found, number, entry, run),
+        match added_by(options, series.terms, series.run.as_deref(), deltas, point) {
+            Ok(None) => self.late.push((place, series.digest)),
+            Ok(Some(entry)) => self.take(found, number, entry, point),
             Err(refused) => self.turned.add(refused, 1),
         }
     }
 
-    /// Whether a point that is late is so by this post alone, and says what the one before does not: it is no repeat, and
-    /// what it counts is nowhere. Two processes, or two instruments, have one series.
-    fn is_of_another(&mut self, found: &SeriesPlace, point: &Run) -> bool {
-        let SeriesPlace::At(place) = found else {
-            return false;
-        };
-        if self.ended_before(*place).is_none_or(|ended| ended >= point.time) {
-            return false;
-        }
-        let run = self.runs.series[*place as usize].run.as_ref();
-        run.is_some_and(|run| {
-            run.start != point.start || run.time == point.time && !counts_alike(&run.words, &point.words)
-        })
-    }
-
-    /// Where the run of a series ended ahead of this post, 0 where there was none; none where this post has not gone on with it.
-    fn ended_before(&mut self, place: u32) -> Option<u64> {
-        while let Some((place, words)) = self.before.get(self.ended.seen) {
-            let time = words.map_or(0, |_| self.was[self.ended.seen_words + 1]);
-            self.ended.times.entry(*place).or_insert(time);
-            self.ended.seen += 1;
-            self.ended.seen_words += words.map_or(0, |words| words + 2);
-        }
-        self.ended.times.get(&place).copied()
-    }
-
-    fn take(&mut self, found: SeriesPlace, number: u64, entry: Entry, run: &Run) {
+    fn take(&mut self, found: SeriesPlace, number: u64, entry: Entry, point: &Point) {
         if let SeriesPlace::New(_) = &found {
             self.runs.untaken.remove(&number);
         }
@@ -190,13 +146,10 @@ impl Draft<'_> {
         if let OfRun::Noted { words, .. } = &entry.of_run {
             self.noted.push((number, words[0]));
         }
-        if let Some(run) = &series.run {
-            self.was.extend([run.start, run.time]);
-            self.was.extend_from_slice(&run.words);
-        }
-        let words = series.run.as_ref().map(|run| run.words.len());
-        self.before.push((place, words));
-        self.runs.come_to(place, run, &entry);
+        let was = self.was.len();
+        let run = series.run.as_ref().inspect(|run| run.put_in_numbers(&mut self.was));
+        self.before.push((place, run.map(|_| self.was.len() - was)));
+        self.runs.come_to(place, point, &entry);
         let at = self.points.count() as u32;
         self.made.push((at, place));
         self.points.push(number, entry.from, entry.time, entry.words);
@@ -249,12 +202,12 @@ impl Drop for Draft<'_> {
         if self.is_kept {
             return;
         }
-        for (place, words) in std::mem::take(&mut self.before).into_iter().rev() {
+        for (place, numbers) in std::mem::take(&mut self.before).into_iter().rev() {
             let run = &mut self.runs.series[place as usize].run;
-            match (words, run) {
-                (Some(words), Some(run)) => {
-                    let was = self.was.split_off(self.was.len() - words - 2);
-                    Arc::make_mut(run).set(was[0], was[1], &was[2..]);
+            match (numbers, run) {
+                (Some(numbers), Some(run)) => {
+                    let was = self.was.split_off(self.was.len() - numbers);
+                    Arc::make_mut(run).set_to_numbers(&was);
                 }
                 (_, run) => *run = None,
             }
@@ -264,17 +217,23 @@ impl Drop for Draft<'_> {
     }
 }
 
-/// Of a histogram without its sum, which its run may have lost.
-fn counts_alike(one: &[u64], other: &[u64]) -> bool {
-    match (one, other) {
-        ([count, _, _, buckets @ ..], [other_count, _, _, others @ ..]) => {
-            count == other_count && buckets == others
+impl Run {
+    fn put_in_numbers(&self, numbers: &mut Vec<u64>) {
+        let Run { last, interval, before } = self;
+        numbers.extend([*interval, before.start, before.time, last.start, last.time]);
+        numbers.extend_from_slice(&last.words);
+    }
+
+    fn set_to_numbers(&mut self, numbers: &[u64]) {
+        if let [interval, before_start, before_time, start, time, words @ ..] = numbers {
+            self.interval = *interval;
+            self.before = EndedRun { start: *before_start, time: *before_time };
+            self.last.set(*start, *time, words);
         }
-        _ => one == other,
     }
 }
 
-impl Run {
+impl Point {
     fn set(&mut self, start: u64, time: u64, words: &[u64]) {
         (self.start, self.time) = (start, time);
         self.words.clear();

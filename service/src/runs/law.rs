@@ -1,22 +1,45 @@
 //! What becomes of a cumulative point: the cases of the law of runs, one by one.
 //!
 //! A *run* is what a series counts from one start on. Of each series the last point that was taken is kept: so what its next
-//! point adds is the difference, or, of a run that began later, all of it.
+//! point adds is the difference, or, of a run that began later, all of it. Points of other runs are refused by name, so that
+//! nothing is lost in silence, until the known one has ended by its silence: then another is noted, and goes on from there. So
+//! nothing counts twice, also if a sender says another start of the same run.
 
 use crate::files::OfRun;
 use crate::otlp::Cause;
 use serde::{Deserialize, Serialize};
 
-/// The last point that was taken of a series.
-#[derive(Clone, Debug, Default, PartialEq, Eq, Serialize, Deserialize)]
-pub struct Run {
-    /// Of the run; 0 where it is not known.
+/// A cumulative point of a series.
+#[derive(Clone, Debug, Default, PartialEq, Eq)]
+pub struct Point {
+    /// Of its run; 0 if it is not known.
     pub start: u64,
-    /// Of the point.
     pub time: u64,
     /// A sum's value, or a histogram's count, whether it has a sum, the sum, and its buckets.
     pub words: Vec<u64>,
 }
+
+/// What is kept of a series.
+#[derive(Clone, Debug, Default, PartialEq, Eq)]
+pub struct Run {
+    /// The last point that was taken.
+    pub last: Point,
+    /// The time between its last two points, but at least half of what it was before; 0 if it is not known. So a post out of
+    /// turn makes no run look fast, and a long silence is soon forgotten.
+    pub interval: u64,
+    pub before: EndedRun,
+}
+
+/// The run before, of which a repeat may still come. Zeros if there was none.
+#[derive(Clone, Copy, Debug, Default, PartialEq, Eq, Serialize, Deserialize)]
+pub struct EndedRun {
+    pub start: u64,
+    /// Of its last point.
+    pub time: u64,
+}
+
+/// A run that has been silent for so many of its intervals has ended.
+const SILENT_INTERVALS: u64 = 3;
 
 /// What a point adds over (from, time], which the book gets, and what it says of its run: that goes on, with what it has more;
 /// or it began after the time before, or anew, with all of it; or only from here on it counts.
@@ -94,51 +117,87 @@ impl Since {
     }
 }
 
-/// What a sound point adds to a series of which `known` was taken last: nothing of one that is no later than that. Or why it is
-/// not taken.
+impl Run {
+    /// Whether what the point says is counted already, as that of a repeat is.
+    fn has_counted(&self, point: &Point) -> bool {
+        let Run { last, before, .. } = self;
+        let is_of_last = point.start == last.start
+            && (point.time < last.time || point.time == last.time && counts_alike(&point.words, &last.words));
+        is_of_last || point.start == before.start && point.time <= before.time
+    }
+
+    /// Whether it has been silent for so long, at a later point of another run, that it has ended.
+    fn has_ended_at(&self, time: u64) -> bool {
+        self.interval > 0 && (time - self.last.time) / SILENT_INTERVALS >= self.interval
+    }
+}
+
+/// Of a histogram without its sum, which its run may have lost.
+fn counts_alike(one: &[u64], other: &[u64]) -> bool {
+    match (one, other) {
+        ([count, _, _, buckets @ ..], [other_count, _, _, others @ ..]) => {
+            count == other_count && buckets == others
+        }
+        _ => one == other,
+    }
+}
+
+/// What a sound point adds to a series of which this run is known: nothing if it is counted already. Or why it is not taken.
 pub fn entry(
     options: Options,
     since: Since,
     kind: Kind,
     known: Option<&Run>,
-    point: &Run,
+    point: &Point,
 ) -> Result<Option<Entry>, Cause> {
     let Some(known) = known else {
-        if point.time <= since.forgotten {
-            // From before the series was forgotten: it may have been counted.
-            return Err(Cause::Forgotten);
-        }
-        return Ok(Some(match since.counts(options.first, point.start) && !is_instant(point) {
-            true => counted(point, point.start),
-            false => noted(point),
-        }));
+        return first(options, since, point).map(Some);
     };
-    if point.time <= known.time {
+    let last = &known.last;
+    if known.has_counted(point) {
         return Ok(None);
     }
-    if point.start == known.start {
-        return of_run(options, kind, known, point).map(Some);
+    if point.time <= last.time {
+        return Err(Cause::EarlierRun);
     }
-    match (point.start >= known.time, is_instant(point)) {
-        (false, _) => Err(Cause::EarlierRun),
-        (true, true) => Ok(Some(noted(point))),
-        (true, false) => Ok(Some(counted(point, point.start))),
+    if point.start == last.start {
+        return of_run(options, kind, last, point).map(Some);
     }
+    if point.start >= last.time {
+        return Ok(Some(if is_instant(point) { noted(point) } else { counted(point, point.start) }));
+    }
+    // Runs overlap, as those of a process and of the one in its place.
+    match known.has_ended_at(point.time) {
+        true => Ok(Some(noted(point))),
+        false => Err(Cause::EarlierRun),
+    }
+}
+
+/// The first point of a series.
+fn first(options: Options, since: Since, point: &Point) -> Result<Entry, Cause> {
+    if point.time <= since.forgotten {
+        // From before the series was forgotten: it may have been counted.
+        return Err(Cause::Forgotten);
+    }
+    Ok(match since.counts(options.first, point.start) && !is_instant(point) {
+        true => counted(point, point.start),
+        false => noted(point),
+    })
 }
 
 /// A point that begins where it ends is the first of a run that began before at a time that nobody knows (OTLP's data model,
 /// "unknown start time"). It says where the run is, and adds nothing.
-fn is_instant(point: &Run) -> bool {
+fn is_instant(point: &Point) -> bool {
     point.start == point.time
 }
 
-fn counted(point: &Run, from: u64) -> Entry {
+fn counted(point: &Point, from: u64) -> Entry {
     let (of_run, words) = (OfRun::Began(point.start), point.words.clone());
     Entry { of_run, from, time: point.time, words }
 }
 
 /// The book gets a zero, by which the series is its sender's.
-fn noted(point: &Run) -> Entry {
+fn noted(point: &Point) -> Entry {
     let mut zeros = vec![0; point.words.len()];
     if let [_, has_sum, _, ..] = &mut zeros[..] {
         *has_sum = point.words[1];
@@ -149,16 +208,16 @@ fn noted(point: &Run) -> Entry {
 }
 
 /// A later point of the same start.
-fn of_run(options: Options, kind: Kind, known: &Run, point: &Run) -> Result<Entry, Cause> {
-    if kind != Kind::Sum && goes_down(&known.words, &point.words) {
+fn of_run(options: Options, kind: Kind, last: &Point, point: &Point) -> Result<Entry, Cause> {
+    if kind != Kind::Sum && goes_down(&last.words, &point.words) {
         // Without a start nothing else could say that a run began anew.
         return match options.reset == Reset::Count || point.start == 0 {
-            true => Ok(counted(point, known.time)),
+            true => Ok(counted(point, last.time)),
             false => Err(Cause::WentDown),
         };
     }
-    let words = difference(kind, &known.words, &point.words).ok_or(Cause::Leap)?;
-    Ok(Entry { of_run: OfRun::More, from: known.time, time: point.time, words })
+    let words = difference(kind, &last.words, &point.words).ok_or(Cause::Leap)?;
+    Ok(Entry { of_run: OfRun::More, from: last.time, time: point.time, words })
 }
 
 /// Of what only goes up. A histogram's sum counts where both have one.
@@ -207,26 +266,46 @@ fn sum(kind: Kind, before: &[u64], added: &[u64]) -> Vec<u64> {
 }
 
 impl Entry {
-    /// What is kept of a series behind this. An entry that is in it already changes nothing, so that a start may find both.
+    /// What is kept of a series after this. An entry that is in it already changes nothing, so that a start may find both.
     pub fn after(&self, kind: Kind, known: Option<&Run>) -> Option<Run> {
-        if known.is_some_and(|known| known.time >= self.time) {
+        if known.is_some_and(|known| known.last.time >= self.time) {
             return known.cloned();
         }
         let (start, words) = match &self.of_run {
             OfRun::Noted { start, words } => (*start, words.clone()),
             OfRun::Began(start) => (*start, self.words.clone()),
-            OfRun::More => (known?.start, sum(kind, &known?.words, &self.words)),
+            OfRun::More => (known?.last.start, sum(kind, &known?.last.words, &self.words)),
         };
-        Some(Run { start, time: self.time, words })
+        let mut run = known.cloned().unwrap_or_default();
+        self.note_times(start, &mut run);
+        run.last = Point { start, time: self.time, words };
+        Some(run)
     }
 
     /// The same, in the place of a run, of the point that it was made of: without adding up what comes to that again.
-    pub fn put_after(&self, kind: Kind, point: &Run, run: &mut Run) {
-        (run.start, run.time) = (point.start, point.time);
-        run.words.clone_from(&point.words);
-        if let (Kind::Histogram, OfRun::More, [_, has, sum, ..]) = (kind, &self.of_run, &mut run.words[..]) {
+    pub fn put_after(&self, kind: Kind, point: &Point, run: &mut Run) {
+        self.note_times(point.start, run);
+        (run.last.start, run.last.time) = (point.start, point.time);
+        run.last.words.clone_from(&point.words);
+        if let (Kind::Histogram, OfRun::More, [_, has, sum, ..]) =
+            (kind, &self.of_run, &mut run.last.words[..])
+        {
             *has = self.words[1];
             *sum *= *has;
+        }
+    }
+
+    /// What a run knows of time, ahead of its last point.
+    fn note_times(&self, start: u64, run: &mut Run) {
+        let span = self.time - self.from;
+        run.interval = match self.of_run {
+            OfRun::More => span.max(run.interval / 2),
+            OfRun::Began(_) => span,
+            OfRun::Noted { start: 0, .. } => 0,
+            OfRun::Noted { start, .. } => self.time - start,
+        };
+        if run.last.start != start {
+            run.before = EndedRun { start: run.last.start, time: run.last.time };
         }
     }
 }

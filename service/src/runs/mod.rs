@@ -1,9 +1,11 @@
 //! Cumulative points become deltas before they reach the book: what a series' run has come to since its last point.
 //!
-//! `law` is what becomes of a point, case by case, as `crates/service_law` has it; `draft` makes the points that the book is
-//! asked to take of a post; `forgotten` is where series ended that are not known any more. Of each series the last point that
-//! was taken is kept here, under a lock of its own: it is taken before the book's, and held until the journal has the post. So
-//! a refused post changes nothing, and posts that have no cumulative point never wait for it.
+//! `law` is what becomes of a point, case by case; `draft` makes the points that the book is asked to take of a post; `forgotten`
+//! is where series ended that are not known any more. Of each series the last point that was taken is kept here, under a lock
+//! of its own: it is taken before the book's, and held until the journal has the post. So a refused post changes nothing, and
+//! posts that have no cumulative point never wait for it.
+//!
+//! `crates/service_law` has the same cases, but that a run may end by its silence.
 //!
 //! It lasts as a frontier does. The journal has what was added, and what a run that is new or only noted is; a commit has the
 //! run of each series of its group as it was at the turn, and so has the snapshot. A start puts the journal's on top, each
@@ -15,7 +17,7 @@ mod law;
 
 pub use draft::{Draft, Posted};
 pub use forgotten::Forgotten;
-pub use law::{Entry, First, Kind, Options, Reset, Run, Since};
+pub use law::{EndedRun, Entry, First, Kind, Options, Point, Reset, Run, Since};
 
 use crate::core::Names;
 use crate::files::{self, OfRun, Outbox, Points};
@@ -135,7 +137,7 @@ impl State {
     }
 
     /// Has a series' run come to a point. Who has the run as it was keeps it so.
-    fn come_to(&mut self, place: u32, point: &Run, entry: &Entry) {
+    fn come_to(&mut self, place: u32, point: &Point, entry: &Entry) {
         let series = &mut self.series[place as usize];
         let run = series.run.get_or_insert_with(Arc::default);
         entry.put_after(series.terms.kind, point, Arc::make_mut(run));
@@ -271,7 +273,7 @@ fn added_by(
     terms: Terms,
     known: Option<&Run>,
     deltas: u64,
-    point: &Run,
+    point: &Point,
 ) -> Result<Option<Entry>, Cause> {
     let found = entry(options, terms.since, terms.kind, known, point)?;
     let begins = found.as_ref().map_or(u64::MAX, |entry| match (&entry.of_run, known) {

@@ -1,12 +1,19 @@
 //! Each case of the law, and any points of runs beside a plain count.
 
+mod draft;
+
 use super::law::entry;
 use super::*;
 use crate::files::test_random::TestRandom;
 
-fn run(start: u64, time: u64, words: &[u64]) -> Run {
+fn point(start: u64, time: u64, words: &[u64]) -> Point {
     let words = words.to_vec();
-    Run { start, time, words }
+    Point { start, time, words }
+}
+
+/// One that had a point each ten.
+fn run(start: u64, time: u64, words: &[u64]) -> Run {
+    Run { last: point(start, time, words), interval: 10, before: EndedRun { start: 90, time: 105 } }
 }
 
 fn more(from: u64, time: u64, words: &[u64]) -> Result<Option<Entry>, Cause> {
@@ -32,7 +39,7 @@ fn options(first: First, reset: Reset) -> Options {
 fn a_first_point_counts_from_its_start_as_it_was_told() {
     let first = |first, start, time| {
         let options = options(first, Reset::Refuse);
-        entry(options, SINCE, Kind::Monotonic, None, &run(start, time, &[7]))
+        entry(options, SINCE, Kind::Monotonic, None, &point(start, time, &[7]))
     };
     let cases = [
         (First::Auto, 100, counted(100, 100, 200, &[7])),
@@ -59,7 +66,7 @@ fn a_later_point_adds_what_its_run_has_more_or_all_of_a_new_run() {
     let known = run(110, 200, &[7]);
     let next = |reset, kind, start, time, value: i64| {
         let options = options(First::Auto, reset);
-        entry(options, SINCE, kind, Some(&known), &run(start, time, &[value as u64]))
+        entry(options, SINCE, kind, Some(&known), &point(start, time, &[value as u64]))
     };
     let refuse = |start, time, value| next(Reset::Refuse, Kind::Monotonic, start, time, value);
     assert_eq!(refuse(110, 210, 9), more(200, 210, &[2]));
@@ -71,9 +78,13 @@ fn a_later_point_adds_what_its_run_has_more_or_all_of_a_new_run() {
     for start in [0, 109, 111, 199] {
         assert_eq!(refuse(start, 210, 9), Err(Cause::EarlierRun), "{start}");
     }
-    // The same point again, an older one, whatever it says.
-    for (start, time) in [(110, 200), (110, 199), (150, 200), (0, 1)] {
-        assert_eq!(refuse(start, time, 9), Ok(None), "{start} {time}");
+    // The same point again; an older one, also of the run before, whatever it says.
+    for (start, time, value) in [(110, 200, 7), (110, 199, 9), (90, 105, 9), (90, 95, 9)] {
+        assert_eq!(refuse(start, time, value), Ok(None), "{start} {time}");
+    }
+    // These say what nobody has counted.
+    for (start, time, value) in [(110, 200, 9), (150, 200, 7), (0, 1, 9), (90, 106, 9)] {
+        assert_eq!(refuse(start, time, value), Err(Cause::EarlierRun), "{start} {time}");
     }
     assert_eq!(refuse(110, 210, 6), Err(Cause::WentDown));
     let reset = next(Reset::Count, Kind::Monotonic, 110, 210, 6);
@@ -90,7 +101,7 @@ fn a_later_point_adds_what_its_run_has_more_or_all_of_a_new_run() {
 fn without_a_start_a_word_that_goes_down_begins_the_run_anew() {
     let known = run(0, 200, &[7]);
     let next =
-        |value| entry(Options::default(), SINCE, Kind::Monotonic, Some(&known), &run(0, 210, &[value]));
+        |value| entry(Options::default(), SINCE, Kind::Monotonic, Some(&known), &point(0, 210, &[value]));
     assert_eq!(next(9), more(200, 210, &[2]));
     assert_eq!(next(6), counted(0, 200, 210, &[6]));
 }
@@ -99,9 +110,9 @@ fn without_a_start_a_word_that_goes_down_begins_the_run_anew() {
 fn a_histogram_has_a_sum_more_where_both_points_have_one() {
     let next = |before: &[u64], now: &[u64]| {
         let known = run(110, 200, before);
-        let entry = entry(Options::default(), SINCE, Kind::Histogram, Some(&known), &run(110, 210, now));
+        let entry = entry(Options::default(), SINCE, Kind::Histogram, Some(&known), &point(110, 210, now));
         let after = entry.clone().ok().flatten().and_then(|entry| entry.after(Kind::Histogram, Some(&known)));
-        (entry, after.map(|run| run.words))
+        (entry, after.map(|run| run.last.words))
     };
     let both = next(&[3, 1, 30, 1, 2], &[5, 1, 70, 2, 3]);
     assert_eq!(both, (more(200, 210, &[2, 1, 40, 1, 1]), Some(vec![5, 1, 70, 2, 3])));
@@ -115,21 +126,82 @@ fn a_histogram_has_a_sum_more_where_both_points_have_one() {
     }
 }
 
+/// Nothing says that what it has counted was not counted before.
+#[test]
+fn a_run_is_noted_that_overlaps_one_which_was_silent_for_three_intervals() {
+    let known = run(110, 200, &[7]);
+    let next = |first, known: &Run, start, time| {
+        let options = options(first, Reset::Refuse);
+        entry(options, SINCE, Kind::Monotonic, Some(known), &point(start, time, &[9]))
+    };
+    for (first, start) in [(First::Auto, 150), (First::Drop, 199), (First::Count, 109), (First::Auto, 0)] {
+        for time in [201, 229] {
+            assert_eq!(next(first, &known, start, time), Err(Cause::EarlierRun), "{start} {time}");
+        }
+        assert_eq!(next(first, &known, start, 230), noted(start, 230, &[9]));
+    }
+    // One that begins behind it counts at once.
+    assert_eq!(next(First::Auto, &known, 200, 201), counted(200, 200, 201, &[9]));
+    // Nobody knows how often it has a point.
+    let unknown = Run { interval: 0, ..known };
+    assert_eq!(next(First::Auto, &unknown, 150, 9_000), Err(Cause::EarlierRun));
+}
+
+/// Also where a start reads it again.
+#[test]
+fn an_interval_is_at_least_half_of_the_one_before() {
+    let intervals = |points: &[(u64, u64)]| -> Vec<u64> {
+        let mut run = None;
+        let next = |(start, time): &(u64, u64)| {
+            let point = point(*start, *time, &[*time]);
+            let entry = entry(Options::default(), SINCE, Kind::Monotonic, run.as_ref(), &point).unwrap();
+            let entry = entry.expect("it is later");
+            let mut put = run.clone().unwrap_or_default();
+            entry.put_after(Kind::Monotonic, &point, &mut put);
+            run = entry.after(Kind::Monotonic, run.as_ref());
+            assert_eq!(run.as_ref(), Some(&put));
+            put.interval
+        };
+        points.iter().map(next).collect()
+    };
+    assert_eq!(
+        intervals(&[(100, 160), (100, 220), (100, 225), (100, 230), (100, 300)]),
+        [60, 60, 30, 15, 70]
+    );
+    // A new run has its own. Of one that is only noted it may be as long as that is old, or is not known.
+    assert_eq!(intervals(&[(100, 900), (900, 910), (910, 925)]), [800, 10, 15]);
+    assert_eq!(intervals(&[(60, 160), (60, 170), (60, 180)]), [100, 50, 25]);
+    assert_eq!(intervals(&[(0, 160), (0, 170)]), [0, 10]);
+    assert_eq!(intervals(&[(160, 160), (160, 190)]), [0, 30]);
+    assert_eq!(intervals(&[(100, 160), (150, 340), (150, 350)]), [60, 190, 95]);
+}
+
 /// What is counted of points, without a thought for deltas: of each run the last value.
 #[derive(Default)]
 struct Plain {
     last: Option<(u64, u64)>,
+    interval: u64,
     runs: Vec<i128>,
+    /// What runs had that were only noted.
+    left_out: i128,
 }
 
 impl Plain {
     fn take(&mut self, start: u64, time: u64, value: i64) {
-        match self.last {
+        let silence = |last| time - last;
+        self.interval = match self.last {
             Some((_, last)) if time <= last => return,
-            Some((run, last)) if start != run && start < last => return,
-            Some((run, _)) if run == start => drop(self.runs.pop()),
-            _ => {}
-        }
+            Some((run, last)) if run == start => {
+                self.runs.pop();
+                silence(last).max(self.interval / 2)
+            }
+            Some((_, last)) if start < last && silence(last) < 3 * self.interval => return,
+            Some((_, last)) if start < last => {
+                self.left_out += i128::from(value);
+                time - start
+            }
+            _ => time - start,
+        };
         self.runs.push(value.into());
         self.last = Some((start, time));
     }
@@ -150,7 +222,7 @@ fn what_was_added_is_the_sum_of_the_last_values_of_the_runs() {
                     _ => time + 1 + chance.below(10),
                 };
                 if chance.below(8) == 0 {
-                    (start, value) = (time - chance.below(2), 0);
+                    (start, value) = (time - [0, 1, 15][chance.below(3) as usize], 0);
                     time += 1;
                 }
                 value += chance.below(9) as i64 - if kind == Kind::Sum { 4 } else { 0 };
@@ -160,7 +232,7 @@ fn what_was_added_is_the_sum_of_the_last_values_of_the_runs() {
                     1 => sent[chance.below(sent.len() as u64) as usize],
                     _ => (start, time, value),
                 };
-                let point = run(start, time, &[value as u64]);
+                let point = point(start, time, &[value as u64]);
                 let Ok(entry) = entry(
                     options(First::Count, Reset::Refuse),
                     Since::default(),
@@ -177,156 +249,12 @@ fn what_was_added_is_the_sum_of_the_last_values_of_the_runs() {
                 let mut put = kept.clone().unwrap_or_default();
                 entry.put_after(kind, &point, &mut put);
                 kept = entry.after(kind, kept.as_ref());
-                assert_eq!((kept.as_ref(), &put), (Some(&point), &point));
+                assert_eq!(kept.as_ref(), Some(&put));
+                assert_eq!(put.last, point);
             }
-            assert_eq!(added, plain.runs.iter().sum(), "{sent:?}");
+            assert_eq!(added, plain.runs.iter().sum::<i128>() - plain.left_out, "{sent:?}");
         }
     }
-}
-
-/// The number of a series.
-fn number(names: &Names, name: &str) -> u64 {
-    let sum = r#""aggregationTemporality":1,"isMonotonic":true,"dataPoints":[{"startTimeUnixNano":"1","timeUnixNano":"2","asInt":"0"}]"#;
-    let text = format!(
-        r#"{{"resourceMetrics":[{{"scopeMetrics":[{{"metrics":[{{"name":"{name}","sum":{{{sum}}}}}]}}]}}]}}"#
-    );
-    names.learn(text.into()).unwrap()
-}
-
-/// Who reads the post for a place does not count what is not sound.
-#[test]
-fn a_place_is_told_among_the_points_of_the_profile() {
-    let names = Names::new().unwrap();
-    let mut points = Points::default();
-    for (name, value) in [("a", -5i64), ("b", 5), ("c", -7), ("d", 7)] {
-        points.push(number(&names, name), 10, 20, [value as u64]);
-    }
-    let runs = Runs::default();
-    let posted = Posted { points: &points, cumulative: &[0, 1, 2, 3], names: &names };
-    let draft = runs.draft(posted, |_| 0);
-    assert_eq!((draft.foreign(), draft.points.count()), (2, 2));
-    // Of the request the first point is off by its clock.
-    let among_all = |place| place + 1;
-    for point in [0, 1] {
-        let refused = draft.refused(crate::core::Refused::OtherWriter { point }, among_all);
-        assert_eq!(refused, crate::core::Refused::OtherWriter { point: point + 1 });
-    }
-}
-
-/// Its text is long, and a post may have very many points of it that are not taken.
-#[test]
-fn a_series_is_looked_up_once_however_many_of_its_points_are_not_taken() {
-    let names = Names::new().unwrap();
-    let number = number(&names, "a");
-    let mut points = Points::default();
-    for _ in 0..50 {
-        points.push(number, 10, 20, [-5i64 as u64]); // it is not sound
-    }
-    for _ in 0..50 {
-        points.push(number, 10, 20, [5]); // delta points have its span
-    }
-    points.push(number, 60, 70, [5]);
-    points.push(number, 60, 80, [7]);
-    let cumulative: Vec<u32> = (0..points.count() as u32).collect();
-    let posted = Posted { points: &points, cumulative: &cumulative, names: &names };
-    let (runs, asked) = (Runs::default(), std::cell::Cell::new(0));
-    let drafted = |posted| {
-        asked.set(0);
-        runs.draft(posted, |_| {
-            asked.set(asked.get() + 1);
-            50
-        })
-    };
-    let draft = drafted(posted);
-    assert_eq!((draft.foreign(), draft.turned.count(), draft.points.count()), (50, 50, 2));
-    assert_eq!(draft.turned, [(Cause::Mixed, 50)].into_iter().collect());
-    assert_eq!(asked.get(), 2, "until one is taken, and then");
-    drop(draft);
-    // And for the posts after it not again.
-    let untaken = Posted { points: &points_before(&points, 100), cumulative: &cumulative[..100], ..posted };
-    for wanted in [1, 0, 0] {
-        let draft = drafted(untaken);
-        assert_eq!((draft.foreign(), draft.turned.count(), draft.points.count()), (50, 50, 0));
-        assert_eq!(asked.get(), wanted);
-    }
-}
-
-fn points_before(points: &Points, place: usize) -> Points {
-    let mut before = Points::default();
-    points.each().take(place).for_each(|point| before.push_words(point[0], &point[1..]));
-    before
-}
-
-/// Else what one of two processes, or of two instruments of a name, has counted would be lost, and nobody told.
-#[test]
-fn of_two_points_over_one_time_in_a_post_the_second_is_refused_by_name() {
-    let (names, runs) = (Names::new().unwrap(), Runs::default());
-    let number = number(&names, "a");
-    // How many points of a post add nothing, and how many are refused.
-    let taken = |said: &[(u64, u64, u64)]| {
-        let mut points = Points::default();
-        said.iter().for_each(|(start, time, value)| points.push(number, *start, *time, [*value]));
-        let cumulative: Vec<u32> = (0..points.count() as u32).collect();
-        let posted = Posted { points: &points, cumulative: &cumulative, names: &names };
-        let draft = runs.draft(posted, |_| 0);
-        let (late, refused) = (draft.late.len(), draft.turned.count());
-        assert!(draft.turned.iter().all(|(cause, _)| cause == Cause::EarlierRun));
-        draft.keep();
-        (late, refused)
-    };
-    assert_eq!(taken(&[(10, 20, 5)]), (0, 0));
-    assert_eq!(taken(&[(10, 30, 9), (10, 30, 9)]), (1, 0), "twice the same");
-    assert_eq!(taken(&[(10, 40, 11), (10, 40, 3)]), (0, 1), "of one start and time, and another value");
-    assert_eq!(taken(&[(10, 50, 13), (12, 45, 4), (12, 50, 4)]), (0, 2), "of another start");
-    assert_eq!(taken(&[(10, 60, 15), (10, 55, 14)]), (1, 0), "the later one has it");
-    assert_eq!(taken(&[(10, 60, 15), (10, 55, 14), (12, 50, 4)]), (3, 0), "it comes again");
-    assert_eq!(taken(&[(10, 70, 17), (12, 60, 5)]), (1, 0), "an earlier post may have had it");
-    assert_eq!(taken(&[(70, 80, 1), (10, 75, 18)]), (0, 1), "what a run came to before the next one began");
-}
-
-/// Series of attributes that are as long as they may be, and so some 48 KB each.
-const LONG: u64 = 100;
-/// What a run may take of memory, with its words and its place by number.
-const MOST_OF_A_RUN: usize = 400;
-
-fn long_request(number: u64) -> String {
-    let text = "x".repeat(3_900);
-    let pair = |key: &str| format!(r#"{{"key":"{key}","value":{{"stringValue":"{text}"}}}}"#);
-    let pairs = ["a", "b", "c", "d"].map(pair).join(",");
-    let own =
-        format!(r#"{{"key":"n","value":{{"intValue":"{number}"}}}},{}"#, ["a", "b", "c"].map(pair).join(","));
-    format!(
-        r#"{{"resourceMetrics":[{{"resource":{{"attributes":[{pairs}]}},"scopeMetrics":[{{"scope":{{"attributes":[{pairs}]}},"metrics":[{{"name":"m","sum":{{"aggregationTemporality":1,"isMonotonic":true,"dataPoints":[{{"attributes":[{own}],"startTimeUnixNano":"1","timeUnixNano":"2","asInt":"0"}}]}}}}]}}]}}]}}"#
-    )
-}
-
-/// Run by the next test in a process of its own, in which nothing else takes memory.
-#[test]
-#[ignore]
-fn takes_memory_for_runs_of_long_series() {
-    let (names, runs) = (Names::new().unwrap(), Runs::default());
-    let numbers: Vec<u64> =
-        (0..LONG).map(|number| names.learn(long_request(number).into()).unwrap()).collect();
-    let length = series::only(&files::Names::text(&*names, numbers[0])).unwrap().0.len();
-    assert!(length > 42_000, "{length}");
-    let mut points = Points::default();
-    numbers.iter().for_each(|number| points.push(*number, 10, 20, [5]));
-    let cumulative: Vec<u32> = (0..LONG as u32).collect();
-    let before = crate::core::allocated();
-    runs.draft(Posted { points: &points, cumulative: &cumulative, names: &names }, |_| 0).keep();
-    let taken = crate::core::allocated() - before;
-    assert_eq!(runs.count() as u64, LONG);
-    assert!(taken < LONG as usize * MOST_OF_A_RUN, "{taken} bytes");
-    println!("{taken} bytes");
-}
-
-#[test]
-fn a_run_takes_as_little_memory_where_its_key_is_long() {
-    let mut this = std::process::Command::new(std::env::current_exe().unwrap());
-    this.args(["--exact", "--ignored", "--nocapture", "runs::tests::takes_memory_for_runs_of_long_series"]);
-    let ended = this.output().unwrap();
-    let said = [ended.stdout, ended.stderr].map(|text| String::from_utf8_lossy(&text).into_owned()).concat();
-    assert!(ended.status.success() && said.contains("1 passed"), "{said}");
 }
 
 /// A start finds entries that a commit has already, and others.
@@ -345,8 +273,8 @@ fn entries_behind_any_commit_come_to_what_was_kept() {
             words[bucket] += 2;
             (words[0], words[2]) = (words[3] + words[4], words[2] + chance.below(9));
             words[1] = u64::from(chance.below(6) > 0);
-            let point =
-                run(start, time, &words.map(|word| if words[1] == 0 && word == words[2] { 0 } else { word }));
+            let words = words.map(|word| if words[1] == 0 && word == words[2] { 0 } else { word });
+            let point = point(start, time, &words);
             let before = kept.last().cloned().flatten();
             let first = [First::Auto, First::Drop][chance.below(2) as usize];
             let found = entry(

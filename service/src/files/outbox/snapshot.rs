@@ -9,7 +9,7 @@ use super::table::{KnownSeries, Table};
 use super::texts::{Texts, PART};
 use super::Series;
 use crate::otlp::series::SeriesKey;
-use crate::runs::{Forgotten, Run, Since};
+use crate::runs::{EndedRun, Forgotten, Point, Run, Since};
 use serde::{Deserialize, Deserializer, Serialize};
 use std::collections::BTreeSet;
 use std::ops::Range;
@@ -57,19 +57,21 @@ fn row(key: SeriesKey, series: &Series) -> Row<&str> {
     (key, series.frontier, series.seen, series.owner.as_deref())
 }
 
-/// The run of a series: its id, its start, how far its frontier is after the last point, that point's words.
+/// The run of a series: its id, its start, how far its frontier is after the last point, that point's words, its interval, and
+/// start and last time of the run before.
 #[derive(Serialize, Deserialize)]
-pub struct RunRow(pub u32, u64, u64, Vec<u64>);
+pub struct RunRow(pub u32, u64, u64, Vec<u64>, u64, EndedRun);
 
 impl RunRow {
     pub fn of(id: u32, frontier: u64, run: &Run) -> RunRow {
-        RunRow(id, run.start, frontier.wrapping_sub(run.time), run.words.clone())
+        let Run { last, interval, before } = run;
+        RunRow(id, last.start, frontier.wrapping_sub(last.time), last.words.clone(), *interval, *before)
     }
 
     pub fn run(self, frontier: u64) -> Arc<Run> {
-        let RunRow(_, start, after, words) = self;
+        let RunRow(_, start, after, words, interval, before) = self;
         let time = frontier.wrapping_sub(after);
-        Arc::new(Run { start, time, words })
+        Arc::new(Run { last: Point { start, time, words }, interval, before })
     }
 }
 

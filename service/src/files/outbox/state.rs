@@ -177,8 +177,8 @@ impl State {
             };
             series.frontier = series.frontier.min(to);
             if let Some(run) = &mut series.run {
-                let run = Arc::make_mut(run);
-                run.time = run.time.min(to);
+                let last = &mut Arc::make_mut(run).last;
+                last.time = last.time.min(to);
             }
         }
     }

@@ -13,6 +13,7 @@ use crate::files::disk::Call;
 use crate::files::records::{self, Which};
 use crate::files::test_random::TestRandom;
 use crate::files::test_runs::runs;
+use crate::runs::{EndedRun, Point};
 use std::fs::File;
 use std::path::Path;
 use std::sync::atomic::{AtomicBool, AtomicUsize};
@@ -197,8 +198,8 @@ fn a_series_without_an_owner_is_never_forgotten() {
 }
 
 fn run_of(start: u64, time: u64, words: &[u64]) -> Arc<Run> {
-    let words = words.to_vec();
-    Arc::new(Run { start, time, words })
+    let last = Point { start, time, words: words.to_vec() };
+    Arc::new(Run { last, interval: time - start, before: EndedRun { start: 1, time: 2 } })
 }
 
 /// As durable as where the series ends, and by the same record.

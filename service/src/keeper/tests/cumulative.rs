@@ -97,22 +97,33 @@ pub fn copy(from: &Path, to: &Path) {
 /// What is counted, without a thought for deltas: of each run of a series its last values.
 #[derive(Default)]
 pub struct Plain {
-    last: BTreeMap<String, (u64, u64)>,
+    /// Start and time of the last point, and the interval.
+    last: BTreeMap<String, (u64, u64, u64)>,
     runs: BTreeMap<String, Vec<(i64, i64)>>,
 }
 
 impl Plain {
     pub fn take(&mut self, point: &Point) {
         let runs = self.runs.entry(point.name.clone()).or_default();
-        match self.last.get(&point.name) {
-            Some((_, last)) if point.time <= *last => return,
-            Some((start, last)) if *start != point.start && point.start < *last => return,
-            Some((start, _)) if *start == point.start => drop(runs.pop()),
-            _ => {}
-        }
         let all = if point.name.starts_with('h') { point.all } else { 0 };
+        let interval = match self.last.get(&point.name).copied() {
+            Some((_, last, _)) if point.time <= last => return,
+            Some((start, last, interval)) if start == point.start => {
+                runs.pop();
+                (point.time - last).max(interval / 2)
+            }
+            Some((_, last, interval)) if point.start < last => {
+                if point.time - last < 3 * interval {
+                    return;
+                }
+                // The one before has ended, and of this one counts what comes to it from now on.
+                runs.push((-point.value, -all));
+                point.time - point.start
+            }
+            _ => point.time - point.start,
+        };
         runs.push((point.value, all));
-        self.last.insert(point.name.clone(), (point.start, point.time));
+        self.last.insert(point.name.clone(), (point.start, point.time, interval));
     }
 
     pub fn sums(&self) -> BTreeMap<String, (i128, i128)> {
@@ -127,6 +138,8 @@ impl Plain {
 /// A sender's program.
 pub struct Program {
     pub sender: &'static str,
+    /// How long before the time of its first point it may have begun anew.
+    pub overlap: u64,
     start: u64,
     points: Vec<Point>,
     sent: Vec<Vec<Point>>,
@@ -136,13 +149,13 @@ impl Program {
     pub fn new(sender: &'static str) -> Program {
         let names = ["m", "u", "h"].map(|kind| format!("{kind}-{sender}"));
         let point = |name| Point { name, start: BEGIN, time: BEGIN, value: 0, all: 0 };
-        Program { sender, start: BEGIN, points: names.map(point).into(), sent: Vec::new() }
+        Program { sender, overlap: 1, start: BEGIN, points: names.map(point).into(), sent: Vec::new() }
     }
 
     /// What it sends next; nothing where that is lost on its way.
     pub fn next(&mut self, now: u64, chance: &mut TestRandom) -> Option<Vec<Point>> {
         if chance.below(12) == 0 {
-            self.start = now - 1;
+            self.start = (now - 1 - chance.below(self.overlap)).max(self.start + 1);
             self.points.iter_mut().for_each(|point| (point.value, point.all) = (0, 0));
         }
         for point in &mut self.points {

@@ -1,10 +1,12 @@
 //! Cumulative points of several processes that have the same series, or whose series others had: each says what it has counted,
 //! and that is counted once, or refused by its name.
 
-use super::cumulative::{point, rejected, BEGIN};
+use super::cumulative::{killed, point, rejected, BEGIN};
 use super::*;
 use crate::otlp::Outcome;
 use crate::runs::Options;
+
+const EARLIER: &str = "1 point of a run that began before the last point of another";
 
 async fn begin(place: &Path) -> Run {
     Run::begin_runs(&place.join("data0"), Options::default()).await
@@ -12,6 +14,16 @@ async fn begin(place: &Path) -> Run {
 
 async fn posted(run: &Run, start: u64, time: u64, value: i64) -> Outcome {
     run.cumulative("A", &[point("m", start, time, value)]).await
+}
+
+/// Whether all of a post was taken, or was there already; else it is refused by the name of an earlier run.
+async fn is_taken(run: &Run, start: u64, time: u64, value: i64) -> bool {
+    let outcome = posted(run, start, time, value).await;
+    if outcome == Outcome::taken(0) {
+        return true;
+    }
+    assert_eq!(rejected(&outcome), (1, EARLIER.into()));
+    false
 }
 
 /// A process of B's ran long before the end of a series of A's, which is ahead of the clock.
@@ -55,5 +67,105 @@ async fn what_was_forgotten_of_a_series_counts_no_second_time() {
     assert_eq!(posted(&run, BEGIN, BEGIN + 30, 11).await, Outcome::taken(0));
     run.flush().await;
     assert_eq!((run.forwarded().await["m"].0, run.slot.metrics.noted_runs.get()), (2, 1));
+    run.end().await;
+}
+
+/// Of the second process each point is a moment older than the last one of the first.
+#[tokio::test(flavor = "multi_thread")]
+async fn a_late_point_of_another_process_is_refused_by_name() {
+    let place = tempfile::tempdir().unwrap();
+    let mut run = begin(place.path()).await;
+    for turn in 1..=3 {
+        assert!(is_taken(&run, BEGIN, BEGIN + 60 * turn, 10 * turn as i64).await);
+        assert!(!is_taken(&run, BEGIN + 7, BEGIN + 60 * turn - 1, 30 * turn as i64).await, "{turn}");
+        run = killed(run, place.path(), turn as usize - 1, Options::default()).await;
+    }
+    // Of its start and time too, and it is no repeat.
+    assert!(!is_taken(&run, BEGIN, BEGIN + 180, 31).await);
+    run.flush().await;
+    assert_eq!(run.forwarded().await["m"].0, 30);
+    run.end().await;
+}
+
+/// Its sender did not hear the answer, and went on, or has begun anew.
+#[tokio::test(flavor = "multi_thread")]
+async fn a_repeat_is_known_behind_the_next_run() {
+    let place = tempfile::tempdir().unwrap();
+    let mut run = begin(place.path()).await;
+    for (start, time, value) in [(0, 60, 3), (0, 120, 5), (125, 180, 2)] {
+        assert!(is_taken(&run, BEGIN + start, BEGIN + time, value).await);
+    }
+    for kill in 0..3 {
+        for (start, time, value) in [(0, 60, 3), (0, 120, 5), (125, 180, 2)] {
+            assert!(is_taken(&run, BEGIN + start, BEGIN + time, value).await, "{start} {time}");
+        }
+        // What came to the first run behind its last point was never taken.
+        assert!(!is_taken(&run, BEGIN, BEGIN + 130, 6).await);
+        if kill == 1 {
+            run.flush().await;
+        }
+        run = killed(run, place.path(), kill, Options::default()).await;
+    }
+    run.flush().await;
+    assert_eq!(run.forwarded().await["m"].0, 7);
+    run.end().await;
+}
+
+/// A rolling restart: the old process says what it has counted when the new one has begun.
+#[tokio::test(flavor = "multi_thread")]
+async fn a_process_counts_from_where_the_one_before_it_was_silent_for_three_intervals() {
+    for kills in [false, true] {
+        let place = tempfile::tempdir().unwrap();
+        let mut run = begin(place.path()).await;
+        for turn in 1..=10 {
+            assert!(is_taken(&run, BEGIN, BEGIN + 60 * turn, 5 * turn as i64).await);
+        }
+        assert!(is_taken(&run, BEGIN, BEGIN + 610, 51).await, "as it ends");
+        let mut taken = Vec::new();
+        for turn in 1..=10 {
+            if kills {
+                if turn == 3 {
+                    run.flush().await;
+                }
+                run = killed(run, place.path(), turn as usize - 1, Options::default()).await;
+            }
+            taken.push(is_taken(&run, BEGIN + 605, BEGIN + 605 + 60 * turn, 360 * turn as i64).await);
+        }
+        // The last interval was ten, which is less than half of the one before: so it is taken for thirty.
+        assert_eq!(taken, [&[false; 1][..], &[true; 9]].concat());
+        // What the old one still says is late, and refused.
+        assert!(!is_taken(&run, BEGIN, BEGIN + 700, 52).await);
+        run.flush().await;
+        assert_eq!(run.forwarded().await["m"].0, 51 + 3_600 - 720);
+        // If it comes back, nothing of it counts twice.
+        for (time, value) in [(9_000, 53), (9_060, 55)] {
+            assert!(is_taken(&run, BEGIN, BEGIN + time, value).await);
+        }
+        run.flush().await;
+        assert_eq!(run.forwarded().await["m"].0, 2);
+        run.end().await;
+    }
+}
+
+/// What it had counted before the series was forgotten may have been counted.
+#[tokio::test(flavor = "multi_thread")]
+async fn a_process_from_before_its_series_was_forgotten_goes_on_from_where_it_is() {
+    let place = tempfile::tempdir().unwrap();
+    let run = begin(place.path()).await;
+    assert!(is_taken(&run, BEGIN + 10, BEGIN + 60, 7).await);
+    run.flush().await;
+    assert_eq!(run.forwarded().await["m"].0, 7);
+    run.slot.outbox.leave_these(&run.keys()).unwrap();
+    run.end().await;
+    let run = begin(place.path()).await;
+    // Another one that began before it, and is silent then.
+    assert!(is_taken(&run, BEGIN, BEGIN + 70, 100).await);
+    assert!(is_taken(&run, BEGIN, BEGIN + 80, 101).await);
+    assert!(!is_taken(&run, BEGIN + 10, BEGIN + 81, 8).await);
+    for (time, value) in [(900, 9), (960, 12)] {
+        assert!(is_taken(&run, BEGIN + 10, BEGIN + time, value).await);
+    }
+    run.flush().await;
+    assert_eq!(run.forwarded().await["m"].0, 1 + 3);
     run.end().await;
 }

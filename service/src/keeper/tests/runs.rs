@@ -17,6 +17,7 @@ async fn runs_over_kills_and_quarantines_come_to_the_sum_of_their_last_values() 
         let mut run = Run::begin_runs(&place.path().join("data0"), options).await;
         let (mut plain, mut sums) = (Plain::default(), BTreeMap::<String, (i128, i128)>::new());
         let mut programs = ["A", "B"].map(Program::new);
+        programs.iter_mut().for_each(|program| program.overlap = 60);
         let mut quarantined = false;
         for _ in 0..150 {
             now += 1 + chance.below(20);
