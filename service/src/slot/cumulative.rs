@@ -6,7 +6,7 @@ use super::verdict::Journalled;
 use super::{ByNumber, Slot};
 use crate::core::{Read, Refused};
 use crate::files::Names as _;
-use crate::log::shown;
+use crate::log::{shown, RateLimit};
 use crate::otlp::series::{self, Digest};
 use crate::otlp::{Outcome, Window};
 use crate::post_reports::SERIES_SHOWN;
@@ -14,10 +14,37 @@ use crate::runs::{self, Draft};
 use crate::shares::Claim;
 use crate::work::{blocking, Readers};
 use std::collections::{HashMap, HashSet};
+use std::sync::atomic::{AtomicU64, Ordering::Relaxed};
 use std::sync::Arc;
+use std::time::Duration;
 
 /// So many points the book is asked about by themselves while its lock is held.
 const TRIED_AT_ONCE: usize = 256;
+
+/// How long a line of the log about noted runs stands for all: one connection can post thousands a second.
+const TOLD_EVERY: Duration = Duration::from_secs(10);
+
+/// What the log has of runs that were noted.
+pub(super) struct NotedRuns {
+    rate_limit: RateLimit,
+    /// How many were noted after the last line.
+    untold: AtomicU64,
+}
+
+impl NotedRuns {
+    pub fn new() -> NotedRuns {
+        NotedRuns { rate_limit: RateLimit::every(TOLD_EVERY), untold: AtomicU64::new(0) }
+    }
+
+    /// How many were not told before, if it is time for a line; else these are counted for the next one.
+    fn untold_before(&self, noted: usize) -> Option<u64> {
+        if self.rate_limit.is_due() {
+            return Some(self.untold.swap(0, Relaxed));
+        }
+        self.untold.fetch_add(noted as u64, Relaxed);
+        None
+    }
+}
 
 /// What came of a try.
 enum Tried {
@@ -208,7 +235,10 @@ impl Slot {
         let noted = std::mem::take(&mut draft.noted);
         draft.keep();
         self.metrics.noted_runs.inc_by(noted.len() as u64);
-        if let Some((number, word)) = noted.first() {
+        let Some((number, word)) = noted.first() else {
+            return;
+        };
+        if let Some(untold) = self.noted_runs.untold_before(noted.len()) {
             let (sender, value, series_count) = (making.sender.as_str(), *word as i64, noted.len());
             let key = series::only(&making.by.names.text(*number));
             let series = key.map_or_else(String::new, |key| shown(&key.0, SERIES_SHOWN));
@@ -217,7 +247,9 @@ impl Slot {
                 series,
                 value,
                 series_count,
-                "what {sender} had counted before its first point here is left out of {series_count} series, such as {value} of {series}"
+                untold,
+                "what {sender} had counted before its first point here is left out of {series_count} series, such as {value} of \
+                 {series}; {untold} more were left out after the line before this"
             );
         }
     }

@@ -67,6 +67,7 @@ pub struct Slot {
     pub(crate) landed: Notify,
     /// Whether the disk stalls, as it was found last, and told.
     told: AtomicBool,
+    noted_runs: cumulative::NotedRuns,
     pub(crate) shares: Arc<Shares>,
     /// None where it reads as all others here, and keeps nothing of that.
     reading: Option<Arc<Reading>>,
@@ -139,6 +140,7 @@ impl Slot {
             hurried: Notify::new(),
             landed: Notify::new(),
             told: AtomicBool::new(false),
+            noted_runs: cumulative::NotedRuns::new(),
             shares: shared.shares.clone(),
             keeping: Arc::default(),
         })

@@ -1,10 +1,13 @@
 //! Cumulative points of several processes that have the same series, or whose series others had: each says what it has counted,
 //! and that is counted once, or refused by its name.
 
-use super::cumulative::{killed, point, rejected, BEGIN};
+use super::cumulative::{killed, point, rejected, Point, BEGIN};
 use super::*;
 use crate::otlp::Outcome;
 use crate::runs::Options;
+use std::sync::atomic::AtomicUsize;
+use tracing::{Event, Subscriber};
+use tracing_subscriber::layer::{Context, Layer, SubscriberExt};
 
 const EARLIER: &str = "1 point of a run that began before the last point of another";
 
@@ -167,5 +170,31 @@ async fn a_process_from_before_its_series_was_forgotten_goes_on_from_where_it_is
     }
     run.flush().await;
     assert_eq!(run.forwarded().await["m"].0, 1 + 3);
+    run.end().await;
+}
+
+struct Lines(Arc<AtomicUsize>);
+
+impl<S: Subscriber> Layer<S> for Lines {
+    fn on_event(&self, _: &Event<'_>, _: Context<'_, S>) {
+        self.0.fetch_add(1, SeqCst);
+    }
+}
+
+/// One connection can post some thousand a second.
+#[tokio::test(flavor = "multi_thread")]
+async fn posts_whose_points_begin_where_they_end_fill_no_log() {
+    let place = tempfile::tempdir().unwrap();
+    let run = begin(place.path()).await;
+    let lines = Arc::new(AtomicUsize::new(0));
+    let counting = tracing_subscriber::registry().with(Lines(lines.clone()));
+    let _guard = tracing::subscriber::set_default(counting);
+    let instant = |name: &str, at| -> Vec<Point> { vec![point(name, BEGIN + at, BEGIN + at, 5)] };
+    for at in 0..200 {
+        assert_eq!(run.cumulative("A", &instant("m", at)).await, Outcome::taken(0));
+        assert_eq!(run.cumulative("A", &instant(&format!("n{at}"), at)).await, Outcome::taken(0));
+    }
+    assert_eq!(run.slot.metrics.noted_runs.get(), 400);
+    assert!((1..=2).contains(&lines.load(SeqCst)), "{lines:?}"); // a slow machine may need over ten seconds
     run.end().await;
 }
