@@ -10,7 +10,7 @@ use std::str::FromStr;
 #[derive(Clone, Debug, PartialEq, Eq)]
 pub enum Address {
     Sqlite(PathBuf),
-    Postgres(Server),
+    Postgres(Box<Server>),
     Otlp { url: String, protobuf: bool, gzip: bool, headers: Vec<(String, String)> },
 }
 
@@ -54,7 +54,8 @@ impl FromStr for Address {
             "sqlite" => Ok(Address::Sqlite(rest.into())),
             scheme @ ("http" | "https") => otlp(format!("{scheme}:{rest}")),
             "postgres" | "postgresql" => {
-                Server::read(rest).map(Address::Postgres).map_err(BadAddress::Postgres)
+                let server = Server::read(rest).map_err(BadAddress::Postgres)?;
+                Ok(Address::Postgres(server.into()))
             }
             _ if scheme.contains('/') => Ok(Address::Sqlite(text.into())),
             // Also HOST:PORT, which would else be a file.

@@ -120,7 +120,7 @@ mod tests {
             certificate: key.map(PathBuf::from),
             key: key.map(PathBuf::from),
         };
-        let config = |files: ClientFiles| files.client_config().err().expect("no config").to_string();
+        let config = |files: ClientFiles| files.client_config().expect_err("no config").to_string();
         assert!(config(files(Some(&file), None)).contains("a.pem can't be used for TLS: No such file"));
         std::fs::write(&file, "no certificate").expect("written");
         assert!(config(files(Some(&file), None)).contains("no certificate in PEM"));

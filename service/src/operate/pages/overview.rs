@@ -101,7 +101,7 @@ impl Seen<'_> {
             html.markup("<p class=\"note bad\">The sink: ").text(trouble);
             if let Some(seconds) = self.status.next_try_seconds() {
                 html.markup("; the next try in ")
-                    .text(&seconds_shown(seconds))
+                    .text(seconds_shown(seconds))
                     .markup(", or at <code>totxegun flush</code>");
             }
             html.markup("</p>");

@@ -40,7 +40,7 @@ pub struct Totals {
 #[derive(Clone)]
 enum Source {
     Sqlite(PathBuf),
-    Postgres(Server),
+    Postgres(Box<Server>),
 }
 
 impl Totals {
