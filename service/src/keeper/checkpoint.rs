@@ -37,23 +37,23 @@ impl Keeper {
         let (slot, carried) = (self.slot.clone(), std::mem::take(&mut self.carried));
         let (carried, done) = blocking(move || checkpoint(&slot, carried)).await?;
         self.carried = carried;
-        let pause = match done {
+        match done {
             Ok(_) => {
                 self.put_off = 0;
-                self.settings.every
+                self.next_checkpoint = Instant::now() + self.settings.every;
             }
-            Err(refused) => {
-                self.put_off(refused)?;
-                self.settings.every.min(BETWEEN_TRIES)
-            }
-        };
-        self.next_checkpoint = Instant::now() + pause;
+            Err(refused) => self.put_off(refused)?,
+        }
         self.released &= done.is_err();
         Ok(done)
     }
 
+    /// Ends the keeper after so many tries, with a pause between two. A checkpoint that is ordered within a pause is none of them.
     fn put_off(&mut self, refused: Refused) -> Result<(), Trouble> {
-        self.put_off += 1;
+        if self.put_off == 0 || Instant::now() >= self.next_checkpoint {
+            self.put_off += 1;
+            self.next_checkpoint = Instant::now() + self.settings.every.min(BETWEEN_TRIES);
+        }
         tell_put_off(&self.slot, self.put_off, refused);
         match self.put_off < TRIES {
             true => Ok(()),
@@ -164,4 +164,26 @@ pub(super) fn commit(slot: &Slot, bodies: &[Vec<u8>], group: Group) -> Result<(u
     slot.journal.forget(next)?;
     slot.metrics.checkpoints.with_label_values(&["done"]).inc();
     Ok((requests, saved))
+}
+
+#[cfg(test)]
+mod tests {
+    use super::super::tests::keeper;
+    use super::*;
+
+    /// Else the process ends before there may be memory again.
+    #[test]
+    fn checkpoints_that_are_ordered_while_there_is_no_memory_do_not_end_the_keeper() {
+        let place = tempfile::tempdir().unwrap();
+        let mut keeper = keeper(place.path());
+        for _ in 0..2 * TRIES {
+            keeper.put_off(Refused::NoMemory).unwrap();
+        }
+        for _ in 2..TRIES {
+            keeper.next_checkpoint = Instant::now();
+            keeper.put_off(Refused::NoMemory).unwrap();
+        }
+        keeper.next_checkpoint = Instant::now();
+        assert!(matches!(keeper.put_off(Refused::NoMemory), Err(Trouble::NoMemory)));
+    }
 }

@@ -109,14 +109,20 @@ impl Keeper {
     }
 
     async fn look(&mut self) -> Result<(), Trouble> {
-        let ungrouped = self.slot.ungrouped();
-        let due = Instant::now() >= self.next_checkpoint;
-        let has_some = ungrouped > 0 || self.released || !self.carried.is_empty();
-        if self.has_many(ungrouped) || due && has_some {
+        if self.is_due() {
             let _put_off = self.checkpoint().await?;
         }
         self.rest().await;
         Ok(())
+    }
+
+    /// A checkpoint that was put off has its own time, however many posts wait.
+    fn is_due(&self) -> bool {
+        let ungrouped = self.slot.ungrouped();
+        if Instant::now() < self.next_checkpoint {
+            return self.put_off == 0 && self.has_many(ungrouped);
+        }
+        ungrouped > 0 || self.released || !self.carried.is_empty()
     }
 
     /// Whether what is in no group, so many posts, would take a start long.
@@ -200,7 +206,27 @@ fn are_many_in_store(posts: u64, bytes: u64) -> bool {
 
 #[cfg(test)]
 mod tests {
+    use super::super::tests::keeper;
     use super::*;
+
+    /// Else ten tries take half a second, and the process ends.
+    #[tokio::test]
+    async fn a_checkpoint_that_was_put_off_waits_for_its_time_however_many_posts_there_are() {
+        let place = tempfile::tempdir().unwrap();
+        let mut keeper = keeper(place.path());
+        let metrics = keeper.slot.metrics.clone();
+        let done = || metrics.checkpoints.with_label_values(&["done"]).get();
+        keeper.slot.set_ungrouped(MANY_POSTS + 1);
+        keeper.put_off = 1;
+        keeper.look().await.unwrap();
+        assert_eq!(done(), 0);
+        keeper.next_checkpoint = Instant::now();
+        keeper.look().await.unwrap();
+        assert_eq!((done(), keeper.put_off), (1, 0));
+        keeper.slot.set_ungrouped(MANY_POSTS + 1);
+        keeper.look().await.unwrap();
+        assert_eq!(done(), 2, "it comes early");
+    }
 
     #[test]
     fn a_checkpoint_comes_early_by_posts_and_by_bytes() {

@@ -139,6 +139,15 @@ pub(crate) fn settings() -> Settings {
     Settings { every: Duration::from_secs(3600), forget: None }
 }
 
+/// One that has not begun.
+pub(super) fn keeper(place: &Path) -> Keeper {
+    let folder = Folder::open(&place.join("data"), Durability::Process).unwrap();
+    let (journal, outbox) = folder.slot(0).unwrap();
+    let metrics = Arc::new(Metrics::new().unwrap());
+    let slot = Slot::new(0, journal, Arc::new(outbox), metrics, Core::new(1).unwrap());
+    Keeper::new(slot, settings()).0
+}
+
 fn is_in(part: &str, path: &Path) -> bool {
     path.to_string_lossy().contains(part)
 }
