@@ -1,6 +1,7 @@
 //! Closes rounds of the books.
 
-use super::Book;
+use super::rounds::Closing;
+use super::{memory, Book};
 
 impl Book {
     /// Of one book, where one is to be closed: what is over is forgotten, and sums begin at what they are. While something is
@@ -33,16 +34,11 @@ impl Book {
         }
     }
 
-    /// Of all books at once, since something finds no room. One of which something is in flight is not closed, and has all that
-    /// came to it.
+    /// Of all books at once, since something finds no room. A book of which something is in flight is not closed.
     pub(super) fn close_rounds(&mut self) {
         self.rounds.begin();
-        let entries = self.rounds.before();
         while let Some(book) = self.rounds.being_closed() {
             self.close_round(book);
-        }
-        if self.earlier.in_flight > 0 {
-            self.rounds.have_still(entries);
         }
     }
 
@@ -60,14 +56,19 @@ impl Book {
         self.rounds.being_closed().is_some()
     }
 
-    /// How much has come to it so far: posts, and ends of what was taken.
+    /// How much has come to it so far: posts, taken or refused, and ends of what was taken.
     pub fn came(&self) -> u64 {
         self.rounds.came()
     }
 
     fn close_round(&mut self, book: usize) {
-        let is_closed = self.desk.close_round(book);
-        self.rounds.note(is_closed, || self.desk.series());
+        let before = memory::refusals();
+        let closing = match self.desk.close_round(book) {
+            true => Closing::Closed,
+            false if self.earlier.in_flight > 0 || memory::refusals() > before => Closing::GoesOn,
+            false => Closing::Empty,
+        };
+        self.rounds.note(closing, || self.desk.series());
     }
 
     /// How many rounds were closed since this was asked last.

@@ -3,7 +3,7 @@
 //! What is taken so is written and settled at once, since a series of which something is in flight is not taken again. Its
 //! requests wait here for the next group, ahead of all else that it has.
 
-use super::book::{Flushes, Reader, MOST_TAKEN};
+use super::book::{Desk, Flushes, Reader, MOST_TAKEN};
 use super::refusal::check;
 use super::{memory, Book, Flushed, Read, Refused};
 use crate::files::Points;
@@ -111,17 +111,14 @@ impl Book {
 
     /// Whether the books take all of it: so it is refused whole. Behind that there is room for each part.
     fn try_whole(&mut self, read: &mut Read, parts: usize) -> Result<(), Refused> {
-        if !self.rounds.have_room_for(2 * parts + 1) {
+        let entries = 2 * parts + 1;
+        if !self.rounds.have_room_for(entries) {
             self.close_rounds();
         }
-        self.rounds.count(0);
-        let reader = read.reader.as_mut().ok_or(Refused::Nothing)?;
-        let mut tried = check(self.desk.try_admit(reader));
-        if self.rounds.have_entries() && tried.is_err_and(|refused| refused.may_be_cured_by_a_round()) {
-            self.close_rounds();
-            tried = read.again().and_then(|reader| check(self.desk.try_admit(reader)));
+        match self.rounds.have_room_for(entries) {
+            true => self.ask(read, None, Desk::try_admit),
+            false => Err(Refused::Full),
         }
-        tried.map(drop)
     }
 
     fn admit_part(&mut self, read: &mut Read, part: &Points) -> Result<(), Refused> {
@@ -129,11 +126,9 @@ impl Book {
             return Ok(());
         };
         let stretch = self.across.stretch(end);
-        let reader = read.put(part)?;
-        self.cross(reader, stretch)?;
-        check(self.desk.admit(reader))?;
+        self.cross(read.put(part)?, stretch)?;
+        self.ask(read, Some(part), Desk::admit)?;
         self.earlier.note(stretch);
-        self.rounds.count(part.count() as u64);
         Ok(())
     }
 }

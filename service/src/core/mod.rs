@@ -34,7 +34,7 @@ pub use stretch::Across;
 
 use crate::files::{Body, Points, Post};
 use crate::work::locked;
-use book::{Answer, Desk, Flushes, MOST_TAKEN};
+use book::{Answer, Desk, Flushes, Reader, MOST_TAKEN};
 use bytes::Bytes;
 use earlier::Earlier;
 use flushed::copied;
@@ -66,6 +66,9 @@ pub struct Book {
     earlier: Earlier,
     reserve: Arc<memory::Reserve>,
 }
+
+/// A call of all books with what a reader has.
+type Ask = fn(&mut Desk, &mut Reader) -> Answer;
 
 /// The book, for who has its lock.
 pub type Locked<'a> = MutexGuard<'a, Book>;
@@ -158,16 +161,16 @@ impl Book {
 
     /// Puts a post into all of its books, or into none: what is refused changed nothing, but where it is `HalfTaken`.
     pub fn admit(&mut self, read: &mut Read) -> Result<(), Refused> {
-        self.admit_in_turn(read)?;
+        let admitted = self.admit_in_turn(read);
         self.close_next_round();
-        Ok(())
+        admitted
     }
 
     /// The same of a post that is put in again, while nobody waits.
     pub fn admit_again(&mut self, read: &mut Read) -> Result<(), Refused> {
-        self.admit_in_turn(read)?;
+        let admitted = self.admit_in_turn(read);
         self.close_full_rounds();
-        Ok(())
+        admitted
     }
 
     /// The same of a quarantined sender's: of it nothing is taken, and when it came it went over no stretch.
@@ -175,9 +178,9 @@ impl Book {
         let Some((first, _)) = read.first_and_last() else {
             return Ok(());
         };
-        self.admit_whole(read, first)?;
+        let admitted = self.admit_whole(read, first);
         self.close_full_rounds();
-        Ok(())
+        admitted
     }
 
     fn admit_in_turn(&mut self, read: &mut Read) -> Result<(), Refused> {
@@ -193,16 +196,36 @@ impl Book {
     }
 
     fn admit_whole(&mut self, read: &mut Read, first: u64) -> Result<(), Refused> {
-        let reader = read.reader.as_mut().ok_or(Refused::Nothing)?;
-        let mut admitted = check(self.desk.admit(reader));
-        if self.rounds.have_entries() && admitted.is_err_and(|refused| refused.may_be_cured_by_a_round()) {
-            self.close_rounds();
-            admitted = read.again().and_then(|reader| check(self.desk.admit(reader)));
-        }
-        admitted?;
+        self.ask(read, None, Desk::admit)?;
         self.earlier.note(first);
-        self.rounds.count(read.points);
         Ok(())
+    }
+
+    /// Asks the books for all that the reader has, which is the whole post or a part of it; and once more after rounds are closed,
+    /// if that may help. A part has to go in: half of a post ends the service.
+    fn ask(&mut self, read: &mut Read, part: Option<&Points>, call: Ask) -> Result<(), Refused> {
+        let asked = self.ask_once(read, part, call);
+        let Err(refused) = asked else { return asked };
+        if !self.rounds.may_cure(refused) && (part.is_none() || !refused.may_be_cured_by_a_round()) {
+            return asked;
+        }
+        self.close_rounds();
+        match part {
+            Some(part) => read.put(part)?,
+            None => read.again()?,
+        };
+        self.ask_once(read, part, call)
+    }
+
+    /// A refused post counts as a taken one: in each other book it stays until the round is closed.
+    fn ask_once(&mut self, read: &mut Read, part: Option<&Points>, call: Ask) -> Result<(), Refused> {
+        let reader = read.reader.as_mut().ok_or(Refused::Nothing)?;
+        let asked = check(call(&mut self.desk, reader));
+        self.rounds.count(part.map_or(read.points, |part| part.count() as u64));
+        if asked.is_err() {
+            self.rounds.count_refused(read.bytes());
+        }
+        asked.map(drop)
     }
 
     /// Takes all that may be forwarded, or nothing. Until it is settled no round can be closed.
@@ -267,16 +290,16 @@ impl Book {
     fn end(&mut self, taken: Flushed, end: fn(&mut Desk, &mut Flushes) -> Answer) -> Result<(), Refused> {
         // Each is ended, also after one that says no, which none does.
         let ended = taken.parts.into_iter().map(|(mut flushes, _)| {
+            self.rounds.count(0);
             let answer = end(&mut self.desk, &mut flushes);
             check(answer).map(drop)
         });
-        let ended = ended.fold(Ok(()), Result::and);
-        self.rounds.count(0);
-        ended
+        ended.fold(Ok(()), Result::and)
     }
 
     pub fn quarantine(&mut self, sender: &str) -> Result<(), Refused> {
         let sender = sender.as_bytes();
+        self.rounds.count(0);
         let mut done = check(self.desk.quarantine(sender));
         if done.is_err_and(|refused| refused.may_be_cured_by_a_round()) {
             self.close_rounds();
@@ -287,6 +310,7 @@ impl Book {
 
     pub fn lift(&mut self, sender: &str) -> Result<(), Refused> {
         self.earlier.note(0); // of whatever stretch it has something
+        self.rounds.count(0);
         check(self.desk.lift(sender.as_bytes())).map(drop)
     }
 

@@ -19,7 +19,7 @@ impl Book {
             let (true, Ok(reader)) = (self.rounds.have_room_for(ENTRIES), read.put(&point)) else {
                 break;
             };
-            self.rounds.count(0);
+            self.rounds.count(1);
             if let Err(Refused::OutOfOrder { frontier, .. }) = check(self.desk.try_admit(reader)) {
                 found.push((place, frontier));
             }

@@ -1,6 +1,8 @@
 //! When the rounds of the books are closed. It takes a book up to some milliseconds, so it is done book by book, after one
 //! post each, and these are spread: no post waits for two.
 
+use super::Refused;
+
 /// Rounds are closed after so many posts, more where there are many series, since it takes some microseconds for each;
 /// but no more than a quarter of what a book has room for. And after so many points, since a round keeps them.
 const LEAST_POSTS: usize = 4_000;
@@ -8,29 +10,47 @@ const MOST_POSTS: usize = 16_000;
 const SERIES_FOR_A_POST: usize = 5;
 const LEAST_POINTS: usize = 50_000;
 const POINTS_FOR_A_SERIES: usize = 20;
-/// A post takes two places of a book's journal, and so does what is taken of it and ended: there are so many, and some more.
+/// And after so many bytes of refused posts. Nothing else has the series that these name, so a point takes many times what one of
+/// a known series does.
+const MOST_REFUSED: u64 = 16 << 20;
+/// A post takes two places of a book's journal, also one that another book refuses, and so does what is taken of it and ended: there
+/// are so many, and some more.
 const MOST_ENTRIES: u64 = 30_000;
 /// While what was taken is live no round can be closed: it is tried again after so many posts.
 const POSTS_UNTIL_ANOTHER_TRY: u64 = 500;
 /// All books are closed within this part of the way to when it is begun again.
 const PART: u64 = 2;
+/// Where there is no memory they are closed after this part of it.
+const WORTH: u64 = 10;
 
 pub(super) struct Rounds {
     books: usize,
-    /// Since it was begun to close them: posts, and ends of what was taken.
+    /// Since it was begun to close them: posts, taken or refused, and ends of what was taken.
     entries: u64,
     points: u64,
-    /// Entries before, since none was closed for them.
+    /// Bytes of refused posts.
+    refused: u64,
+    /// Entries before: a book that could not be closed has them still.
     before: u64,
     /// When that is begun again.
     most_entries: u64,
     most_points: u64,
-    /// Of all books the one that comes next, where they are being closed, and whether one was closed yet.
+    /// The book that is closed next, while they are being closed, and whether all before it are empty.
     next: Option<(usize, bool)>,
     /// How many were closed, and nobody was told.
     closed: usize,
     /// All entries so far.
     came: u64,
+}
+
+/// What came of closing the round of a book.
+#[derive(Clone, Copy, Debug, PartialEq, Eq)]
+pub(super) enum Closing {
+    Closed,
+    /// Its round had nothing.
+    Empty,
+    /// Its round goes on: something of the book is in flight, or there was no memory.
+    GoesOn,
 }
 
 impl Rounds {
@@ -39,6 +59,7 @@ impl Rounds {
             books,
             entries: 0,
             points: 0,
+            refused: 0,
             before: 0,
             most_entries: LEAST_POSTS as u64,
             most_points: LEAST_POINTS as u64,
@@ -53,6 +74,15 @@ impl Rounds {
         self.entries > 0 || self.next.is_some()
     }
 
+    /// Whether a post that was refused, and counted, may be taken once they are closed. It takes long, so not for a little memory.
+    pub fn may_cure(&self, refused: Refused) -> bool {
+        match refused {
+            Refused::NoMemory => self.next.is_some() || self.are_past(1, WORTH),
+            Refused::Full | Refused::TooLarge => self.before + self.entries > 1 || self.next.is_some(),
+            _ => false,
+        }
+    }
+
     /// Whether each book has room for so many entries more.
     pub fn have_room_for(&self, more: usize) -> bool {
         self.before + self.entries + more as u64 <= MOST_ENTRIES
@@ -62,6 +92,11 @@ impl Rounds {
         self.came += 1;
         self.entries += 1;
         self.points += points;
+    }
+
+    /// A refused post was counted that has so many bytes.
+    pub fn count_refused(&mut self, bytes: usize) {
+        self.refused += bytes as u64;
     }
 
     /// The book whose round is to be closed after this post.
@@ -80,7 +115,10 @@ impl Rounds {
 
     /// Whether this part of the way is behind them to where it is begun again.
     fn are_past(&self, part: u64, of: u64) -> bool {
-        of * self.entries >= part * self.most_entries || of * self.points >= part * self.most_points
+        let is_past = |count: u64, most: u64| of * count >= part * most;
+        is_past(self.entries, self.most_entries)
+            || is_past(self.points, self.most_points)
+            || is_past(self.refused, MOST_REFUSED)
     }
 
     /// Whether there is no room for more, or there are as many points as else before the last book is closed: where nobody waits
@@ -103,38 +141,26 @@ impl Rounds {
 
     /// All of them are to be closed, from the first one on.
     pub fn begin(&mut self) {
-        self.next = Some((0, false));
+        self.next = Some((0, true));
         self.before += self.entries;
-        (self.entries, self.points) = (0, 0);
+        (self.entries, self.points, self.refused) = (0, 0, 0);
     }
 
-    /// Whether the one that was to be closed now is. There are so many series.
-    pub fn note(&mut self, is_closed: bool, series: impl FnOnce() -> usize) {
-        let Some((book, any)) = self.next else { return };
-        self.closed += usize::from(is_closed);
-        let any = any || is_closed;
+    /// What came of the one that was to be closed. There are so many series.
+    pub fn note(&mut self, closing: Closing, series: impl FnOnce() -> usize) {
+        let Some((book, are_empty)) = self.next else { return };
+        self.closed += usize::from(closing == Closing::Closed);
+        let are_empty = are_empty && closing != Closing::GoesOn;
         if book + 1 < self.books {
-            self.next = Some((book + 1, any));
+            self.next = Some((book + 1, are_empty));
             return;
         }
         self.next = None;
-        if any {
-            self.before = 0;
-        }
         self.last_for(series());
-        if !any {
-            self.most_entries = POSTS_UNTIL_ANOTHER_TRY;
+        match are_empty {
+            true => self.before = 0,
+            false => self.most_entries = POSTS_UNTIL_ANOTHER_TRY,
         }
-    }
-
-    /// How many entries came before it was begun to close them, and may be there.
-    pub fn before(&self) -> u64 {
-        self.before
-    }
-
-    /// So many of these are there in a book, though others were closed.
-    pub fn have_still(&mut self, before: u64) {
-        self.before = before;
     }
 
     /// The next ones are as long as so many series need.
@@ -159,12 +185,12 @@ mod tests {
     use super::*;
 
     /// Which books are closed behind each of so many posts of a point.
-    fn behind(rounds: &mut Rounds, posts: usize, is_closed: bool) -> Vec<(usize, usize)> {
+    fn behind(rounds: &mut Rounds, posts: usize, closing: Closing) -> Vec<(usize, usize)> {
         let mut all = Vec::new();
         for post in 1..=posts {
             rounds.count(1);
             if let Some(book) = rounds.next() {
-                rounds.note(is_closed, || 100_000);
+                rounds.note(closing, || 100_000);
                 all.push((post, book));
             }
         }
@@ -174,21 +200,36 @@ mod tests {
     #[test]
     fn no_post_waits_for_two_books() {
         let mut rounds = Rounds::new(3);
-        let first = behind(&mut rounds, 6_000, true);
+        let first = behind(&mut rounds, 6_000, Closing::Closed);
         assert_eq!(first, [(4_000, 0), (4_667, 1), (5_334, 2)]);
         assert_eq!((rounds.closed(), rounds.closed()), (3, 0));
         // It counts from the post at which it was begun.
-        let next = behind(&mut rounds, 22_000, true);
+        let next = behind(&mut rounds, 22_000, Closing::Closed);
         assert_eq!(next, [(14_000, 0), (16_667, 1), (19_334, 2)]);
     }
 
     #[test]
     fn where_none_can_be_closed_it_is_tried_again_soon() {
         let mut rounds = Rounds::new(2);
-        let tries = behind(&mut rounds, 5_700, false);
+        let tries = behind(&mut rounds, 5_700, Closing::GoesOn);
         let wanted = [(4_000, 0), (5_000, 1), (5_001, 0), (5_126, 1), (5_501, 0), (5_626, 1)];
         assert_eq!(tries, wanted);
         assert_eq!(rounds.closed(), 0);
+    }
+
+    /// Else a post of several hours begins where it finds no room.
+    #[test]
+    fn a_book_that_can_t_be_closed_has_its_entries_still() {
+        let mut rounds = Rounds::new(3);
+        (0..4_000).for_each(|_| rounds.count(1));
+        for (last, room) in [(Closing::GoesOn, 26_000), (Closing::Empty, 30_000)] {
+            rounds.begin();
+            for closing in [Closing::Closed, Closing::Closed, last] {
+                rounds.note(closing, || 1);
+            }
+            assert_eq!(rounds.being_closed(), None);
+            assert!(rounds.have_room_for(room) && !rounds.have_room_for(room + 1), "{last:?}");
+        }
     }
 
     /// The post that begins it has closed the first book alone: a refusal by another may be cured still.
@@ -196,7 +237,7 @@ mod tests {
     fn what_is_not_closed_yet_has_entries() {
         let mut rounds = Rounds::new(3);
         assert!(!rounds.have_entries());
-        assert_eq!(behind(&mut rounds, 4_000, true), [(4_000, 0)]);
+        assert_eq!(behind(&mut rounds, 4_000, Closing::Closed), [(4_000, 0)]);
         assert!(rounds.have_entries());
         assert_eq!(rounds.being_closed(), Some(1), "it may be closed at once");
     }
@@ -218,6 +259,23 @@ mod tests {
         assert!(rounds.are_full(), "as many points as else");
     }
 
+    /// Else what refused posts name takes memory without a bound, and others are refused.
+    #[test]
+    fn much_that_was_refused_closes_rounds_too() {
+        let mut rounds = Rounds::new(2);
+        let mut refuse = |bytes: u64| {
+            rounds.count(1);
+            rounds.count_refused(bytes as usize);
+            (rounds.may_cure(Refused::NoMemory), rounds.next())
+        };
+        let much = MOST_REFUSED / WORTH;
+        assert_eq!([refuse(much), refuse(1)], [(false, None), (true, None)]);
+        assert_eq!(refuse(MOST_REFUSED - much - 1), (true, Some(0)));
+        rounds.note(Closing::Closed, || 1);
+        rounds.note(Closing::Closed, || 1);
+        assert!(!rounds.may_cure(Refused::NoMemory) && !rounds.have_entries());
+    }
+
     #[test]
     fn many_points_close_rounds_too() {
         let mut rounds = Rounds::new(2);
@@ -225,7 +283,7 @@ mod tests {
         assert_eq!(rounds.next(), None);
         rounds.count(1);
         assert_eq!(rounds.next(), Some(0));
-        rounds.note(true, || 100);
+        rounds.note(Closing::Closed, || 100);
         rounds.count(12_499);
         assert_eq!(rounds.next(), None);
         rounds.count(1);

@@ -49,11 +49,8 @@ fn rest(slot: &Slot, before: u64) -> u64 {
 #[cfg(test)]
 mod tests {
     use super::*;
-    use crate::core::{given_back, tests::points, Core};
-    use crate::files::{Durability, Folder};
-    use crate::keeper::tests::settings;
-    use crate::metrics::Metrics;
-    use std::sync::Arc;
+    use crate::core::{given_back, tests::points};
+    use crate::keeper::tests::keeper;
 
     /// Looks now; how many rounds were closed.
     async fn look(keeper: &mut Keeper) -> usize {
@@ -69,15 +66,12 @@ mod tests {
         const BLOCK: usize = 1 << 20;
         const BLOCKS: usize = 128;
         let place = tempfile::tempdir().unwrap();
-        let folder = Folder::open(&place.path().join("data"), Durability::Process).unwrap();
-        let (journal, outbox) = folder.slot(0).unwrap();
-        let metrics = Arc::new(Metrics::new().unwrap());
-        let slot = Slot::new(0, journal, Arc::new(outbox), metrics, Core::new(1).unwrap());
-        let (mut keeper, _orders) = Keeper::new(slot.clone(), settings());
-        for start in [10, 20] {
+        let mut keeper = keeper(place.path());
+        let slot = keeper.slot.clone();
+        for (start, is_taken) in [(10, true), (20, true), (10, false)] {
             let body = points(&["a".into()], start, 1);
             let mut read = slot.core.read("A".into(), body.into()).unwrap();
-            slot.core.lock().admit(&mut read).unwrap();
+            assert_eq!(slot.core.lock().admit(&mut read).is_ok(), is_taken);
             assert_eq!(look(&mut keeper).await, 0, "a post came");
         }
         // One after the other is freed: by itself the allocator gives back one of many.

@@ -58,3 +58,45 @@ fn rounds_are_closed_seldom_while_posts_are_put_in_again() {
     drop(book);
     assert_eq!(taken(&core), [("a0".into(), (40_000, 400_010))].into());
 }
+
+/// A's series and B's, of which a post of B's that has both is refused, in several books.
+fn two_senders() -> (Arc<Core>, String) {
+    let core = Core::new(24_000).unwrap();
+    let (theirs, own) = (names("a", 1), names("b", 12));
+    assert_eq!(post(&core, "A", &points(&theirs, 10, 1)), Ok(0));
+    assert_eq!(post(&core, "B", &points(&own, 10, 1)), Ok(0));
+    (core, points(&[own, theirs].concat(), 20, 1))
+}
+
+/// Each stays in the other books until their rounds are closed: else any sender fills them, and good posts are refused as well.
+#[test]
+fn refused_posts_fill_no_book() {
+    let (core, refused) = two_senders();
+    for number in 0..70_000 {
+        let answer = post(&core, "B", &refused);
+        assert_eq!(answer, Err(Refused::OtherWriter { point: 12 }), "{number}");
+    }
+    assert!(core.lock().rounds_closed() >= 16);
+    assert_eq!(post(&core, "B", &points(&names("b", 12), 20, 1)), Ok(0));
+    assert_eq!(taken(&core).len(), 13);
+}
+
+/// All that takes places of a book's journal is counted: a post that is taken or refused, each flush, what is quarantined and lifted.
+#[test]
+fn what_a_round_has_room_for_is_known() {
+    let room = |core: &Arc<Core>| {
+        let book = core.lock();
+        (0..=30_000).rev().find(|more| book.rounds.have_room_for(*more)).unwrap()
+    };
+    let (core, refused) = two_senders();
+    assert_eq!(room(&core), 30_000 - 2);
+    assert!(post(&core, "B", &refused).is_err());
+    assert_eq!(room(&core), 30_000 - 3);
+    core.lock().quarantine("C").unwrap();
+    core.lock().lift("C").unwrap();
+    assert_eq!(room(&core), 30_000 - 5);
+    let core = Core::new(1).unwrap();
+    assert_eq!(post(&core, "A", &points(&names("a", 2_500), 10, 1)), Ok(0));
+    assert_eq!(taken(&core).len(), 2_500);
+    assert_eq!(room(&core), 30_000 - 1 - 3, "a flush takes a thousand series");
+}

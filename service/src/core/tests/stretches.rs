@@ -178,6 +178,24 @@ fn a_book_that_was_in_flight_while_others_were_closed_has_room_for_a_post_of_sev
     assert_eq!((sums[&("s0".to_string(), 0)], sums.len()), (32_600, 100 + 30));
 }
 
+/// Else any sender ends the service: by refused posts, which leave no room, and one of two hours.
+#[test]
+fn behind_refused_posts_there_is_room_for_a_post_of_several_hours() {
+    let core = Core::new(24_000).unwrap();
+    let by = named(&[names("b", 12), names("a", 1)].concat());
+    put(&core, &by, "A", of(&[(12, HOUR / 4, 1)])).unwrap();
+    let all =
+        |end, numbers: std::ops::Range<u64>| of(&numbers.map(|number| (number, end, 1)).collect::<Vec<_>>());
+    put(&core, &by, "B", all(HOUR / 4, 0..12)).unwrap();
+    for _ in 0..32_765 {
+        let refused = put(&core, &by, "B", all(HOUR / 2, 0..13));
+        assert_eq!(refused, Err(Refused::OtherWriter { point: 12 }));
+    }
+    let both = [HOUR / 2, HOUR + HOUR / 2].map(|end| (0..12).map(move |number| (number, end, 1)));
+    assert_eq!(put(&core, &by, "B", of(&both.into_iter().flatten().collect::<Vec<_>>())), Ok(()));
+    assert_eq!(sums(group(&core)).len(), 12 + 12 + 1);
+}
+
 #[test]
 fn a_released_sender_s_points_are_not_merged_with_a_later_hour() {
     let core = Core::new(1).unwrap();
