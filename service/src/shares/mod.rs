@@ -1,7 +1,8 @@
 //! What each sender may have of what all share: series, and points a second.
 //!
 //! A post asks for its points and its series once it is read, before the book is: over a sender's share it is answered 429, and
-//! nothing of it is anywhere; 413 where no repeat could be within it. `bucket` counts points, `count` series: by their owners at
+//! nothing of it is anywhere; 413 where no repeat could be within it. Over the most series of all, which the books alone do not
+//! keep to, it is answered 503. `bucket` counts points, `count` series: by their owners at
 //! each flush, and by what posts have added since, or may add; `rules` says how many each may have.
 
 mod bucket;
@@ -33,6 +34,9 @@ const AGAIN: u64 = 10;
 const PAUSE: Duration = Duration::from_millis(20);
 const PAUSES: usize = 10;
 
+/// How often it is told that there are as many series as may be.
+const BETWEEN_TELLING: Duration = Duration::from_secs(60);
+
 /// How many senders are shown.
 pub const SHOWN: usize = 10;
 
@@ -42,6 +46,8 @@ pub struct Shares {
     rules: OnceLock<Rules>,
     buckets: Mutex<Buckets>,
     counted: Counted,
+    /// When it was told last that there are as many series as may be.
+    told: Mutex<Option<Instant>>,
 }
 
 /// Why a post has to wait.
@@ -53,6 +59,11 @@ pub enum Over {
     Series { sender: String, series: u64, most: u64 },
     #[error("over its share: {sender} may have {most} series, and this post alone has more new ones: drop an attribute, or raise its series=")]
     Alone { sender: String, most: u64 },
+    /// All senders together.
+    #[error("too many series: there are {all}, and at most {most}")]
+    All { all: u64, most: u64 },
+    #[error("too many series in a post: over {most}: post fewer series at a time")]
+    AllAlone { most: u64 },
 }
 
 /// Says what numbers of series stand for.
@@ -81,7 +92,8 @@ impl From<Over> for Outcome {
         match over {
             Over::Points { seconds, .. } => Outcome::Later { seconds, message },
             Over::Series { .. } => Outcome::Later { seconds: AGAIN, message },
-            Over::Alone { .. } => Outcome::Refused { status: 413, message },
+            Over::Alone { .. } | Over::AllAlone { .. } => Outcome::Refused { status: 413, message },
+            Over::All { .. } => Outcome::Refused { status: 503, message },
         }
     }
 }
@@ -147,9 +159,10 @@ impl Shares {
         let Some(rules) = self.rules.get() else {
             return Ok(claim);
         };
+        let new = self.new_beside_all(rules, points, &look).await?;
         if let Some(most) = self.most_series(rules, sender, points) {
-            claim.series = match self.counted.claim(sender, points, most) {
-                Ok(()) => points,
+            claim.series = match self.counted.claim(sender, new, most) {
+                Ok(()) => new,
                 Err(has) => self.claim_new(sender, most, has, look).await?,
             };
             claim.sender = sender.into();
@@ -165,6 +178,46 @@ impl Shares {
             (claim.points, claim.sender) = (cost, sender.into());
         }
         Ok(claim)
+    }
+
+    /// How many new series a post of so many points has at most. Where these may be too many beside those of all they are looked at.
+    async fn new_beside_all<F: Future<Output = Result<u64, Over>>>(
+        &self,
+        rules: &Rules,
+        points: u64,
+        look: &impl Fn() -> F,
+    ) -> Result<u64, Over> {
+        let most = rules.most_series;
+        let is_over = |all: u64, new: u64| new > 0 && all.saturating_add(new) > most;
+        if !is_over(self.counted.all(), points) {
+            return Ok(points);
+        }
+        let new = look().await?;
+        let all = self.counted.all();
+        match is_over(all, new) {
+            false => Ok(new),
+            true => {
+                self.tell_full();
+                Err(Over::All { all, most })
+            }
+        }
+    }
+
+    /// There is no room for a new series. Senders hear of it alone, and they may be deaf.
+    pub fn tell_full(&self) {
+        let mut told = locked(&self.told);
+        if told.is_some_and(|told| told.elapsed() < BETWEEN_TELLING) {
+            return;
+        }
+        *told = Some(Instant::now());
+        let (series_count, most) =
+            (self.counted.all(), self.rules.get().map_or(0, |rules| rules.most_series));
+        tracing::warn!(
+            series_count,
+            most,
+            "posts with new series are refused: there are {series_count} series, and --most-series is {most}; shorten \
+             --forget-series, drop an attribute, or raise --most-series"
+        );
     }
 
     /// How many series a sender may have, where it could come over that by a post of so many points. Of a service's a tenth is left
@@ -203,29 +256,27 @@ impl Shares {
     /// yet.
     pub fn look(&self, sender: &str, points: u64, series: Series, unflushed: u64) -> Result<u64, Over> {
         let Some(rules) = self.rules.get() else { return Ok(0) };
-        let Some(most) = self.most_series(rules, sender, points) else {
-            return Ok(0);
-        };
-        let alone = most.saturating_add(unflushed);
+        let own = self.most_series(rules, sender, points);
+        let alone = own.unwrap_or(rules.most_series).saturating_add(unflushed);
         let new = match series {
             Series::Numbered(names, numbers) => self.counted.new_of(&*rules.owned, &*names, numbers, alone),
             Series::Text(text) => others(&text, rules.profile, alone, |key| rules.owned.has(key)),
         };
-        match new > alone {
-            true => Err(Over::Alone { sender: sender.into(), most }),
-            false => Ok(new),
+        match own {
+            _ if new <= alone => Ok(new),
+            Some(most) => Err(Over::Alone { sender: sender.into(), most }),
+            None => Err(Over::AllAlone { most: rules.most_series }),
         }
     }
 
     /// A post is in the book, with so many series that were not there.
     pub fn came(&self, sender: &str, new_series: usize, series: impl FnOnce() -> Series) {
-        let Some(rules) = self.rules.get().filter(|_| new_series > 0) else {
+        if self.rules.get().is_none() || new_series == 0 {
             return;
-        };
-        let is_asked = self.most_series(rules, sender, 0).is_some();
-        let numbered = match is_asked.then(series) {
-            Some(Series::Numbered(names, numbers)) => Some((names, numbers)),
-            Some(Series::Text(_)) | None => None,
+        }
+        let numbered = match series() {
+            Series::Numbered(names, numbers) => Some((names, numbers)),
+            Series::Text(_) => None,
         };
         self.counted.add(sender, new_series as u64, numbered);
     }

@@ -178,6 +178,29 @@ async fn one_alone_may_have_all_series_and_leaves_a_tenth_once_others_have_some(
     assert_eq!(service.post("B", &names("b", 3)).await, Ok(()));
 }
 
+/// A book has room for many more, and the service's memory, pages and alerts are made for these.
+#[tokio::test]
+async fn all_senders_together_have_no_more_series_than_the_service() {
+    let service = service(Share::default());
+    let full = |all| Err::<(), _>(Over::All { all, most: 100 });
+    assert_eq!(service.post("A", &names("a", 101)).await, Err(Over::AllAlone { most: 100 }));
+    assert_eq!(service.post("A", &names("a", 85)).await, Ok(()));
+    assert_eq!(service.post("A", &names("more", 16)).await, full(85), "also of who is alone");
+    assert_eq!(service.post("B", &names("b", 10)).await, Ok(()));
+    for _ in 0..2 {
+        assert_eq!(service.post("C", &names("c", 6)).await, full(95));
+        assert_eq!(service.post("C", &[names("c", 5), names("d", 1)].concat()).await, full(95));
+        assert_eq!(service.post("A", &names("a", 85)).await, Ok(()), "what is there goes on");
+        assert_eq!(service.post("B", &names("b", 10)).await, Ok(()));
+        service.flush();
+    }
+    assert_eq!(service.post("C", &names("c", 5)).await, Ok(()));
+    assert_eq!(service.post("C", &[names("c", 5), names("d", 1)].concat()).await, full(100));
+    let told = Outcome::from(Over::All { all: 100, most: 100 });
+    let message = "too many series: there are 100, and at most 100".to_string();
+    assert_eq!(told, Outcome::Refused { status: 503, message });
+}
+
 #[tokio::test]
 async fn a_share_of_series_is_kept_to_between_two_flushes_too() {
     let service = of_series(5);
@@ -287,15 +310,15 @@ async fn points_of_what_is_not_taken_are_given_back() {
 #[tokio::test]
 async fn those_that_are_nearest_come_first() {
     let service = service(Share { series: Some(20), points: Some(1) });
-    for number in 0..15 {
+    for number in 0..12 {
         let sender = format!("s{number:02}");
         service.claim(&sender, &names("a", number)).await.unwrap().keep();
-        service.shares.came(&sender, 15 - number, || Series::Text(Bytes::new()));
+        service.shares.came(&sender, 12 - number, || Series::Text(Bytes::new()));
     }
     let nearest = service.shares.nearest();
     assert_eq!(nearest.len(), SHOWN);
-    assert_eq!((&*nearest[0].sender, nearest[0].series, nearest[0].most_series), ("s00", 15, Some(20)));
-    assert_eq!(nearest[0].part(), 0.75);
+    assert_eq!((&*nearest[0].sender, nearest[0].series, nearest[0].most_series), ("s00", 12, Some(20)));
+    assert_eq!(nearest[0].part(), 0.6);
     let last = nearest.iter().find(|used| used.sender == "s08").map(|used| used.most_points);
     assert_eq!(last, Some(Some(60)));
 }

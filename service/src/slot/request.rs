@@ -187,7 +187,10 @@ impl Slot {
         let has_earlier = book.has_earlier();
         drop(book);
         match refused {
-            Refused::TooManySeries => self.crowded.notify_one(),
+            Refused::TooManySeries => {
+                self.shares.tell_full();
+                self.crowded.notify_one();
+            }
             Refused::NoMemory if has_earlier => self.hurried.notify_one(),
             _ => {}
         }

@@ -31,7 +31,7 @@ fn refused(why: &str) -> (u16, String) {
 fn owners_and_frontiers_outlive_kills_and_other_numbers_of_books() {
     let place = Place::new();
     let senders: Vec<String> = (0..12).map(|number| format!("s{number}")).collect();
-    let runs = ["8000", "100000", "1", "1000000", "20000"];
+    let runs = ["8000", "100000", "13", "1000000", "20000"];
     for (run, most_series) in (0..).zip(runs) {
         let sink = format!("sqlite:{}", place.folder.path().join("sink.db").display());
         let mut service = place.serve_with(&["--most-series", most_series, "--sink", &sink]);
@@ -112,6 +112,29 @@ fn two_senders_at_once_never_share_a_series() {
     service.has_no_fault();
     assert_eq!(service.end(), Some(0));
     assert_eq!(place.totals(), wanted);
+}
+
+/// A book of the library has room for 10,000.
+#[test]
+fn there_are_no_more_series_than_may_be() {
+    let place = Place::new();
+    let service = place.serve_with(&["--sink", &place.sink(), "--most-series", "2000"]);
+    let names: Vec<String> = (0..2_100).map(|number| format!("n{number}")).collect();
+    let names: Vec<&str> = names.iter().map(String::as_str).collect();
+    let post = |names: &[&str], end| service.post("A", &points(names, end, 1)).unwrap();
+    for part in names[..2_000].chunks(500) {
+        assert_eq!(post(part, 100).0, 200);
+    }
+    let refused = post(&names[1_990..2_010], 110);
+    assert!(refused.0 == 503 && refused.1.contains("too many series"), "{refused:?}");
+    let log = place.log();
+    assert!(log.contains("--most-series is 2000"), "{log}");
+    for end in [110, 120] {
+        assert_eq!(post(&names[..2_000], end).0, 200, "what is there goes on");
+        service.drain();
+        assert_eq!((service.series(), post(&names[2_000..], 100).0), (2_000, 503));
+    }
+    assert_eq!(service.end(), Some(0));
 }
 
 /// A smaller number than the folder has series is refused by name, and changes nothing.
