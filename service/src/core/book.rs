@@ -189,7 +189,7 @@ impl Desk {
     /// Whether the round of one book was closed: it has something, and nothing is open or live in it.
     pub fn close_round(&mut self, book: usize) -> bool {
         // SAFETY: the handle is live and lent for this call alone.
-        memory::forwarding(|| unsafe { desk_close_round(&mut self.0, book, 1) })
+        memory::with_reserve(|| unsafe { desk_close_round(&mut self.0, book, 1) })
     }
 
     pub fn series(&mut self) -> usize {
@@ -208,7 +208,7 @@ impl Flushes {
     pub fn new() -> Option<Flushes> {
         // SAFETY: as of a reader.
         let call = |handle: &mut Handle| unsafe { flushes_new(handle) };
-        memory::forwarding(|| made(call)).map(Flushes)
+        memory::with_reserve(|| made(call)).map(Flushes)
     }
 
     /// Writes the request of one of them: its bytes can be copied then.

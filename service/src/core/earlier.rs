@@ -98,7 +98,7 @@ impl Book {
         let parts = std::mem::take(&mut read.stretches);
         let done = self.try_whole(read, parts.len()).and_then(|()| {
             parts.iter().enumerate().try_for_each(|(place, part)| {
-                let admitted = memory::forwarding(|| self.admit_part(read, part));
+                let admitted = memory::with_reserve(|| self.admit_part(read, part));
                 admitted.map_err(|refused| match place {
                     0 => refused,
                     _ => Refused::HalfTaken,

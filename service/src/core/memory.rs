@@ -2,7 +2,9 @@
 //! allocation is an answer; a killed process has to be restored.
 //!
 //! Posts are read and admitted below a lower bound than what was taken is forwarded by: what lies between the two is a
-//! reserve for that. So posts are refused, and nothing of them is kept, before a flush would find too little.
+//! reserve for that. So posts are refused, and nothing of them is kept, before a flush would find too little. A start puts in what
+//! was taken, so it has the reserve too. Posts that bring new series have a lower bound than others: else these would find nothing
+//! once senders have made as many series as there is memory for.
 
 use crate::work::locked;
 use std::cell::Cell;
@@ -16,10 +18,14 @@ const DRIFT: i64 = 128 << 10;
 const LEAST_RESERVE: u64 = 8 << 20;
 const RESERVE_OF_A_SERIES: u64 = 1 << 10;
 const TEXTS: u64 = 3;
+/// Posts of known series leave what it has without series, up to a quarter of all: by that it is forwarded in small parts. New series
+/// leave so large a part more.
+const PART_OF_KNOWN: u64 = 4;
 
 static USED: AtomicI64 = AtomicI64::new(0);
 static MOST: AtomicI64 = AtomicI64::new(i64::MAX);
 static MOST_OF_POSTS: AtomicI64 = AtomicI64::new(i64::MAX);
+static MOST_OF_NEW: AtomicI64 = AtomicI64::new(i64::MAX);
 /// Until one was written it may be as long.
 static LONGEST_TEXT: AtomicU64 = AtomicU64::new(4 << 20);
 /// How many series all books had when each was taken last. Locked while it is found what is kept back for them.
@@ -29,12 +35,33 @@ thread_local! {
     static OWN: Own = const { Own::new() };
 }
 
+/// What a call is for that asks for memory, by how much it may have.
+#[derive(Clone, Copy)]
+enum Purpose {
+    /// Admits a post that may bring new series.
+    NewSeries,
+    /// Reads a post, or admits one of known series.
+    Posts,
+    /// Forwards what was taken, or puts it in again.
+    Taken,
+}
+
+impl Purpose {
+    fn most(self) -> &'static AtomicI64 {
+        match self {
+            Purpose::NewSeries => &MOST_OF_NEW,
+            Purpose::Posts => &MOST_OF_POSTS,
+            Purpose::Taken => &MOST,
+        }
+    }
+}
+
 /// What a thread knows.
 struct Own {
     /// Not in the sum of all yet.
     drift: Cell<i64>,
-    /// Whether the call that is under way forwards what was taken.
-    forwards: Cell<bool>,
+    /// Of the call that is under way.
+    purpose: Cell<Purpose>,
     /// How many blocks it was refused.
     refusals: Cell<u64>,
     /// So many more are given; then one is refused, or all are.
@@ -48,7 +75,7 @@ impl Own {
     const fn new() -> Own {
         Own {
             drift: Cell::new(0),
-            forwards: Cell::new(false),
+            purpose: Cell::new(Purpose::Posts),
             refusals: Cell::new(0),
             #[cfg(test)]
             left: Cell::new(None),
@@ -66,11 +93,7 @@ impl Own {
             self.drift.set(drift);
             return true;
         }
-        let most = match self.forwards.get() {
-            true => &MOST,
-            false => &MOST_OF_POSTS,
-        };
-        let fits = fits(drift, most);
+        let fits = fits(drift, self.purpose.get().most());
         if fits {
             self.drift.set(0);
         }
@@ -151,10 +174,22 @@ pub(super) fn correct(counted: usize, has: usize) {
 }
 
 /// A call that may use up the reserve.
-pub(super) fn forwarding<T>(call: impl FnOnce() -> T) -> T {
-    let before = OWN.with(|own| own.forwards.replace(true));
+pub fn with_reserve<T>(call: impl FnOnce() -> T) -> T {
+    with_purpose(Purpose::Taken, call)
+}
+
+/// A call that may bring new series, unless it has the reserve.
+pub(super) fn with_new_series<T>(call: impl FnOnce() -> T) -> T {
+    match OWN.with(|own| own.purpose.get()) {
+        Purpose::Taken => call(),
+        _ => with_purpose(Purpose::NewSeries, call),
+    }
+}
+
+fn with_purpose<T>(purpose: Purpose, call: impl FnOnce() -> T) -> T {
+    let before = OWN.with(|own| own.purpose.replace(purpose));
     let done = call();
-    OWN.with(|own| own.forwards.set(before));
+    OWN.with(|own| own.purpose.set(before));
     done
 }
 
@@ -177,14 +212,16 @@ pub(super) struct Reserve {
 
 impl Reserve {
     /// Keeps back what it takes to forward so many series beside those of the others, by texts as long as those before, up to
-    /// half of all.
+    /// half of all. Posts of known series may have what it takes to forward many at once.
     pub fn be_for(&self, series: usize) {
         let mut all = locked(&SERIES);
         *all = *all + series as u64 - self.series.swap(series as u64, Relaxed);
         let most = MOST.load(Relaxed);
-        let wanted = LEAST_RESERVE + RESERVE_OF_A_SERIES * *all + TEXTS * LONGEST_TEXT.load(Relaxed);
-        let reserve = i64::try_from(wanted).unwrap_or(i64::MAX).min(most / 2);
-        MOST_OF_POSTS.store(most - reserve, Relaxed);
+        let least = LEAST_RESERVE + TEXTS * LONGEST_TEXT.load(Relaxed);
+        let wanted = least + least / PART_OF_KNOWN + RESERVE_OF_A_SERIES * *all;
+        let [least, reserve] = [least, wanted].map(|bytes| i64::try_from(bytes).unwrap_or(i64::MAX));
+        MOST_OF_NEW.store(most - reserve.min(most / 2), Relaxed);
+        MOST_OF_POSTS.store(most - least.min(most / 4), Relaxed);
     }
 }
 
@@ -254,7 +291,17 @@ mod tests {
     fn what_is_kept_back_is_for_the_series_of_all_books() {
         let least = LEAST_RESERVE + TEXTS * LONGEST_TEXT.load(Relaxed) + RESERVE_OF_A_SERIES * 3_010;
         let _books = [taken(3_000), taken(10)];
-        let kept = MOST.load(Relaxed) - MOST_OF_POSTS.load(Relaxed);
+        let kept = MOST.load(Relaxed) - MOST_OF_NEW.load(Relaxed);
         assert!(kept >= least as i64, "{kept} < {least}");
+    }
+
+    /// Else no post of them is taken once senders have made as many series as there is memory for.
+    #[test]
+    fn new_series_leave_memory_for_known_ones_and_these_for_what_is_taken() {
+        Reserve::default().be_for(0);
+        let most = || OWN.with(|own| own.purpose.get()).most().load(Relaxed);
+        let (posts, new, all) = (most(), with_new_series(most), with_reserve(|| with_new_series(most)));
+        assert!(new < posts && posts < all, "{new}, {posts}, {all}");
+        assert!(with_new_series(|| with_reserve(most)) == all && most() == posts);
     }
 }

@@ -25,7 +25,7 @@ pub use book::give_back as give_back_memory;
 #[cfg(test)]
 pub(crate) use book::{allocated, given_back};
 pub use flushed::Flushed;
-pub use memory::{bound as bound_memory, used as memory_used};
+pub use memory::{bound as bound_memory, used as memory_used, with_reserve};
 pub use names::Names;
 pub use read::Read;
 pub use readers::{free_idle_readers, free_spare_readers};
@@ -220,7 +220,11 @@ impl Book {
     /// A refused post counts as a taken one: in each other book it stays until the round is closed.
     fn ask_once(&mut self, read: &mut Read, part: Option<&Points>, call: Ask) -> Result<(), Refused> {
         let reader = read.reader.as_mut().ok_or(Refused::Nothing)?;
-        let asked = check(call(&mut self.desk, reader));
+        let mut call = || call(&mut self.desk, reader);
+        let asked = check(match read.is_of_known_series {
+            true => call(),
+            false => memory::with_new_series(call),
+        });
         self.rounds.count(part.map_or(read.points, |part| part.count() as u64));
         if asked.is_err() {
             self.rounds.count_refused(read.bytes());
@@ -267,6 +271,14 @@ impl Book {
             texts.extend(self.write(Flushed::of(flushes, count))?);
         }
         self.earlier.first = None;
+        Ok(())
+    }
+
+    /// The same where a post finds no memory that has to be put in: rounds are closed too.
+    pub fn make_room(&mut self, texts: &mut Vec<Vec<u8>>) -> Result<(), Refused> {
+        self.close_rounds();
+        self.write_all(texts)?;
+        self.close_rounds();
         Ok(())
     }
 

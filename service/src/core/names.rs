@@ -230,7 +230,7 @@ impl Names {
     /// A request that is not kept. A start that goes on without one has not what the series' run had come to, and the next point
     /// counts that again: so it may use up the reserve, and where there is none the process ends, as by any other want of memory.
     fn unkept_text(&self, number: u64) -> Vec<u8> {
-        let asked = || memory::forwarding(|| text_of(&mut self.handle(), number));
+        let asked = || memory::with_reserve(|| text_of(&mut self.handle(), number));
         let mut text = asked();
         if text == Err(Refused::NoMemory) {
             free_spare_readers();

@@ -32,6 +32,7 @@ pub struct Read {
     ends: Option<(u64, u64)>,
     /// Its points by number where they are of several stretches, apart.
     pub(super) stretches: Vec<Points>,
+    pub(super) is_of_known_series: bool,
 }
 
 impl Read {
@@ -41,7 +42,20 @@ impl Read {
             Body::Points(_) => None,
         };
         let (left_out, ends, stretches) = (post.foreign, None, Vec::new());
-        Read { reader: None, source, books, across, post, names, points: 0, left_out, ends, stretches }
+        let (reader, points, is_of_known_series) = (None, 0, false);
+        Read {
+            reader,
+            source,
+            books,
+            across,
+            post,
+            names,
+            points,
+            left_out,
+            ends,
+            stretches,
+            is_of_known_series,
+        }
     }
 
     /// A post in protobuf as it came. Its points have no numbers.
@@ -85,6 +99,12 @@ impl Read {
         self.ends = ends.map(|ends| (ends.number, ends.at));
         self.split();
         Ok(())
+    }
+
+    /// The same of one whose series the book has all: it may use what is kept back for such posts.
+    pub fn parse_with_known_series(&mut self) -> Result<(), Refused> {
+        self.is_of_known_series = true;
+        self.be_read()
     }
 
     /// Has points that were read from a body have numbers by these names: the journal keeps these, and those of a series are in

@@ -6,6 +6,9 @@
 //! before. Then it gets the posts in the journal's order, which was the order of the book that is gone, but for those of
 //! quarantined senders, which come last.
 //!
+//! All of it was taken before, so it may use up the reserve of memory, and where that is too little what the book has is written
+//! under way. Where all is too little nothing is lost: the keeper says so, and the slot takes no posts.
+//!
 //! What comes is read side by side, on threads that last as long as it does, and goes in one after the other. So are the series
 //! that the journal names, ahead of that. Posts of one sender go in together, as one (`again`): each of its series has its points
 //! in their order all the same, and a call of the book costs as much as many points.
@@ -16,7 +19,7 @@ mod said;
 
 use super::numbers::{Numbers, Own};
 use super::Trouble;
-use crate::core::{free_spare_readers, Book, Read, Refused};
+use crate::core::{free_spare_readers, with_reserve, Book, Read, Refused};
 use crate::files::{Body, Outbox, Post};
 use crate::runs::State;
 use crate::slot::Slot;
@@ -130,10 +133,12 @@ impl<S: Fn() -> bool> Filling<'_, S> {
         let Filling { numbers, fresh, stops } = self;
         let slot = fresh.slot;
         in_order(
-            |coming: &mut Coming| coming.iter_mut().for_each(Again::be_read),
-            |coming| match coming {
-                Some(again) => fresh.replay(again, admit),
-                None => fresh.make_room(),
+            |coming: &mut Coming| with_reserve(|| coming.iter_mut().for_each(Again::be_read)),
+            |coming| {
+                with_reserve(|| match coming {
+                    Some(again) => fresh.replay(again, admit),
+                    None => fresh.make_room(),
+                })
             },
             |queue| {
                 let own = numbers.own.clone();
@@ -234,7 +239,7 @@ impl Fresh<'_> {
     /// A fresh book has a point more of each series than the one before, so a limit may be met a little sooner.
     fn make_room(&mut self) -> Result<(), Trouble> {
         free_spare_readers();
-        self.book.write_all(&mut self.filled.carried).map_err(not_taken)
+        self.book.make_room(&mut self.filled.carried).map_err(not_taken)
     }
 
     fn quarantine(&mut self, held: &BTreeSet<String>) -> Result<(), Trouble> {
@@ -256,19 +261,21 @@ impl Fresh<'_> {
 
 fn not_filled(outbox: &Outbox, sender: &str, refused: Refused) -> Trouble {
     let series = outbox.series_count();
-    let help = match refused {
-        Refused::TooManySeries => "give a greater --most-series",
-        Refused::NoMemory | Refused::HalfTaken => "give a greater --book-memory",
-        _ => "the log of the run before may say more",
-    };
-    Trouble::NotFilled(format!(
+    let why = format!(
         "the book does not take what the folder has, {series} series and the posts of its journal: {refused}, at a post of \
-         {sender}. Nothing is changed or lost: {help}"
-    ))
+         {sender}. Nothing is changed or lost"
+    );
+    match refused {
+        Refused::NoMemory | Refused::HalfTaken => {
+            Trouble::NoMemoryToFill(format!("{why}: give a greater --book-memory"))
+        }
+        Refused::TooManySeries => Trouble::NotFilled(format!("{why}: give a greater --most-series")),
+        _ => Trouble::NotFilled(format!("{why}: the log of the run before may say more")),
+    }
 }
 
 fn not_taken(refused: Refused) -> Trouble {
-    Trouble::NotFilled(format!(
+    Trouble::NoMemoryToFill(format!(
         "what the book has can't be taken of it: {refused}. Nothing is lost: give a greater --book-memory"
     ))
 }

@@ -104,7 +104,7 @@ fn renew<T>(slot: &Arc<Slot>, change: impl FnOnce(&Slot) -> Result<T, Fault>) ->
 /// The book and the runs know otherwise than the files: only a start has both alike.
 fn not_filled(trouble: Trouble) -> Trouble {
     match trouble {
-        Trouble::NotFilled(why) => Trouble::NotFilled(format!(
+        Trouble::NotFilled(why) | Trouble::NoMemoryToFill(why) => Trouble::NotFilled(format!(
             "what is known of series was changed, and no fresh book could be filled, so the service ends: the next start fills one \
              ({why})"
         )),

@@ -3,7 +3,7 @@
 //! One task does all of this, one after the other: `run` waits for what is to be done, `checkpoint` moves what the book
 //! has to the outbox, `forget` leaves out series or puts their ends back, `fill` gives a fresh book what the files say, `owners`
 //! finds whose series these are, `series` says which ones a post has, `numbers` gives them numbers for the book, `drain` brings
-//! all into the outbox, `rest` gives back memory where nobody posts. What takes long is done on threads beside the runtime's.
+//! all into the outbox, `rest` gives back memory where nobody posts, `unfilled` waits where a start has too little memory. What takes long is done on threads beside the runtime's.
 
 mod checkpoint;
 mod drain;
@@ -15,6 +15,7 @@ mod owners;
 mod rest;
 mod run;
 mod series;
+mod unfilled;
 
 pub use fill::Priming;
 pub(crate) use run::settle;
@@ -86,6 +87,9 @@ pub enum Trouble {
     /// A fresh book does not take what the files have.
     #[error("{0}")]
     NotFilled(String),
+    /// The same, for want of memory.
+    #[error("{0}")]
+    NoMemoryToFill(String),
 }
 
 impl From<Fault> for Trouble {

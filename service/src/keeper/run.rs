@@ -45,8 +45,16 @@ impl Keeper {
 
     async fn serve(&mut self, stop: &mut watch::Receiver<bool>) -> Result<(), Trouble> {
         self.begin().await?;
-        if !self.start(stop).await? {
-            return Ok(());
+        match self.start(stop).await {
+            // Of a store another instance may have more.
+            Err(Trouble::NoMemoryToFill(why)) if !self.slot.journal.is_in_store() => {
+                return self.stay_unfilled(&why, stop).await;
+            }
+            started => {
+                if !started? {
+                    return Ok(());
+                }
+            }
         }
         self.slot.open();
         let mut looks = tokio::time::interval(LOOK);

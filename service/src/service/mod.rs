@@ -130,7 +130,7 @@ impl From<Trouble> for Ended {
         match trouble {
             Trouble::File(fault) => Ended::Disk(fault),
             Trouble::NoMemory => Ended::NoMemory(trouble.to_string()),
-            Trouble::Broken(_) | Trouble::NotFilled(_) | Trouble::Lost(_) => {
+            Trouble::Broken(_) | Trouble::NotFilled(_) | Trouble::NoMemoryToFill(_) | Trouble::Lost(_) => {
                 Ended::Other(anyhow!("{trouble}"))
             }
         }

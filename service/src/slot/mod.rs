@@ -33,6 +33,8 @@ use tokio::sync::Notify;
 
 /// What is kept free of the disk is all that is left of it.
 pub const NO_ROOM: &str = "no room for the journal";
+/// Until there is a new start nothing is taken.
+pub const UNFILLED: &str = "no memory: the book does not take what the journal has";
 /// Another instance has the slot, or will have it in a moment.
 pub const MOVED: &str = "this slot is being moved";
 /// A call of the disk takes long.
@@ -165,6 +167,7 @@ impl Slot {
     pub fn unavailable(&self) -> Option<&'static str> {
         match self.phase() {
             Phase::Recovering => Some("recovering"),
+            Phase::Unfilled => Some(UNFILLED),
             Phase::Stopping => Some("stopping"),
             Phase::Lost => Some(MOVED),
             // Before its room, for which the disk is asked.
@@ -221,6 +224,11 @@ impl Slot {
     /// Takes posts from now on, unless the service is ending.
     pub(crate) fn open(&self) {
         self.phases.go_on(Phase::Serving);
+    }
+
+    /// Takes none.
+    pub(crate) fn stay_unfilled(&self) {
+        self.phases.go_on(Phase::Unfilled);
     }
 
     /// Takes none any more.

@@ -8,6 +8,8 @@ use std::sync::atomic::{AtomicU8, Ordering::SeqCst};
 pub(crate) enum Phase {
     /// The book has not all accepted posts yet.
     Recovering,
+    /// It never has: there is too little memory.
+    Unfilled,
     Serving,
     /// The service is ending: nothing is taken any more.
     Stopping,
@@ -25,7 +27,7 @@ impl Phases {
 
     pub fn now(&self) -> Phase {
         let byte = self.0.load(SeqCst);
-        let others = [Phase::Recovering, Phase::Serving, Phase::Stopping];
+        let others = [Phase::Recovering, Phase::Unfilled, Phase::Serving, Phase::Stopping];
         others.into_iter().find(|phase| *phase as u8 == byte).unwrap_or(Phase::Lost)
     }
 

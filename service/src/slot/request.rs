@@ -8,6 +8,7 @@ use super::verdict::Journalled;
 use super::{is_sender, Phase, Request, Slot, MOVED, NO_ROOM};
 use crate::core::{Locked, Read, Refused};
 use crate::files::{Body, Lost, FAILED};
+use crate::otlp::series::{self, Profile, SeriesKey};
 use crate::otlp::{Outcome, Reading, Window};
 use crate::shares::{Claim, Over, Series};
 use crate::work::blocking;
@@ -146,8 +147,31 @@ impl Slot {
         }
     }
 
-    /// The same, and why the book refused it: also since what is in flight has to land first.
+    /// The same, and why the book refused it: also since what is in flight has to land first. Senders may have made as many series as
+    /// there is memory for: then posts that bring none go on.
     pub(super) fn put(&self, posted: &mut Posted) -> Result<Result<Put, Refused>, &'static str> {
+        let put = self.put_once(posted)?;
+        let has_no_memory = matches!(put, Err(Refused::NoMemory));
+        if has_no_memory && self.has_series_of(&posted.read) && posted.read.parse_with_known_series().is_ok()
+        {
+            return self.put_once(posted);
+        }
+        Ok(put)
+    }
+
+    /// Whether all series of a post were in a flush.
+    fn has_series_of(&self, read: &Read) -> bool {
+        let is_known = |series: &SeriesKey| self.outbox.frontier(&series.digest()) > 0;
+        match series_of(read)() {
+            Series::Numbered(names, numbers) => {
+                let of = |number: u64| series::only(&names.text(number));
+                numbers.into_iter().all(|number| of(number).is_some_and(|series| is_known(&series)))
+            }
+            Series::Text(text) => series::others(&text, Profile::Deltas, 0, is_known) == 0,
+        }
+    }
+
+    fn put_once(&self, posted: &mut Posted) -> Result<Result<Put, Refused>, &'static str> {
         // Others may have come through the door at once.
         let Some(_reserved) = self.free_space.reserve(posted.read.bytes()) else {
             return Err(NO_ROOM);
@@ -234,8 +258,6 @@ fn unavailable(why: &str) -> Outcome {
 #[cfg(test)]
 mod tests {
     use super::*;
-    use crate::otlp::series::SeriesKey;
-    use crate::otlp::Profile;
     use crate::shares::{Owned, Rules, Share};
     use crate::slot::Shared;
     use crate::work::Readers;

@@ -137,6 +137,46 @@ fn there_are_no_more_series_than_may_be() {
     assert_eq!(service.end(), Some(0));
 }
 
+/// What ran starts: else all its senders are refused until an operator comes, and nothing is delivered.
+#[test]
+fn a_service_whose_book_was_full_starts_again_as_it_was() {
+    let place = Place::new();
+    let sink = place.sink();
+    let words = ["--sink", &sink, "--most-series", "20000", "--book-memory", "64MiB"];
+    let mut service = place.serve_with(&words);
+    let long = "x".repeat(400);
+    let body = |part: usize, end| {
+        let names: Vec<String> = (0..500).map(|number| format!("n{part}.{number}{long}")).collect();
+        points(&names.iter().map(String::as_str).collect::<Vec<_>>(), end, 1)
+    };
+    let mut parts = 0;
+    let why = loop {
+        match service.post("A", &body(parts, 100)).unwrap() {
+            (200, _) => parts += 1,
+            other => break other,
+        }
+    };
+    assert!(parts > 5 && why.0 == 503 && why.1.contains("no memory"), "{parts}: {why:?}");
+    for run in 1..=3 {
+        match run % 2 {
+            1 => service.kill(),
+            _ => assert_eq!(service.end(), Some(0)),
+        }
+        service = place.serve_with(&words);
+        for part in (0..parts).step_by(7) {
+            let answer = service.post_until_answered("A", &body(part, 100 + 10 * run));
+            assert_eq!(answer.0, 200, "{run}, {part}: {answer:?}");
+        }
+    }
+    service.drain();
+    service.has_no_fault();
+    assert_eq!(service.end(), Some(0));
+    let totals = place.totals();
+    assert_eq!(totals.len(), 500 * parts);
+    let wanted = |part: usize| if part % 7 == 0 { 4 } else { 1 };
+    assert!((0..parts).all(|part| totals[&format!("n{part}.0{long}")] == wanted(part)));
+}
+
 /// A smaller number than the folder has series is refused by name, and changes nothing.
 #[test]
 fn a_folder_with_more_series_than_fit_is_refused_by_name() {

@@ -32,7 +32,7 @@ pub(super) fn asked(call: impl FnOnce(&mut Answer)) -> Answer {
 
 /// The same of one that may use up the reserve.
 pub(super) fn forwarded(call: impl FnOnce(&mut Answer)) -> Answer {
-    memory::forwarding(|| asked(call))
+    memory::with_reserve(|| asked(call))
 }
 
 /// Makes a call that writes to a slice, and once more where it says how long that has to be. `out` is what it has written.

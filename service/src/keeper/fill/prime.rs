@@ -3,7 +3,7 @@
 use super::super::numbers::Own;
 use super::super::Trouble;
 use super::{not_filled, not_taken};
-use crate::core::{free_spare_readers, Book, Core, Read, Refused};
+use crate::core::{free_spare_readers, with_reserve, Book, Core, Read, Refused};
 use crate::files::{Outbox, Owned};
 use crate::otlp::series::{zeros, NotForwarded};
 use crate::work::in_order;
@@ -91,8 +91,8 @@ pub(super) fn prime(
     // In the order of their keys: so neighbours share most, and each goes behind those that a book has, or near their end.
     let of = &outbox.owned();
     in_order(
-        |part: &mut Part| part.be_read(core, noted),
-        |part| part.put(core, outbox, book, noted),
+        |part: &mut Part| with_reserve(|| part.be_read(core, noted)),
+        |part| with_reserve(|| part.put(core, outbox, book, noted)),
         |queue| {
             for (owner, series) in &of.all {
                 let mut parts = series.chunks(SERIES_OF_A_POST);

@@ -2,6 +2,7 @@
 
 use super::super::numbers::{Number, Own};
 use super::super::Trouble;
+use crate::core::with_reserve;
 use crate::files::{Body, Post, Replayed};
 use crate::slot::Slot;
 use crate::work::in_order;
@@ -32,8 +33,8 @@ pub(super) fn said(
     mut each: impl FnMut(Vec<Said>) -> bool + Send,
 ) -> Result<(), Trouble> {
     let given = in_order(
-        |part: &mut Part| part.be_named(own),
-        |part| each(part.posts).then_some(()).ok_or(None),
+        |part: &mut Part| with_reserve(|| part.be_named(own)),
+        |part| with_reserve(|| each(part.posts)).then_some(()).ok_or(None),
         |queue| {
             let mut part = Part::default();
             let read = slot.journal.posts(slot.outbox.journal(), u64::MAX, |read| {

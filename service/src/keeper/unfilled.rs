@@ -1,0 +1,34 @@
+//! A slot of a folder whose book could not be filled at the start, for want of memory: what is in the outbox is delivered and shown,
+//! posts and orders are answered 503. The service before it took what the journal has, so one that ended here would keep all
+//! deliveries waiting for an operator.
+
+use super::{not_now, Keeper, Trouble};
+use crate::core::Refused;
+use crate::latch::Latch;
+use crate::work::blocking;
+use tokio::sync::watch;
+
+impl Keeper {
+    /// Returns once it is told to stop. The journal stays as it is.
+    pub(super) async fn stay_unfilled(
+        &mut self,
+        why: &str,
+        stop: &mut watch::Receiver<bool>,
+    ) -> Result<(), Trouble> {
+        self.slot.stay_unfilled();
+        let slot = self.slot.number();
+        tracing::error!(slot, why, "slot {slot} takes no posts until the service is started anew: {why}");
+        loop {
+            tokio::select! {
+                biased;
+                lost = self.slot.journal.lost() => return Err(lost.into()),
+                () = stop.wait_true() => return Ok(()),
+                Some((_, to)) = self.orders.recv() => {
+                    let outbox = self.slot.outbox.clone();
+                    blocking(move || outbox.settle()).await?;
+                    let _ = to.send(not_now(Refused::NoMemory)); // who ordered it may not wait any more
+                }
+            }
+        }
+    }
+}
