@@ -173,7 +173,7 @@ fn a_service_whose_book_was_full_starts_again_as_it_was() {
     assert_eq!(service.end(), Some(0));
     let totals = place.totals();
     assert_eq!(totals.len(), 500 * parts);
-    let wanted = |part: usize| if part % 7 == 0 { 4 } else { 1 };
+    let wanted = |part: usize| if part.is_multiple_of(7) { 4 } else { 1 };
     assert!((0..parts).all(|part| totals[&format!("n{part}.0{long}")] == wanted(part)));
 }
 
