@@ -31,7 +31,7 @@ pub struct Run {
 }
 
 /// The run before, of which a repeat may still come. Zeros if there was none.
-#[derive(Clone, Copy, Debug, Default, PartialEq, Eq, Serialize, Deserialize)]
+#[derive(Clone, Copy, Debug, Default, PartialEq, Eq)]
 pub struct EndedRun {
     pub start: u64,
     /// Of its last point.

@@ -60,18 +60,19 @@ fn row(key: SeriesKey, series: &Series) -> Row<&str> {
 /// The run of a series: its id, its start, how far its frontier is after the last point, that point's words, its interval, and
 /// start and last time of the run before.
 #[derive(Serialize, Deserialize)]
-pub struct RunRow(pub u32, u64, u64, Vec<u64>, u64, EndedRun);
+pub struct RunRow(pub u32, u64, u64, Vec<u64>, u64, (u64, u64));
 
 impl RunRow {
     pub fn of(id: u32, frontier: u64, run: &Run) -> RunRow {
         let Run { last, interval, before } = run;
-        RunRow(id, last.start, frontier.wrapping_sub(last.time), last.words.clone(), *interval, *before)
+        let (after, before) = (frontier.wrapping_sub(last.time), (before.start, before.time));
+        RunRow(id, last.start, after, last.words.clone(), *interval, before)
     }
 
     pub fn run(self, frontier: u64) -> Arc<Run> {
         let RunRow(_, start, after, words, interval, before) = self;
-        let time = frontier.wrapping_sub(after);
-        Arc::new(Run { last: Point { start, time, words }, interval, before })
+        let last = Point { start, time: frontier.wrapping_sub(after), words };
+        Arc::new(Run { last, interval, before: EndedRun { start: before.0, time: before.1 } })
     }
 }
 

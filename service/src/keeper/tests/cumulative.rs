@@ -138,7 +138,7 @@ impl Plain {
 /// A sender's program.
 pub struct Program {
     pub sender: &'static str,
-    /// How long before the time of its first point it may have begun anew.
+    /// How long before its first point it may have begun anew, beside one.
     pub overlap: u64,
     start: u64,
     points: Vec<Point>,
@@ -149,13 +149,14 @@ impl Program {
     pub fn new(sender: &'static str) -> Program {
         let names = ["m", "u", "h"].map(|kind| format!("{kind}-{sender}"));
         let point = |name| Point { name, start: BEGIN, time: BEGIN, value: 0, all: 0 };
-        Program { sender, overlap: 1, start: BEGIN, points: names.map(point).into(), sent: Vec::new() }
+        Program { sender, overlap: 0, start: BEGIN, points: names.map(point).into(), sent: Vec::new() }
     }
 
     /// What it sends next; nothing where that is lost on its way.
     pub fn next(&mut self, now: u64, chance: &mut TestRandom) -> Option<Vec<Point>> {
         if chance.below(12) == 0 {
-            self.start = (now - 1 - chance.below(self.overlap)).max(self.start + 1);
+            let overlap = if self.overlap > 0 { chance.below(self.overlap) } else { 0 };
+            self.start = (now - 1 - overlap).max(self.start + 1);
             self.points.iter_mut().for_each(|point| (point.value, point.all) = (0, 0));
         }
         for point in &mut self.points {
