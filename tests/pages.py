@@ -172,7 +172,7 @@ def look_at_overview(checks: Checks, page: Page, how: str) -> None:
     checks.same(f"{how}: refusals are by sender and status, with their counts", wanted, refused)
     checks.true(f"{how}: each says what to do", all(row[-1] for row in page.rows_of("Refused posts")), page.rows_of("Refused posts"))
     foreign = {tuple(row[:3]) for row in page.rows_of("Points not taken")}
-    checks.same(f"{how}: points not taken are by sender and cause", {("shop-2", "gauge", "3"), ("shop-2", "cumulative-sum", "2")}, foreign)
+    checks.same(f"{how}: points not taken are by sender and cause", {("shop-2", "gauge", "3"), ("shop-2", "cumulative_sum", "2")}, foreign)
     senders = {row[0]: row[2:] for row in page.rows_of("Senders, by their last post")}
     checks.same(f"{how}: senders have their posts", {"shop-1": ["10", "1"], "shop-2": ["3", "0"], "thief": ["0", "1"],
                 "- (who names none)": ["0", "2"]}, senders)

@@ -17,11 +17,11 @@ pub use internal::Internal;
 pub use operators::{Answers, Asks};
 pub use peer::{Unanswering, CONNECTIONS};
 
-use super::local_view::{Cluster, Places, NO_STORE};
+use super::local_view::{Cluster, Places};
 use super::owners::Whose;
 use super::terms::Doing;
 use crate::log::RateLimit;
-use crate::otlp::{Original, Outcome};
+use crate::otlp::{Original, Outcome, Reason};
 use crate::slot::Elsewhere;
 use crate::tls::Tls;
 use crate::work::locked;
@@ -52,11 +52,6 @@ const LONGEST: Duration = Duration::from_millis(400);
 const CONNECT: Duration = Duration::from_secs(3);
 /// Shorter than an idle connection is kept at the other end.
 const IDLE: Duration = Duration::from_secs(20);
-
-/// Why a post is 503 that may have been taken.
-pub const BROKEN: &str = "the instance that has the slot of this post has given no answer";
-/// Why one is that was not.
-pub const MOVED: &str = "the slot of this post is being moved";
 
 static TOLD: RateLimit = RateLimit::every(Duration::from_secs(10));
 
@@ -128,7 +123,7 @@ impl<H: Here> Forward<H> {
     /// database that has the slot does not answer.
     pub async fn post(&self, slot: u16, sender: &str, part: Original) -> Outcome {
         if self.cluster.is_stalled_for(slot) {
-            return unavailable(NO_STORE);
+            return Reason::StoreSilent.into();
         }
         let (began, mut asked, mut pause) = (Instant::now(), 0, SHORTEST);
         let mut places = self.cluster.places();
@@ -154,7 +149,7 @@ impl<H: Here> Forward<H> {
                 return outcome;
             }
             if began.elapsed() >= LOOKED_FOR || asked >= MOST_ASKED {
-                return unavailable(MOVED);
+                return Reason::OwnerChanges.into();
             }
             self.cluster.look();
             let until = Instant::now() + pause;
@@ -208,7 +203,7 @@ impl<H: Here> Forward<H> {
             let address = peer.address.as_str();
             tracing::warn!(address, reason, "the instance at {address} has not answered for 10 s: {reason}");
         }
-        Some(unavailable(BROKEN))
+        Some(Reason::OwnerSilent.into())
     }
 
     /// None where it says that the slot is not its own.
@@ -223,8 +218,8 @@ impl<H: Here> Forward<H> {
 }
 
 impl<H: Here> Elsewhere for Forward<H> {
-    fn unavailable(&self) -> Option<&'static str> {
-        self.cluster.is_stalled().then_some(NO_STORE)
+    fn unavailable(&self) -> Option<Reason> {
+        self.cluster.is_stalled().then_some(Reason::StoreSilent)
     }
 
     fn is_silent(&self, slot: u16) -> bool {
@@ -256,10 +251,6 @@ enum Broken {
 /// How long so many bytes may be.
 fn on_the_way(bytes: usize) -> Duration {
     Duration::from_secs_f64(bytes as f64 / SLOWEST as f64)
-}
-
-fn unavailable(why: &str) -> Outcome {
-    Outcome::Refused { status: 503, message: why.into() }
 }
 
 #[cfg(test)]

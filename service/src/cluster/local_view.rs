@@ -17,8 +17,6 @@ use tokio::time::Instant;
 /// After so long without a committed beat of its own an instance takes no posts of the slots that are there. It need not do
 /// so, it spares senders time.
 pub const STALL: Duration = Duration::from_secs(2);
-/// Why posts are 503 then.
-pub const NO_STORE: &str = "the store does not answer";
 /// How much of a reason the others are told, in characters.
 const REASON_SHOWN: usize = 500;
 

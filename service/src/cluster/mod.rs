@@ -14,7 +14,7 @@ pub mod terms;
 
 pub use beats::Beats;
 pub use forward::{Answers, Asks, Forward, Forwarded, Here, Internal, Secret, Unanswering};
-pub use local_view::{Cluster, NO_STORE};
+pub use local_view::Cluster;
 pub use owners::{Refusal, Whose};
 pub use status::Status;
 

@@ -6,7 +6,7 @@ use super::terms::{Doing, Units, Unopened};
 use super::*;
 use crate::intake::connections::serve;
 use crate::intake::Limits;
-use crate::otlp::{Encoding, Original, Outcome};
+use crate::otlp::{Encoding, Original, Outcome, Reason};
 use bytes::Bytes;
 use std::collections::{BTreeMap, BTreeSet, HashMap};
 use std::sync::atomic::{AtomicBool, AtomicUsize, Ordering::SeqCst};
@@ -140,11 +140,11 @@ impl Here for Open {
                 sleep(Duration::from_millis(number % 7)).await;
                 slots.sync(slot, term)
             });
-            let refused = |status| Outcome::Refused { status, message: "said".into() };
+            let refused = |reason| Outcome::refused(reason, "said");
             Some(match (writing.await.unwrap(), is_new) {
-                (false, _) => refused(503),
+                (false, _) => refused(Reason::Full),
                 (true, true) => Outcome::taken(0),
-                (true, false) => refused(400),
+                (true, false) => refused(Reason::OutOfOrder),
             })
         })
     }

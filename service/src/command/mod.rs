@@ -312,7 +312,7 @@ mod tests {
             ("dead resend", "<KEY>"),
             ("dead resend 0-a-1 --all", "--all"),
             ("serve --data d --log-json=x", "--log-json"),
-            ("serve --data d --expect-foreign gauge,gouge", "up-down-counter"),
+            ("serve --data d --expect-foreign gauge,gouge", "up_down_counter"),
         ] {
             let error =
                 Line::try_parse_from([&["totxegun"], &words.split(' ').collect::<Vec<_>>()[..]].concat());

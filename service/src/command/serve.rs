@@ -14,13 +14,14 @@ use crate::files::Durability;
 use crate::identity;
 use crate::log;
 use crate::metrics::Metrics;
-use crate::otlp::Cause;
+use crate::otlp::Reason;
 use crate::pass::Pass;
 use crate::post_reports::ReportOptions;
 use crate::runs;
 use crate::service::{self, init, Operate, Settings};
 use crate::sinks::{header_of, Address};
 use anyhow::{anyhow, bail, Context};
+use clap::builder::{PossibleValuesParser, TypedValueParser};
 use clap::{value_parser, Args, CommandFactory};
 use std::path::{Path, PathBuf};
 use std::sync::Arc;
@@ -94,8 +95,8 @@ pub struct Options {
     #[arg(long, env = "TOTXEGUN_LOG_FOREIGN", value_name = "N", default_value_t = 0, value_parser = value_parser!(u32).range(..=1000))]
     log_foreign: u32,
     /// What is meant to be left out, and so is counted by itself and not alerted on
-    #[arg(long, env = "TOTXEGUN_EXPECT_FOREIGN", value_name = "CAUSE", value_delimiter = ',', value_enum)]
-    expect_foreign: Vec<Cause>,
+    #[arg(long, env = "TOTXEGUN_EXPECT_FOREIGN", value_name = "CAUSE", value_delimiter = ',', value_parser = causes())]
+    expect_foreign: Vec<Reason>,
     /// Hands points that are outside the profile to another OTLP receiver, http://HOST:PORT, at most once: so they are no fault
     #[arg(long, env = "TOTXEGUN_PASS", value_name = "ADDRESS")]
     pass: Option<String>,
@@ -339,6 +340,12 @@ fn raise_open_files() -> u64 {
         true => hard,
         false => soft,
     }
+}
+
+/// Reasons of points, by their labels.
+fn causes() -> impl TypedValueParser<Value = Reason> {
+    let labels = PossibleValuesParser::new(Reason::of_points().map(Reason::label));
+    labels.try_map(|label| Reason::labelled(&label).ok_or("no such cause"))
 }
 
 #[cfg(test)]

@@ -5,8 +5,8 @@ mod cluster;
 use super::{table::Table, values};
 use crate::files::Held;
 use crate::operate::{held, quarantined, CumulativeStatus, RoundedStatus, SlotStatus, Status, Stock};
+use crate::otlp::Reason;
 use crate::shares::Used;
-use crate::slot::{NO_ANSWER, NO_ROOM};
 
 pub fn text(status: &Status) -> String {
     let how = if status.ready { "ready" } else { "not ready" };
@@ -109,8 +109,8 @@ fn shares(senders: &[Used]) -> String {
 fn unavailable(status: &Status) -> Option<String> {
     let why = status.unavailable.as_deref()?;
     Some(match why {
-        NO_ROOM => format!("{why}: make room on the disk of {}", status.data),
-        NO_ANSWER => format!("{why}: look at the disk of {}", status.data),
+        why if why == Reason::NoRoom.text() => format!("{why}: make room on the disk of {}", status.data),
+        why if why == Reason::DiskSilent.text() => format!("{why}: look at the disk of {}", status.data),
         why => why.to_string(),
     })
 }
@@ -235,13 +235,13 @@ mod tests {
         let mut told = status(&[]);
         begins(&told, "totxegun 0        ready, up 2 s, process 1\nsenders post to");
         told.ready = false;
-        told.unavailable = Some(NO_ROOM.into());
+        told.unavailable = Some(Reason::NoRoom.text().into());
         begins(
             &told,
             "totxegun 0        not ready, up 2 s, process 1\n\
              posts get 503     no room for the journal: make room on the disk of /data\n",
         );
-        told.unavailable = Some(NO_ANSWER.into());
+        told.unavailable = Some(Reason::DiskSilent.text().into());
         begins(
             &told,
             "totxegun 0        not ready, up 2 s, process 1\n\

@@ -1,6 +1,7 @@
 //! What the book says no by: the numbers of the library, each with its text and the HTTP status of its answer.
 
 use super::book::Answer;
+use crate::otlp::{Outcome, Reason, RejectedPoint, Rejection};
 use thiserror::Error;
 
 /// Why the book did not do what it was asked. Nothing has changed then.
@@ -80,18 +81,32 @@ pub(super) fn check(answer: Answer) -> Result<Answer, Refused> {
 }
 
 impl Refused {
-    /// Of the answer to a sender.
-    pub fn status(self) -> u16 {
+    /// As a sender is told, or who gives an order.
+    fn reason(self) -> Reason {
         match self {
-            Refused::Quarantined => 403,
-            Refused::Full | Refused::TooManySeries | Refused::TooLarge | Refused::NoMemory => 503,
-            Refused::Unknown(_) | Refused::Nothing | Refused::NoSuch | Refused::NotEnded => 503,
-            Refused::NotOne | Refused::InFlight | Refused::HalfTaken => 503,
-            Refused::OtherWriter { .. } | Refused::OutOfOrder { .. } => 400,
-            Refused::TooManyHours { .. } | Refused::LongSeries => 413,
-            Refused::BadSender | Refused::NotJson | Refused::WrongShape => 400,
-            Refused::AlreadyQuarantined | Refused::NotQuarantined => 400,
+            Refused::Quarantined => Reason::Quarantined,
+            Refused::Full => Reason::Full,
+            Refused::OtherWriter { .. } => Reason::OtherWriter,
+            Refused::OutOfOrder { .. } => Reason::OutOfOrder,
+            Refused::TooManySeries => Reason::TooManySeries,
+            Refused::TooLarge => Reason::TooLarge,
+            Refused::NoMemory => Reason::NoMemory,
+            Refused::BadSender => Reason::BadSender,
+            Refused::NotJson => Reason::NotJson,
+            Refused::WrongShape => Reason::WrongShape,
+            Refused::TooManyHours { .. } => Reason::TooManyHours,
+            Refused::LongSeries => Reason::TooLongSeries,
+            Refused::AlreadyQuarantined => Reason::AlreadyQuarantined,
+            Refused::NotQuarantined => Reason::NotQuarantined,
+            // Nobody is answered so.
+            Refused::Nothing | Refused::NoSuch | Refused::NotEnded | Refused::NotOne => Reason::Fault,
+            Refused::InFlight | Refused::HalfTaken | Refused::Unknown(_) => Reason::Fault,
         }
+    }
+
+    /// The status of HTTP.
+    pub fn status(self) -> u16 {
+        self.reason().status()
     }
 
     /// The same of a point that has another place for who hears of it.
@@ -106,6 +121,18 @@ impl Refused {
     /// Whether the same may be taken once a round is closed: its entries are gone then, and sums begin anew.
     pub(super) fn may_be_cured_by_a_round(self) -> bool {
         matches!(self, Refused::Full | Refused::TooLarge | Refused::NoMemory)
+    }
+}
+
+impl From<Refused> for Outcome {
+    fn from(refused: Refused) -> Outcome {
+        let reason = refused.reason();
+        let of_point = |place, frontier| Rejection::of_point(reason, RejectedPoint { place, frontier });
+        Outcome::Refused(match refused {
+            Refused::OtherWriter { point } => of_point(point, None),
+            Refused::OutOfOrder { point, frontier } => of_point(point, Some(frontier)),
+            other => Rejection::new(reason, other.to_string()),
+        })
     }
 }
 

@@ -15,10 +15,10 @@ pub use connections::Grpc;
 
 use crate::identity::Who;
 use crate::intake::head::{Head, Packing};
-use crate::intake::refusal::{Refusal, Turned, DEADLINE};
+use crate::intake::refusal::{Refusal, Turned};
 use crate::intake::sender::sender;
 use crate::intake::{Intake, Taker};
-use crate::otlp::{Encoding, Outcome, Refused};
+use crate::otlp::{Encoding, Outcome, Reason, Refused};
 use hyper::body::HttpBody;
 use hyper::header::{HeaderMap, HeaderName, CONTENT_TYPE};
 use hyper::http::request::Parts;
@@ -53,7 +53,7 @@ async fn answer<T: Taker>(intake: Arc<Intake<T>>, who: &Who, request: Request<Bo
         }
     };
     // An answer before the end of a body is followed by a reset, and some clients see that alone.
-    if outcome.status() != DEADLINE && !body.is_end_stream() {
+    if outcome.reason() != Some(Reason::Deadline) && !body.is_end_stream() {
         message::throw_away(&mut body).await;
     }
     intake.metrics.post_ended(&outcome);

@@ -1,6 +1,6 @@
 //! What a call is answered: a message and a status behind it, or a status alone.
 
-use crate::otlp::{Detail, Encoding, Outcome, Status};
+use crate::otlp::{Detail, Encoding, Outcome, Rejection, Status};
 use bytes::Bytes;
 use hyper::header::{HeaderMap, HeaderName, HeaderValue, CONTENT_TYPE};
 use hyper::{Body, Response};
@@ -24,30 +24,13 @@ pub(super) struct Duration {
     pub seconds: i64,
 }
 
-/// The status of gRPC by that of HTTP, so that a sender does the same by either.
-pub(super) fn code(status: u16) -> i32 {
-    match status {
-        200 => 0,
-        400 => 3,              // INVALID_ARGUMENT
-        401 => 16,             // UNAUTHENTICATED
-        403 => 7,              // PERMISSION_DENIED
-        404 | 405 | 415 => 12, // UNIMPLEMENTED: another method, another encoding
-        504 => 4,              // DEADLINE_EXCEEDED
-        413 | 429 => 8,        // RESOURCE_EXHAUSTED; without RetryInfo it is not tried again
-        503 => 14,             // UNAVAILABLE
-        _ => 2,                // UNKNOWN
-    }
-}
-
 pub async fn response(outcome: &Outcome) -> Response<Body> {
     let mut response = Response::new(Body::empty());
     let headers = response.headers_mut();
     headers.insert(CONTENT_TYPE, HeaderValue::from_static("application/grpc"));
     match outcome {
         Outcome::Taken { .. } => *response.body_mut() = taken(outcome).await,
-        Outcome::Refused { message, .. } | Outcome::Later { message, .. } => {
-            put_refusal(headers, outcome, message)
-        }
+        Outcome::Refused(rejection) => put_refusal(headers, rejection),
     }
     response
 }
@@ -75,22 +58,21 @@ fn put(headers: &mut HeaderMap, name: &'static str, value: &str) {
     }
 }
 
-fn put_refusal(headers: &mut HeaderMap, outcome: &Outcome, message: &str) {
-    let code = code(outcome.status());
+fn put_refusal(headers: &mut HeaderMap, rejection: &Rejection) {
+    let (code, message) = (rejection.reason.grpc_status(), &rejection.message);
     put(headers, "grpc-status", &code.to_string());
     put(headers, "grpc-message", &utf8_percent_encode(message, ESCAPED).to_string());
-    if outcome.status() == 415 {
+    if rejection.reason.status() == 415 {
         put(headers, "grpc-accept-encoding", "identity,gzip");
     }
-    if let Some(seconds) = outcome.again_in() {
+    if let Some(seconds) = rejection.again_in() {
         let seconds = i64::try_from(seconds).unwrap_or(i64::MAX);
         let retry_delay = Some(Duration { seconds });
         let details = vec![Detail {
             type_url: "type.googleapis.com/google.rpc.RetryInfo".into(),
             value: RetryInfo { retry_delay }.encode_to_vec(),
         }];
-        let message = message.to_string();
-        let whole = Status { code, message, details }.encode_to_vec();
+        let whole = Status { code, message: message.clone(), details }.encode_to_vec();
         let text = base64::encode_config(whole, base64::STANDARD_NO_PAD);
         put(headers, "grpc-status-details-bin", &text);
     }

@@ -1,13 +1,13 @@
 //! What a client of gRPC is answered, and when its connection ends.
 
-use super::reply::{code, RetryInfo};
+use super::reply::RetryInfo;
 use super::*;
 use crate::identity::{AllowedHosts, Door};
 use crate::intake::connections::{spread, Limits, Shared};
 use crate::intake::{Budget, Hears, Threads};
 use crate::metrics::Metrics;
 use crate::otlp::Status;
-use crate::otlp::{a_request_of_test, Original, Reading};
+use crate::otlp::{a_request_of_test, Original, Reading, Rejection};
 use crate::slot::{Request as Posted, Slots};
 use bytes::Bytes;
 use flate2::{write::GzEncoder, Compression};
@@ -187,9 +187,10 @@ async fn what_a_slot_says_is_said_as_grpc_does() {
     let partial = Served::with(Some(Outcome::taken(7)), 1 << 20).await;
     let answer = partial.export(&[], frame(0, b"")).await;
     assert_eq!(answer.data, frame(0, &Outcome::taken(7).body(Encoding::Protobuf)));
-    let later = Outcome::Later { seconds: 7, message: "50% \u{fc}ber".into() };
-    let refused = |status| Outcome::Refused { status, message: "50% \u{fc}ber".into() };
-    let refused = [400, 403, 503].map(refused);
+    let text = "50% \u{fc}ber";
+    let later = Rejection { seconds: Some(7), ..Rejection::new(Reason::OverShare, text) }.into();
+    let refused = |reason| Outcome::refused(reason, text);
+    let refused = [Reason::OutOfOrder, Reason::Quarantined, Reason::Full].map(refused);
     for (outcome, wanted) in refused.into_iter().chain([later]).zip([3, 7, 14, 8]) {
         let again = outcome.again_in();
         let served = Served::with(Some(outcome), 1 << 20).await;
@@ -207,7 +208,7 @@ async fn what_a_slot_says_is_said_as_grpc_does() {
             assert_eq!(retry.retry_delay.unwrap().seconds as u64, seconds);
         }
     }
-    assert_eq!([413, 504, 500].map(code), [8, 4, 2]);
+    assert_eq!([Reason::BodyTooLong, Reason::Deadline].map(Reason::grpc_status), [8, 4]);
 }
 
 #[tokio::test]

@@ -12,7 +12,7 @@ pub use door::{operators, Door};
 pub use tokens::{line, Sender, Tokens};
 pub use who::{by_token, Who};
 
-use crate::slot::is_sender;
+use crate::otlp::Reason;
 
 /// Why a request is refused for who sends it. The text never has anything of a token.
 #[derive(Debug, PartialEq, Eq, thiserror::Error)]
@@ -47,18 +47,15 @@ pub enum Stranger {
 /// What stands between who posts and the name that it gives itself.
 const MAY_NOT: &str = "may not post as";
 
-/// Whether a text is that of a sender who gives itself another's name.
-pub fn is_other_name(message: &str) -> bool {
-    let named = message.split_once(' ');
-    named.is_some_and(|(name, rest)| is_sender(name) && rest.starts_with(MAY_NOT))
-}
-
 impl Stranger {
-    /// That of HTTP.
-    pub fn status(&self) -> u16 {
+    pub fn reason(&self) -> Reason {
         match self {
-            Stranger::OtherName { .. } | Stranger::OtherHost { .. } | Stranger::TokenAsName { .. } => 403,
-            _ => 401,
+            Stranger::NoToken => Reason::NoToken,
+            Stranger::WrongToken => Reason::UnknownToken,
+            Stranger::NotBelieved => Reason::CertificateNotBelieved,
+            Stranger::Nameless => Reason::CertificateWithoutName,
+            Stranger::OtherHost { .. } => Reason::OtherHost,
+            Stranger::OtherName { .. } | Stranger::TokenAsName { .. } => Reason::OtherName,
         }
     }
 }

@@ -73,6 +73,7 @@ fn with_date(write: impl FnOnce(&str)) {
 #[cfg(test)]
 mod tests {
     use super::*;
+    use crate::otlp::{Reason, Rejection};
 
     fn written(outcome: &Outcome, encoding: Encoding, connection: Connection) -> String {
         let mut out = Vec::new();
@@ -90,8 +91,8 @@ mod tests {
         let mut out = Vec::new();
         with_date(|date| write_any(&mut out, &any, Encoding::Json, Connection::Kept, date));
         assert_eq!(out.len(), taken.len(), "the usual answer is as any other");
-        let refused = |status| Outcome::Refused { status, message: "why".into() };
-        let busy = written(&refused(503), Encoding::Json, Connection::KeptIfSaid);
+        let refused = |reason| Outcome::refused(reason, "why");
+        let busy = written(&refused(Reason::Full), Encoding::Json, Connection::KeptIfSaid);
         assert!(
             busy.starts_with("HTTP/1.1 503 Service Unavailable\r\n")
                 && busy.contains("\r\nretry-after: 1\r\n")
@@ -100,11 +101,11 @@ mod tests {
             busy.contains("\r\nconnection: keep-alive\r\n") && busy.contains("\"message\":\"why\""),
             "{busy}"
         );
-        let later = Outcome::Later { seconds: 7, message: "why".into() };
+        let later = Rejection { seconds: Some(7), ..Rejection::new(Reason::OverShare, "why") }.into();
         let later = written(&later, Encoding::Json, Connection::Kept);
         assert!(later.starts_with("HTTP/1.1 429 Too Many Requests\r\n"), "{later}");
         assert!(later.contains("\r\nretry-after: 7\r\n") && later.contains("\"message\":\"why\""), "{later}");
-        let wrong = written(&refused(405), Encoding::Protobuf, Connection::Closed);
+        let wrong = written(&refused(Reason::WrongMethod), Encoding::Protobuf, Connection::Closed);
         assert!(
             wrong.contains("\r\nallow: POST\r\n") && wrong.contains("\r\nconnection: close\r\n"),
             "{wrong}"

@@ -121,7 +121,7 @@ mod tests {
         match std::future::poll_fn(|context| Poll::Ready(next.as_mut().poll(context))).await {
             Poll::Pending => Ok(true),
             Poll::Ready(Ok(())) => Ok(false),
-            Poll::Ready(Err(refusal)) => Err(refusal.status()),
+            Poll::Ready(Err(refusal)) => Err(refusal.reason().status()),
         }
     }
 

@@ -144,7 +144,8 @@ pub(super) mod tests {
     }
 
     fn read(packed: Bytes, most: usize) -> Result<Bytes, u16> {
-        unpack(packed, Packing::Gzip, MOST, &mut Budget::new(most).hold()).map_err(|refusal| refusal.status())
+        unpack(packed, Packing::Gzip, MOST, &mut Budget::new(most).hold())
+            .map_err(|refusal| refusal.reason().status())
     }
 
     #[test]
@@ -199,7 +200,7 @@ pub(super) mod tests {
         let mut others = budget.hold();
         others.set(MOST).unwrap();
         let refused = unpack(gzip(b"{}"), Packing::Gzip, MOST, &mut budget.hold()).unwrap_err();
-        assert_eq!(refused.status(), 503, "others may give it back");
+        assert_eq!(refused.reason().status(), 503, "others may give it back");
         assert_eq!(read(gzip(b"{}"), MOST), Err(413), "there is never so much");
     }
 
@@ -225,7 +226,7 @@ pub(super) mod tests {
         let (_, received) = tokio::join!(sending, receiving);
         drop(hold);
         assert_eq!(budget.used(), 0);
-        received.map_err(|refusal| refusal.status())
+        received.map_err(|refusal| refusal.reason().status())
     }
 
     #[tokio::test]

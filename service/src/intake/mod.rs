@@ -32,7 +32,7 @@ pub(crate) use weight::Hold;
 
 use crate::core;
 use crate::metrics::Metrics;
-use crate::otlp::{combined, OfPart, Original, Outcome, Reading};
+use crate::otlp::{combined, OfPart, Original, Outcome, Reading, Reason};
 use crate::slot::{ByNumber, Request, Slot, Slots};
 use crate::work::Readers;
 use bytes::Bytes;
@@ -263,7 +263,7 @@ impl<T: Taker> Intake<T> {
 
 /// Of a part that nobody has answered: it may have been taken.
 fn unknown() -> Outcome {
-    Outcome::Refused { status: 503, message: "no answer".into() }
+    Reason::Fault.into()
 }
 
 /// Whether a body is short: one that may be is unpacked as far as that. A few kilobytes may be packed megabytes.

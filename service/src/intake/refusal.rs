@@ -5,10 +5,7 @@ use super::wire::{HEADERS, READ_AHEAD};
 use super::{MAX_MEMBERS, MOST};
 use crate::core;
 use crate::identity::Stranger;
-use crate::otlp::{Outcome, Refused};
-
-/// As the status of a gateway that waited too long.
-pub const DEADLINE: u16 = 504;
+use crate::otlp::{Outcome, Reason, Refused};
 
 /// Its text is the answer's message.
 #[derive(Debug, thiserror::Error)]
@@ -67,8 +64,8 @@ pub enum Refusal {
     #[error("no memory")]
     NoMemory,
     /// Nothing is taken here now.
-    #[error("{0}")]
-    Unavailable(&'static str),
+    #[error("{}", .0.text())]
+    Unavailable(Reason),
     #[error(transparent)]
     Unreadable(#[from] Refused),
 }
@@ -81,27 +78,28 @@ pub struct Turned {
 }
 
 impl Refusal {
-    pub fn status(&self) -> u16 {
+    pub fn reason(&self) -> Reason {
         match self {
-            Refusal::NoSuchPath | Refusal::NoSuchMethod => 404,
-            Refusal::Stranger(stranger) => stranger.status(),
-            Refusal::WrongMethod => 405,
-            Refusal::ContentType | Refusal::ContentEncoding => 415,
-            Refusal::NoLength => 411,
-            Refusal::BadSender
-            | Refusal::Malformed
-            | Refusal::BadGzip
-            | Refusal::TooManyMembers
-            | Refusal::Unreadable(_) => 400,
-            Refusal::TooLong | Refusal::Full(Full::Ever) | Refusal::LongSeries => 413,
-            Refusal::HeadTooLong => 431,
-            Refusal::Deadline => DEADLINE,
-            Refusal::Late
-            | Refusal::Gone
-            | Refusal::Full(Full::Now)
-            | Refusal::Slow
-            | Refusal::NoMemory
-            | Refusal::Unavailable(_) => 503,
+            Refusal::NoSuchPath => Reason::NoSuchPath,
+            Refusal::NoSuchMethod => Reason::NoSuchMethod,
+            Refusal::WrongMethod => Reason::WrongMethod,
+            Refusal::BadSender => Reason::BadSender,
+            Refusal::Stranger(stranger) => stranger.reason(),
+            Refusal::ContentType => Reason::ContentType,
+            Refusal::ContentEncoding => Reason::ContentEncoding,
+            Refusal::NoLength => Reason::NoLength,
+            Refusal::Late => Reason::TooSlow,
+            Refusal::Deadline => Reason::Deadline,
+            Refusal::Malformed => Reason::MalformedRequest,
+            Refusal::HeadTooLong => Reason::HeadTooLong,
+            Refusal::Gone => Reason::GoneAway,
+            Refusal::BadGzip | Refusal::TooManyMembers => Reason::BadGzip,
+            Refusal::TooLong | Refusal::Full(Full::Ever) => Reason::BodyTooLong,
+            Refusal::Full(Full::Now) | Refusal::Slow => Reason::TooManyBytes,
+            Refusal::LongSeries => Reason::TooLongSeries,
+            Refusal::NoMemory => Reason::NoMemory,
+            Refusal::Unavailable(reason) => *reason,
+            Refusal::Unreadable(why) => why.reason(),
         }
     }
 
@@ -116,6 +114,6 @@ impl Refusal {
 
 impl From<&Refusal> for Outcome {
     fn from(refusal: &Refusal) -> Outcome {
-        Outcome::Refused { status: refusal.status(), message: refusal.to_string() }
+        Outcome::refused(refusal.reason(), refusal.to_string())
     }
 }

@@ -15,6 +15,7 @@ use crate::core::{tests::without_blocks, Core};
 use crate::files::{Call, Disk, Durability, Folder, Journal, Outbox};
 use crate::metrics::Metrics;
 use crate::otlp::series::{forwarded, Value};
+use crate::otlp::Reason;
 use std::path::{Path, PathBuf};
 use std::sync::atomic::{AtomicBool, Ordering::SeqCst};
 use std::sync::{Mutex, OnceLock};
@@ -296,7 +297,7 @@ async fn nothing_is_taken_after_the_last_checkpoint() {
     let read = slot.core.read("A".into(), point("a", 2).into()).unwrap();
     run.end().await;
     let late = slot.put_of_test(read);
-    assert_eq!(late, Err("stopping"));
+    assert_eq!(late, Err(Reason::Stopping));
     assert_eq!(slot.ungrouped(), 0);
 }
 
@@ -319,7 +320,7 @@ async fn posts_that_come_at_once_leave_the_room_that_is_kept_for_commits() {
     for outcome in run.post_at_once(bodies.collect(), FIT) {
         match outcome.refusal() {
             None => taken += 1,
-            Some(message) => assert_eq!((outcome.status(), message), (503, crate::slot::NO_ROOM)),
+            Some(_) => assert_eq!(outcome, Reason::NoRoom.into()),
         }
     }
     assert_eq!(taken, FIT);

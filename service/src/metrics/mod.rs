@@ -2,14 +2,12 @@
 
 mod cluster;
 mod make;
-mod reasons;
 mod rounding;
 
 pub use cluster::OfCluster;
-pub use reasons::{of as reason_of, to_do};
 pub use rounding::{RoundedSeries, SeriesOfRule, SHOWN as SHOWN_OF_RULE};
 
-use crate::otlp::{Cause, Causes, Outcome, Rounded, Rounding};
+use crate::otlp::{Causes, Outcome, Reason, Rounded, Rounding};
 use crate::shares::Used;
 use crate::work::locked;
 use make::metrics;
@@ -127,24 +125,24 @@ impl Metrics {
 
     /// Counts an answer to a sender.
     pub fn post_ended(&self, outcome: &Outcome) {
-        match reason_of(outcome) {
+        match outcome.reason() {
             None => self.taken_posts.inc(),
             Some(reason) => {
-                let status = outcome.status().to_string();
-                self.posts.with_label_values(&[&status, reason]).inc();
+                let status = reason.status().to_string();
+                self.posts.with_label_values(&[&status, reason.label()]).inc();
             }
         }
     }
 
     /// Counts points outside the profile. Names of senders come from outside: their number is bounded here.
-    pub fn foreign(&self, sender: &str, causes: &Causes, expected: &[Cause]) {
+    pub fn foreign(&self, sender: &str, causes: &Causes, expected: &[Reason]) {
         for (cause, points) in causes.iter() {
-            let name = cause.name();
+            let name = cause.label();
             if expected.contains(&cause) {
-                self.expected_foreign_points.with_label_values(&[&name]).inc_by(points);
+                self.expected_foreign_points.with_label_values(&[name]).inc_by(points);
             } else {
                 let label = if self.has_label(sender) { sender } else { "other" };
-                self.foreign_points.with_label_values(&[label, &name]).inc_by(points);
+                self.foreign_points.with_label_values(&[label, name]).inc_by(points);
             }
         }
     }
@@ -255,7 +253,7 @@ mod tests {
         }
         metrics.foreign("sender0", &other(1), &[]);
         metrics.foreign("unseen", &other(0), &[]);
-        metrics.foreign("unseen", &other(5), &[Cause::Other]);
+        metrics.foreign("unseen", &other(5), &[Reason::Other]);
         let page = page(&metrics);
         let lines: Vec<&str> =
             page.lines().filter(|line| line.starts_with("totxegun_foreign_points_total{")).collect();
@@ -283,14 +281,11 @@ mod tests {
         let metrics = Metrics::new().unwrap();
         metrics.post_ended(&Outcome::taken(0));
         metrics.post_ended(&Outcome::taken(5));
-        metrics.post_ended(&Outcome::Refused {
-            status: 400,
-            message: "out of order: point 5, frontier 7".into(),
-        });
+        metrics.post_ended(&Reason::OutOfOrder.into());
         let page = page(&metrics);
         for line in [
             "totxegun_posts_total{reason=\"\",status=\"200\"} 2",
-            "totxegun_posts_total{reason=\"out of order\",status=\"400\"} 1",
+            "totxegun_posts_total{reason=\"out_of_order\",status=\"400\"} 1",
             "totxegun_deliveries_total{outcome=\"taken\"} 0",
             "totxegun_deliveries_total{outcome=\"partial\"} 0",
             "totxegun_deliveries_total{outcome=\"denied\"} 0",

@@ -209,7 +209,7 @@ impl Desk {
             Route::Health => reply(200, TEXT, "ok\n"),
             Route::Ready => match self.unavailable() {
                 None => reply(200, TEXT, "ready\n"),
-                Some(why) => message(503, why),
+                Some(why) => message(503, why.text()),
             },
             Route::Status => match serde_json::to_vec(&self.status_of_all().await) {
                 Ok(status) => reply(200, JSON, status),

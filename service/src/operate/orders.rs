@@ -1,9 +1,8 @@
 //! What is asked of the keepers and of the books, of all slots together.
 
-use super::reach::{Answer, Command, ENDING};
+use super::reach::{Answer, Command};
 use super::{reply, Desk, TEXT};
-use crate::cluster::NO_STORE;
-use crate::slot::NO_OWNER;
+use crate::otlp::Reason;
 use hyper::{Body, Response};
 use serde_json::json;
 use std::sync::Arc;
@@ -11,22 +10,22 @@ use std::sync::Arc;
 impl Desk {
     /// Why posts are answered 503, where all are. Of several databases one may be silent, and a slot that is taken over is
     /// read first: what the others have goes on, here or at its instance.
-    pub(super) fn unavailable(&self) -> Option<&'static str> {
+    pub(super) fn unavailable(&self) -> Option<Reason> {
         let Some(others) = &self.others else {
             return self.units.unavailable(|_| false);
         };
         let cluster = &others.cluster;
         if cluster.is_stalled() {
-            return Some(NO_STORE);
+            return Some(Reason::StoreSilent);
         }
         if cluster.leaves() {
-            return Some(ENDING);
+            return Some(Reason::Stopping);
         }
         if cluster.has_others() {
             return None;
         }
         match self.units.is_empty() {
-            true => Some(NO_OWNER),
+            true => Some(Reason::NoOwner),
             false => self.units.unavailable(|slot| cluster.is_stalled_for(slot)),
         }
     }

@@ -180,7 +180,7 @@ impl Desk {
             pid: std::process::id(),
             uptime_seconds: self.begun.elapsed().as_secs(),
             ready: self.unavailable().is_none(),
-            unavailable: self.unavailable().map(String::from),
+            unavailable: self.unavailable().map(|why| why.text().into()),
             listen: self.listen.clone(),
             data: self.data.clone(),
             sink: self.sink.name(),
@@ -254,7 +254,7 @@ impl SlotStatus {
     fn at_work(unit: &Unit) -> SlotStatus {
         let (journal, since) = unit.slot.journal.size();
         SlotStatus {
-            unavailable: unit.slot.unavailable().map(String::from),
+            unavailable: unit.slot.unavailable().map(|why| why.text().into()),
             journal: Stock::new(journal, since),
             posts: unit.slot.ungrouped(),
             held: unit.slot.journal.held(),

@@ -57,7 +57,7 @@ impl AtTcp {
         let values = request.headers().get_all(AUTHORIZATION).iter();
         let operator = by_token(&tokens.now(), values.map(HeaderValue::as_bytes));
         operator.map(|operator| operator.name.clone()).map_err(|stranger| {
-            let mut response = message(stranger.status(), &stranger.to_string());
+            let mut response = message(stranger.reason().status(), &stranger.to_string());
             let challenge = HeaderValue::from_static("Bearer realm=\"totxegun\"");
             response.headers_mut().insert(WWW_AUTHENTICATE, challenge);
             Box::new(response)

@@ -3,6 +3,7 @@
 use crate::files::{Dead, Outbox};
 use crate::keeper::Orders;
 use crate::otlp::series::SeriesKey;
+use crate::otlp::Reason;
 use crate::shares::Owned;
 use crate::sinks::Attempts;
 use crate::slot::Slot;
@@ -79,7 +80,7 @@ impl Units {
     }
 
     /// Why posts of the slots that are here, and none of these, are answered 503, where those of all of them are.
-    pub fn unavailable(&self, but: impl Fn(u16) -> bool) -> Option<&'static str> {
+    pub fn unavailable(&self, but: impl Fn(u16) -> bool) -> Option<Reason> {
         let units = self.all();
         let others = units.iter().filter(|unit| !but(unit.slot.number()));
         let reasons: Option<Vec<_>> = others.map(|unit| unit.slot.unavailable()).collect();

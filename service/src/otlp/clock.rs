@@ -4,6 +4,7 @@
 //!
 //! The clock is looked at where a post comes in, and nowhere else: what was taken once is not compared with it again.
 
+use serde::{Deserialize, Serialize};
 use std::fmt;
 use std::time::{Duration, SystemTime, UNIX_EPOCH};
 
@@ -30,7 +31,7 @@ pub enum Off {
 }
 
 /// How many points of a post are off, and by how much the furthest are.
-#[derive(Clone, Copy, Debug, Default, PartialEq, Eq)]
+#[derive(Clone, Copy, Debug, Default, PartialEq, Eq, Deserialize, Serialize)]
 pub struct OffClock {
     pub ahead: u64,
     pub behind: u64,
@@ -86,6 +87,16 @@ impl OffClock {
 
     pub fn points(&self) -> u64 {
         self.ahead + self.behind
+    }
+
+    /// These and others.
+    pub(super) fn and(self, others: OffClock) -> OffClock {
+        let [ahead, behind] = self.furthest;
+        OffClock {
+            ahead: self.ahead + others.ahead,
+            behind: self.behind + others.behind,
+            furthest: [ahead.max(others.furthest[0]), behind.max(others.furthest[1])],
+        }
     }
 }
 

@@ -4,21 +4,13 @@
 //! nothing counts twice, and nothing is dropped. Else the request counts as taken where any part was: a sender that is told
 //! that all of it is refused would take its own repeat for lost. Points of refused parts are among the rejected then.
 
-use super::answers::{self, OUTSIDE};
 use super::json::Document;
 use super::series::points_by_resource;
-use super::{prepare, Causes, OffClock, Original, Outcome, Reading};
+use super::{prepare, Causes, OffClock, Original, Outcome, Reading, Reason, Rejection};
 use std::cell::OnceCell;
-use std::fmt::Write;
 
 /// The status of what is too long for its memory.
 const TOO_LONG: u16 = 413;
-
-/// How many reasons are named.
-const REASONS: usize = 5;
-
-/// What refusals begin with that name a point by its place among those of the profile.
-const PLACED: [&str; 2] = ["out of order: point ", "other writer: point "];
 
 /// A part of a request that was asked for.
 pub struct OfPart {
@@ -35,9 +27,9 @@ pub fn combined(parts: &[OfPart], reading: &Reading) -> Outcome {
     }
     let whole = Whole { parts, reading, points: OnceCell::new() };
     let is_taken = |part: &OfPart| matches!(part.outcome, Outcome::Taken { .. });
-    match (parts.iter().any(is_taken), parts.first()) {
-        (false, Some(first)) => whole.refused(first),
-        _ => whole.taken(),
+    match parts.iter().any(is_taken) {
+        true => whole.taken(),
+        false => whole.refused(),
     }
 }
 
@@ -45,7 +37,7 @@ pub fn combined(parts: &[OfPart], reading: &Reading) -> Outcome {
 fn again(parts: &[OfPart]) -> Option<&Outcome> {
     let outcomes = || parts.iter().map(|part| &part.outcome);
     let is_unavailable = |outcome: &&Outcome| outcome.status() == 503;
-    let is_later = |outcome: &&Outcome| matches!(outcome, Outcome::Later { .. });
+    let is_later = |outcome: &&Outcome| outcome.reason().is_some_and(Reason::is_repeated);
     let unavailable = outcomes().find(is_unavailable);
     unavailable.or_else(|| outcomes().filter(is_later).max_by_key(|later| later.again_in()))
 }
@@ -58,23 +50,22 @@ struct Whole<'p> {
 }
 
 impl Whole<'_> {
-    /// A part's refusal. It names a point by its place in the request.
-    fn refused(&self, part: &OfPart) -> Outcome {
-        match &part.outcome {
-            Outcome::Refused { status, message } => Outcome::Refused {
-                status: *status,
-                message: self.placed(part, message).unwrap_or_else(|| message.clone()),
-            },
-            other => other.clone(),
-        }
+    /// By its first part that was.
+    fn refused(&self) -> Outcome {
+        let first = self.parts.iter().find_map(|part| match &part.outcome {
+            Outcome::Refused(rejection) => Some(self.placed(part, rejection)),
+            Outcome::Taken { .. } => None,
+        });
+        first.map_or_else(|| Outcome::taken(0), Outcome::Refused)
     }
 
-    fn placed(&self, part: &OfPart, message: &str) -> Option<String> {
-        let (begin, rest) = PLACED.iter().find_map(|begin| Some((begin, message.strip_prefix(begin)?)))?;
-        let digits = rest.bytes().take_while(u8::is_ascii_digit).count();
-        let (place, behind) = rest.split_at(digits);
-        let place = self.place(part, place.parse().ok()?)?;
-        Some(format!("{begin}{place}{behind}"))
+    /// A part's rejection. It names a point by its place in the request.
+    fn placed(&self, part: &OfPart, rejection: &Rejection) -> Rejection {
+        let place = rejection.point.and_then(|point| self.place(part, point.place));
+        match place {
+            Some(place) => rejection.clone().placed(place),
+            None => rejection.clone(),
+        }
     }
 
     /// Where in the request is the point that has this place in a part.
@@ -110,76 +101,27 @@ impl Whole<'_> {
     }
 
     fn taken(&self) -> Outcome {
-        let (mut rejected, mut reasons) = (0, Reasons::default());
+        let (mut all, mut clocks, mut known) = (0, OffClock::default(), Causes::default());
+        let (mut not_fit, mut refused) = (None, Vec::<(u64, Rejection)>::new());
         for part in self.parts {
-            match self.refused(part) {
-                Outcome::Taken { rejected: of_part, message, .. } => {
-                    rejected += of_part;
-                    reasons.not_taken(of_part, message);
+            match &part.outcome {
+                Outcome::Taken { rejected, off, causes, unfit, .. } => {
+                    all += rejected;
+                    clocks = clocks.and(*off);
+                    known = known.and(causes);
+                    not_fit = not_fit.or_else(|| unfit.clone());
                 }
-                Outcome::Refused { message, .. } | Outcome::Later { message, .. } => {
-                    let points = part.part.points();
-                    rejected += points;
-                    reasons.refused(points, message);
+                Outcome::Refused(rejection) => {
+                    let (points, rejection) = (part.part.points(), self.placed(part, rejection));
+                    all += points;
+                    match refused.iter_mut().find(|(_, known)| *known == rejection) {
+                        Some((of_it, _)) => *of_it += points,
+                        None => refused.push((points, rejection)),
+                    }
                 }
             }
         }
-        Outcome::Taken {
-            rejected,
-            off: OffClock::default(),
-            known: Causes::default(),
-            message: reasons.text(),
-        }
-    }
-}
-
-/// Why points are not taken.
-#[derive(Default)]
-struct Reasons {
-    /// Of points outside the profile.
-    causes: Causes,
-    texts: Vec<String>,
-    /// Points of refused parts.
-    refused: Vec<(u64, String)>,
-}
-
-impl Reasons {
-    fn not_taken(&mut self, points: u64, message: Option<String>) {
-        let message = match message {
-            None if points == 0 => return,
-            message => message.unwrap_or_else(|| OUTSIDE.into()),
-        };
-        match answers::causes(&message) {
-            Some(causes) => self.causes = std::mem::take(&mut self.causes).and(&causes),
-            None if self.texts.contains(&message) => {}
-            None => self.texts.push(message),
-        }
-    }
-
-    fn refused(&mut self, points: u64, message: String) {
-        match self.refused.iter_mut().find(|(_, known)| *known == message) {
-            Some((all, _)) => *all += points,
-            None => self.refused.push((points, message)),
-        }
-    }
-
-    fn text(self) -> Option<String> {
-        let mut all = Vec::new();
-        if self.causes.count() > 0 {
-            all.push(answers::outside(&self.causes, OffClock::default()));
-        }
-        all.extend(self.texts);
-        all.extend(self.refused.into_iter().map(|(points, message)| match points {
-            1 => format!("1 point is refused: {message}"),
-            _ => format!("{points} points are refused: {message}"),
-        }));
-        let more = all.len().saturating_sub(REASONS);
-        all.truncate(REASONS);
-        let mut text = all.join("; ");
-        if more > 0 {
-            let _ = write!(text, "; and {more} more reasons"); // into memory it never fails
-        }
-        (!text.is_empty()).then_some(text)
+        Outcome::Taken { rejected: all, off: clocks, causes: known, unfit: not_fit, parts: refused }
     }
 }
 

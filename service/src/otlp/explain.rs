@@ -1,10 +1,10 @@
 //! What becomes of each point of a request in the book's form, in words.
 
-use super::causes::Cause;
 use super::clock::Window;
 use super::json::Value;
 use super::outside::is_passed;
 use super::series::{said, visit_body, Profile, Seen, SeriesKey, What, LOOKED_AT};
+use super::Reason;
 use crate::log::cut;
 use serde::Serialize;
 use std::sync::Arc;
@@ -27,8 +27,8 @@ pub struct Explained {
     /// Why it is not taken; nothing where it is.
     pub foreign: Option<String>,
     /// The same as it is counted.
-    #[serde(skip)]
-    pub cause: Option<Cause>,
+    #[serde(rename = "reason")]
+    pub cause: Option<Reason>,
 }
 
 impl Explained {
@@ -45,7 +45,7 @@ pub fn explained(body: &[u8], profile: Profile, window: Window) -> Option<Vec<Ex
         let mut point = of(&seen);
         // One that would be taken may be off by its clock.
         if let Some(off) = seen.found.ok().and_then(|_| window.off(seen.end())) {
-            (point.foreign, point.cause) = (Some(off.to_string()), Some(Cause::of_clock(off)));
+            (point.foreign, point.cause) = (Some(off.to_string()), Some(Reason::of_clock(off)));
         }
         all.push(point);
     })?;
@@ -109,7 +109,7 @@ fn of(seen: &Seen<'_, '_>) -> Explained {
             What::Cumulative if seen.kind == "sum" && !seen.metric.is_monotonic => UP_DOWN.to_string(),
             _ => why.to_string(),
         }),
-        cause: Cause::of(seen),
+        cause: Reason::of_seen(seen),
     }
 }
 

@@ -7,9 +7,9 @@
 //! `finer_units` takes fractions as whole numbers of a finer unit, `exponential` exponential histograms in given buckets. `series`
 //! reads bodies as the book does, and what it forwards. `sender` finds a request's sender in it, `instance` puts a sender's name
 //! into its resources.
-//! `outside` is what of a request is handed on to another receiver, `answers` what senders are answered, `clock` which points
-//! end too far from the service's clock. `resources` says which slot a resource has and takes requests apart, `combined_outcome` is
-//! one answer of several.
+//! `outside` is what of a request is handed on to another receiver, `clock` which points end too far from the service's clock.
+//! `reason` has why something is not taken, `outcome` what became of a request, `answers` how that is written. `resources` says
+//! which slot a resource has and takes requests apart, `combined_outcome` is one answer of several.
 
 mod answers;
 mod causes;
@@ -27,9 +27,11 @@ mod json_fast_path;
 mod messages;
 mod number;
 mod numbered;
+mod outcome;
 mod output;
 mod outside;
 mod plain_protobuf;
+mod reason;
 mod resources;
 mod schema;
 mod sender;
@@ -37,7 +39,7 @@ pub mod series;
 mod wire;
 
 pub(crate) use answers::partial_success;
-pub use causes::{Cause, Causes};
+pub use causes::Causes;
 pub use clock::{Clock, Off, OffClock, Window};
 pub use combined_outcome::{combined, OfPart};
 pub use explain::{explained, foreign_points, point_at, second_at, taken_points, Explained};
@@ -46,8 +48,10 @@ pub use finer_units::{Choice, Decided, FinerUnits, Rounded, Rounding, Rule, Show
 pub use instance::{with_instance, INSTANCE};
 pub(crate) use messages::{Detail, ExportMetricsServiceResponse, Status};
 pub use numbered::{Learnt, NotNamed, Numbered, Series};
+pub use outcome::{Outcome, RejectedPoint, Rejection};
 pub use outside::{Original, Outside};
 pub(crate) use plain_protobuf::is_plain;
+pub use reason::Reason;
 pub use resources::{slot_of, slot_of_series, Part, Resources, Split};
 pub use sender::{legal, sender, NO_NAME};
 pub use series::{protobuf_of_forwarded, Profile};
@@ -92,8 +96,20 @@ impl Encoding {
 pub enum Refused {
     #[error(transparent)]
     NotJson(#[from] json::NotJson),
+    #[error("no sender: {0}")]
+    NoSender(String),
     #[error("{0}")]
     Unreadable(String),
+}
+
+impl Refused {
+    pub fn reason(&self) -> Reason {
+        match self {
+            Refused::NotJson(_) => Reason::NotJson,
+            Refused::NoSender(_) => Reason::NoSender,
+            Refused::Unreadable(_) => Reason::Unreadable,
+        }
+    }
 }
 
 /// How requests are read, beside what they say themselves.
@@ -173,77 +189,6 @@ pub fn prepare_with<E: From<Refused>>(
     };
     rounded.unfit = unfit.or(rounded.unfit);
     Ok(Prepared { body: Bytes::from(text), rounded, is_cumulative: written.is_cumulative })
-}
-
-/// What a sender is answered.
-#[derive(Clone, Debug, PartialEq, Eq)]
-pub enum Outcome {
-    /// All points were taken but these; 0 where all were. Some may be off by their clock, and of some more it is known why;
-    /// without a message the others are outside the profile.
-    Taken { rejected: u64, off: OffClock, known: Causes, message: Option<String> },
-    /// With this HTTP status and for this reason nothing was taken.
-    Refused { status: u16, message: String },
-    /// Nothing was taken either: its sender has used up its share, and may have more in so many seconds.
-    Later { seconds: u64, message: String },
-}
-
-impl Outcome {
-    /// All points were taken but these, which are outside the profile.
-    pub fn taken(rejected: u64) -> Outcome {
-        Outcome::taken_but(rejected, OffClock::default())
-    }
-
-    /// The same, and but those that are off by their clock.
-    pub fn taken_but(foreign: u64, off: OffClock) -> Outcome {
-        Outcome::Taken { rejected: foreign + off.points(), off, known: Causes::default(), message: None }
-    }
-
-    /// The same, and how many points are not taken by which cause.
-    pub fn with_causes(self, causes: &Causes) -> Outcome {
-        match self {
-            Outcome::Taken { rejected, off, known, .. } if rejected > 0 => {
-                Outcome::Taken { rejected, off, known, message: Some(answers::outside(causes, off)) }
-            }
-            other => other,
-        }
-    }
-
-    /// The same, and why points are outside the profile that were to be taken in a finer unit.
-    pub fn with(self, rounded: &Rounded) -> Outcome {
-        match (self, &rounded.unfit) {
-            (Outcome::Taken { rejected, off, known, message }, Some(unfit)) if rejected > 0 => {
-                let before = message.unwrap_or_else(|| answers::OUTSIDE.to_string());
-                let message = Some(format!("{before}: {unfit}"));
-                Outcome::Taken { rejected, off, known, message }
-            }
-            (other, _) => other,
-        }
-    }
-
-    pub fn status(&self) -> u16 {
-        match self {
-            Outcome::Taken { .. } => 200,
-            Outcome::Refused { status, .. } => *status,
-            Outcome::Later { .. } => 429,
-        }
-    }
-
-    /// Why nothing was taken.
-    pub fn refusal(&self) -> Option<&str> {
-        match self {
-            Outcome::Taken { .. } => None,
-            Outcome::Refused { message, .. } | Outcome::Later { message, .. } => Some(message),
-        }
-    }
-
-    /// In how many seconds the same may be taken.
-    pub fn again_in(&self) -> Option<u64> {
-        match self {
-            Outcome::Refused { status: 503, .. } => Some(1),
-            Outcome::Later { seconds, .. } => Some(*seconds),
-            _ => None,
-        }
-    }
 }
 
 #[cfg(test)]

@@ -7,10 +7,10 @@
 pub(super) mod json;
 pub(super) mod protobuf;
 
-use super::causes::{Cause, Causes};
+use super::causes::Causes;
 use super::schema::{Field, METRIC};
 use super::series::{visit_body, Profile};
-use super::Encoding;
+use super::{Encoding, Reason};
 use bytes::Bytes;
 
 /// A request as it came, unpacked.
@@ -106,16 +106,16 @@ impl Original {
 }
 
 /// Whether a point is handed on, by the kind of its metric's data, and by why it is foreign.
-pub fn is_passed(kind: &str, cause: Option<Cause>) -> bool {
+pub fn is_passed(kind: &str, cause: Option<Reason>) -> bool {
     let is_of_no_series = KINDS[..OF_NO_SERIES].contains(&kind);
-    is_of_no_series || cause.is_some_and(Cause::is_passed)
+    is_of_no_series || cause.is_some_and(Reason::is_passed)
 }
 
 /// Of each point of a request in the book's form whether it is handed on, and why it is foreign; none where it can't be read.
-fn points(text: &[u8], profile: Profile) -> Option<Vec<(bool, Option<Cause>)>> {
+fn points(text: &[u8], profile: Profile) -> Option<Vec<(bool, Option<Reason>)>> {
     let mut points = Vec::new();
     visit_body(text, profile, |seen| {
-        let cause = Cause::of(&seen);
+        let cause = Reason::of_seen(&seen);
         points.push((is_passed(seen.kind, cause), cause));
     })?;
     Some(points)

@@ -45,7 +45,7 @@ fn one_name<'d>(
     all: impl Iterator<Item = Result<ResourceName<'d>, Refused>>,
     attribute: &str,
 ) -> Result<Option<String>, Refused> {
-    let refused = |why: String| Err(Refused::Unreadable(format!("no sender: {why}")));
+    let refused = |why: String| Err(Refused::NoSender(why));
     let mut first: Option<ResourceName<'d>> = None;
     for found in all {
         let found = found?;

@@ -15,6 +15,7 @@ mod points;
 mod posts;
 mod protobuf;
 mod random;
+mod reasons;
 mod refused;
 mod speed;
 
@@ -281,23 +282,35 @@ fn answers_are_of_the_request_s_kind() {
         .partial_success
         .unwrap();
     assert_eq!((partial.rejected_data_points, &*partial.error_message), (7, "points outside the profile"));
-    let said = Outcome::Taken {
-        known: Causes::default(),
-        rejected: 2,
-        off: OffClock::default(),
-        message: Some("a \"b\"".to_string()),
-    };
+    let rounded = Rounded { unfit: Some("a \"b\"".into()), ..Rounded::default() };
+    let said = Outcome::taken(2).with(&rounded);
     assert_eq!(
         said.body(Encoding::Json),
-        br#"{"partialSuccess":{"errorMessage":"a \"b\"","rejectedDataPoints":"2"}}"#
+        br#"{"partialSuccess":{"errorMessage":"points outside the profile: a \"b\"","rejectedDataPoints":"2"}}"#
     );
     let partial = ExportMetricsServiceResponse::decode(&said.body(Encoding::Protobuf)[..])
         .unwrap()
         .partial_success
         .unwrap();
-    assert_eq!((partial.rejected_data_points, &*partial.error_message), (2, "a \"b\""));
-    for (status, code) in [(400, 3), (403, 7), (404, 5), (408, 4), (413, 3), (415, 3), (503, 14)] {
-        let refused = Outcome::Refused { status, message: "a \"b\"".to_string() };
+    let message = "points outside the profile: a \"b\"";
+    assert_eq!((partial.rejected_data_points, &*partial.error_message), (2, message));
+    let codes = [
+        (400, 3),
+        (401, 16),
+        (403, 7),
+        (404, 5),
+        (405, 12),
+        (411, 3),
+        (413, 3),
+        (415, 3),
+        (429, 8),
+        (431, 3),
+        (503, 14),
+        (504, 4),
+    ];
+    for (status, code) in codes {
+        let reason = Reason::ALL.iter().find(|reason| reason.status() == status).unwrap();
+        let refused = Outcome::refused(*reason, "a \"b\"");
         assert_eq!(
             refused.body(Encoding::Json),
             format!(r#"{{"code":{code},"message":"a \"b\""}}"#).into_bytes()

@@ -1,8 +1,7 @@
 //! Who has posted, when last, and what was refused of whom: what an operator is shown, since the start.
 
 use crate::log::{seconds, shown};
-use crate::metrics::reason_of;
-use crate::otlp::Outcome;
+use crate::otlp::{Outcome, Reason};
 use crate::work::locked;
 use ahash::AHashMap;
 use std::collections::BTreeMap;
@@ -27,13 +26,12 @@ pub struct OfSender {
     /// When it posted last, in seconds since 1970.
     pub last: u64,
     /// By reason.
-    pub refused: BTreeMap<&'static str, OfReason>,
+    pub refused: BTreeMap<Reason, OfReason>,
 }
 
 /// What was refused of a sender for one reason.
 #[derive(Clone, Debug, Default, PartialEq, Eq)]
 pub struct OfReason {
-    pub status: u16,
     pub posts: u64,
     /// In seconds since 1970.
     pub last: u64,
@@ -43,12 +41,12 @@ pub struct OfReason {
 
 impl SenderActivity {
     /// Notes an answer: the reason of a refusal.
-    pub fn note(&self, sender: &str, outcome: &Outcome) -> Option<&'static str> {
+    pub fn note(&self, sender: &str, outcome: &Outcome) -> Option<Reason> {
         self.note_at(sender, outcome, seconds())
     }
 
-    fn note_at(&self, sender: &str, outcome: &Outcome, now: u64) -> Option<&'static str> {
-        let reason = reason_of(outcome);
+    fn note_at(&self, sender: &str, outcome: &Outcome, now: u64) -> Option<Reason> {
+        let reason = outcome.reason();
         let mut all = locked(&self.0);
         let of = match all.get_mut(sender) {
             Some(of) => of,
@@ -66,7 +64,7 @@ impl SenderActivity {
         of_reason.posts += 1;
         of_reason.last = now;
         if let Some(message) = outcome.refusal() {
-            (of_reason.status, of_reason.text) = (outcome.status(), shown(message, TEXT));
+            of_reason.text = shown(message, TEXT);
         }
         Some(reason)
     }
@@ -106,8 +104,8 @@ fn make_room(all: &mut AHashMap<String, OfSender>) {
 mod tests {
     use super::*;
 
-    fn refused(message: &str) -> Outcome {
-        Outcome::Refused { status: 400, message: message.into() }
+    fn late(message: &str) -> Outcome {
+        Outcome::refused(Reason::OutOfOrder, message)
     }
 
     #[test]
@@ -119,13 +117,15 @@ mod tests {
             ("A", "out of order: point 9, frontier 7", 7),
             ("B", "out of order: point 9, frontier 7", 6),
         ] {
-            assert_eq!(activity.note_at(sender, &refused(message), now), Some("out of order"));
+            assert_eq!(activity.note_at(sender, &late(message), now), Some(Reason::OutOfOrder));
         }
         let last = activity.last(9);
         assert_eq!(last.iter().map(|(name, _)| &**name).collect::<Vec<_>>(), ["A", "B"]);
-        let wanted =
-            OfReason { status: 400, posts: 2, last: 7, text: "out of order: point 9, frontier 7".into() };
-        assert_eq!((last[0].1.taken, last[0].1.last, &last[0].1.refused["out of order"]), (1, 7, &wanted));
+        let wanted = OfReason { posts: 2, last: 7, text: "out of order: point 9, frontier 7".into() };
+        assert_eq!(
+            (last[0].1.taken, last[0].1.last, &last[0].1.refused[&Reason::OutOfOrder]),
+            (1, 7, &wanted)
+        );
     }
 
     /// Else names that somebody makes up would fill the memory, or push out who posts.
@@ -134,13 +134,17 @@ mod tests {
         let activity = SenderActivity::default();
         for number in 0..5000u64 {
             activity.note_at("A", &Outcome::taken(0), number);
-            activity.note_at(&format!("made-up-{number}"), &refused(&"x".repeat(5000)), number);
+            activity.note_at(
+                &format!("made-up-{number}"),
+                &Outcome::refused(Reason::Unreadable, "x".repeat(5000)),
+                number,
+            );
         }
         let last = activity.last(10_000);
         assert!(activity.count() <= MOST && last.len() >= KEPT, "{}", last.len());
         let of_a = last.iter().find(|(name, _)| name == "A").map(|(_, of)| of.taken);
         assert_eq!((of_a, &*last[1].0), (Some(5000), "made-up-4999"));
-        assert!(last[1].1.refused["unreadable"].text.len() <= TEXT);
+        assert!(last[1].1.refused[&Reason::Unreadable].text.len() <= TEXT);
         activity.note_at("B", &Outcome::taken(0), 0); // all at one time
         let alike = SenderActivity::default();
         for number in 0..5000 {

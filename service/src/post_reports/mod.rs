@@ -13,9 +13,11 @@ pub(crate) use texts::SERIES_SHOWN;
 
 use crate::intake::{Hears, Taker};
 use crate::log::{shown, OnceAnHour};
-use crate::metrics::{reason_of, Metrics};
+use crate::metrics::Metrics;
 use crate::otlp::series::SeriesKey;
-use crate::otlp::{foreign_points, point_at, Cause, Causes, Original, Outcome, Profile, NO_NAME};
+use crate::otlp::{
+    foreign_points, point_at, Causes, Original, Outcome, Profile, Reason, RejectedPoint, NO_NAME,
+};
 use crate::pass::Pass;
 use crate::slot::{is_sender, Request, Slot, Source};
 use crate::work::{locked, Readers};
@@ -23,7 +25,7 @@ use bytes::Bytes;
 use std::collections::HashSet;
 use std::sync::atomic::{AtomicBool, Ordering::Relaxed};
 use std::sync::{Arc, Mutex};
-use texts::{late_at, of_late, of_other_writer, of_twice, other_writer, place_of, reason};
+use texts::{of_late, of_other_writer, of_twice, other_writer, reason};
 
 /// How many senders, series and refusals are remembered as told.
 const REMEMBERED: usize = 1000;
@@ -66,7 +68,7 @@ struct Logged {
     /// Addresses of who has no name.
     strangers: OnceAnHour<String>,
     /// By sender and reason.
-    refusals: OnceAnHour<(String, &'static str)>,
+    refusals: OnceAnHour<(String, Reason)>,
 }
 
 impl Default for Logged {
@@ -93,7 +95,7 @@ pub struct ReportOptions {
     /// How many reasons of each sender are in the log.
     pub log_foreign: usize,
     /// What is meant to be left out: it is counted by itself, and not told.
-    pub expected: Vec<Cause>,
+    pub expected: Vec<Reason>,
     /// Which points are not foreign.
     pub profile: Profile,
 }
@@ -154,7 +156,12 @@ impl Reporter {
             Outcome::Taken { rejected: 0, .. } => None,
             Outcome::Taken { rejected, off, .. } if *rejected == off.points() => None,
             Outcome::Taken { .. } => self.may_tell_more(sender).then_some(Report::Foreign),
-            _ => outcome.refusal().and_then(place_of).map(Report::OtherWriter),
+            Outcome::Refused(rejection) => match rejection.point {
+                Some(point) if rejection.reason == Reason::OtherWriter => {
+                    Some(Report::OtherWriter(point.place))
+                }
+                _ => None,
+            },
         }
     }
 
@@ -168,35 +175,35 @@ impl Reporter {
     ) -> Outcome {
         match outcome {
             Outcome::Taken { rejected: 0, .. } => outcome,
-            Outcome::Taken { rejected, off, ref known, .. } => {
+            Outcome::Taken { rejected, off, causes: known, .. } => {
                 let foreign = rejected - off.points() - known.count();
                 let causes = match foreign {
                     0 => Causes::default(),
                     _ => self.causes(source, original, foreign).await,
                 };
-                let causes = causes.and(known);
-                let rejected = causes.count();
-                let causes = causes.and(&Causes::of_clocks(off));
-                self.metrics.foreign(sender, &causes, &self.options.expected);
-                Outcome::taken_but(rejected, off).with_causes(&causes)
+                let causes = causes.and(&known);
+                let all = causes.clone().and(&Causes::of_clocks(off));
+                self.metrics.foreign(sender, &all, &self.options.expected);
+                Outcome::taken_but(0, off, causes)
             }
-            Outcome::Refused { status, message } => {
-                let more = self.more(source, &message).await;
-                Outcome::Refused { status, message: message + &more.unwrap_or_default() }
-            }
-            Outcome::Later { .. } => outcome,
+            Outcome::Refused(rejection) => match rejection.point {
+                Some(point) => {
+                    let more = self.more(source, point).await;
+                    rejection.and(&more.unwrap_or_default()).into()
+                }
+                None => rejection.into(),
+            },
         }
     }
 
-    /// What a refusal says beside its own words.
-    async fn more(&self, source: &Source, message: &str) -> Option<String> {
-        let profile = self.options.profile;
-        if let Some(place) = place_of(message) {
+    /// What a refusal for a point says beside its own words.
+    async fn more(&self, source: &Source, point: RejectedPoint) -> Option<String> {
+        let (profile, place) = (self.options.profile, point.place);
+        let Some(frontier) = point.frontier else {
             return self.read(source, move |body| of_other_writer(body, profile, place)).await?;
-        }
-        let late = late_at(message)?;
-        let twice = self.read(source, move |body| of_twice(body, profile, late)).await;
-        twice.flatten().or_else(|| Some(of_late(late.1)))
+        };
+        let twice = self.read(source, move |body| of_twice(body, profile, (place, frontier))).await;
+        twice.flatten().or_else(|| Some(of_late(frontier)))
     }
 
     /// Why so many points were not taken, without those that are handed on.
@@ -234,7 +241,7 @@ impl Reporter {
         };
         let status = outcome.status();
         if status < 500 && locked(&self.logged).refusals.is_due(&(sender.to_string(), reason)) {
-            let answer = shown(message, ANSWER_SHOWN);
+            let (answer, reason) = (shown(message, ANSWER_SHOWN), reason.label());
             tracing::warn!(sender, reason, status, "a post of {sender} is refused with {status}: {answer}");
         }
     }
@@ -248,8 +255,8 @@ impl Reporter {
             return;
         }
         if locked(&self.logged).clocks.is_due(&sender.to_string()) {
-            let (points, reason) = (off.points(), off.to_string());
-            tracing::warn!(sender, points, reason, "points of {sender} are not taken: {reason}");
+            let points = off.points();
+            tracing::warn!(sender, points, "points of {sender} are not taken: {off}");
         }
     }
 
@@ -280,9 +287,9 @@ impl Reporter {
             if point.cause.is_some_and(is_expected) || (self.pass.is_some() && point.is_passed()) {
                 return false;
             }
-            let reason = reason(&point);
-            if reasons.insert(reason.clone()) {
-                tracing::warn!(sender, reason, "points of {sender} are not taken: {reason}");
+            let (told, reason) = (reason(&point), point.cause.map(Reason::label));
+            if reasons.insert(told.clone()) {
+                tracing::warn!(sender, reason, "points of {sender} are not taken: {told}");
             }
             reasons.len() >= self.options.log_foreign
         });
@@ -348,8 +355,8 @@ impl Hears for Reporter {
     }
 
     fn part_refused(&self, sender: &str, outcome: &Outcome) {
-        if let Some(reason) = reason_of(outcome) {
-            self.metrics.refused_parts.with_label_values(&[reason]).inc();
+        if let Some(reason) = outcome.reason() {
+            self.metrics.refused_parts.with_label_values(&[reason.label()]).inc();
         }
         self.note(sender, outcome);
     }

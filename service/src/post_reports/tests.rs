@@ -1,6 +1,7 @@
 //! What is told of foreign points and of owners.
 
 use super::*;
+use crate::core::Refused;
 use crate::otlp::{Clock, OffClock};
 use std::time::Duration;
 
@@ -96,22 +97,26 @@ async fn a_series_of_another_is_told_once_it_is_known() {
         body(&format!(r#"{{"name":"{name}","sum":{{"aggregationTemporality":1,"dataPoints":[{point}]}}}}"#))
     };
     let posts = [metric("m"), metric("m"), metric("n")];
-    let refused = |message: &str| Outcome::Refused { status: 400, message: message.into() };
     let series = async |outcome, owner| told(outcome, owner, 9, &posts).await.2;
-    assert_eq!(series(refused("other writer: point 0"), Some("b")).await, 2);
-    assert_eq!(series(refused("other writer: point 0"), None).await, 0);
-    assert_eq!(series(refused("other writer: point 1"), Some("b")).await, 0);
-    assert_eq!(series(refused("out of order: point 0, frontier 5"), Some("b")).await, 0);
+    assert_eq!(series(other_writer_at(0), Some("b")).await, 2);
+    assert_eq!(series(other_writer_at(0), None).await, 0);
+    assert_eq!(series(other_writer_at(1), Some("b")).await, 0);
+    assert_eq!(series(late(0, 5), Some("b")).await, 0);
+}
+
+fn other_writer_at(point: u64) -> Outcome {
+    Refused::OtherWriter { point }.into()
+}
+
+fn late(point: u64, frontier: u64) -> Outcome {
+    Refused::OutOfOrder { point, frontier }.into()
 }
 
 const SPAN: &str = r#""startTimeUnixNano":"1","timeUnixNano":"2""#;
 
 /// What a post is answered whose points are not taken.
 async fn answered(reported: &Arc<Reported<Answering>>, metrics: &str) -> String {
-    match reported.post("a", body(metrics).into(), None).await {
-        Outcome::Taken { message, .. } => message.unwrap_or_default(),
-        Outcome::Refused { message, .. } | Outcome::Later { message, .. } => message,
-    }
+    reported.post("a", body(metrics).into(), None).await.message().unwrap_or_default()
 }
 
 #[tokio::test]
@@ -127,7 +132,7 @@ async fn a_sender_is_told_what_is_not_taken() {
     let metrics =
         [GAUGES, &counter("c", r#","isMonotonic":true"#), &counter("u", ""), &counter("v", ""), &taken]
             .join(",");
-    let options = ReportOptions { expected: vec![Cause::Gauge], ..ReportOptions::default() };
+    let options = ReportOptions { expected: vec![Reason::Gauge], ..ReportOptions::default() };
     let all = reported(Outcome::taken(6), None, options);
     assert_eq!(
         answered(&all, &metrics).await,
@@ -135,8 +140,8 @@ async fn a_sender_is_told_what_is_not_taken() {
     );
     let page = String::from_utf8(all.reporter.metrics.page()).unwrap();
     for line in [
-        "totxegun_foreign_points_total{cause=\"up-down-counter\",sender=\"a\"} 2",
-        "totxegun_foreign_points_total{cause=\"cumulative-sum\",sender=\"a\"} 1",
+        "totxegun_foreign_points_total{cause=\"up_down_counter\",sender=\"a\"} 2",
+        "totxegun_foreign_points_total{cause=\"cumulative_sum\",sender=\"a\"} 1",
         "totxegun_expected_foreign_points_total{cause=\"gauge\"} 3",
     ] {
         assert!(page.lines().any(|found| found == line), "{line} in\n{page}");
@@ -159,14 +164,14 @@ async fn a_sender_whose_clock_is_off_is_told_by_how_much() {
     let clock = Clock { most_ahead: Some(Duration::from_secs(600)), most_behind: None };
     let (mut off, window) = (OffClock::default(), clock.window());
     off.count(window.off(u64::MAX).unwrap());
-    let reported = reported(Outcome::taken_but(3, off), None, ReportOptions::default());
+    let reported = reported(Outcome::taken_but(3, off, Causes::default()), None, ReportOptions::default());
     let answer = answered(&reported, GAUGES).await;
     let wanted = "points outside the profile: 3 gauges, 1 point ahead of time: its clock is ";
     assert!(answer.starts_with(wanted) && answer.contains("d ahead: see"), "{answer}");
     answered(&reported, GAUGES).await;
     assert_eq!(locked(&reported.reporter.logged).clocks.count(), 1, "it is in the log once");
     let page = String::from_utf8(reported.reporter.metrics.page()).unwrap();
-    let line = "totxegun_foreign_points_total{cause=\"clock-ahead\",sender=\"a\"} 2";
+    let line = "totxegun_foreign_points_total{cause=\"clock_ahead\",sender=\"a\"} 2";
     assert!(page.lines().any(|found| found == line), "{page}");
 }
 
@@ -179,13 +184,12 @@ async fn who_posts_to_another_s_series_is_told_which_it_is() {
         point(""),
         point(route)
     );
-    let refused = |message: &str| Outcome::Refused { status: 400, message: message.into() };
-    let second = reported(refused("other writer: point 1"), None, ReportOptions::default());
+    let second = reported(other_writer_at(1), None, ReportOptions::default());
     assert_eq!(
         answered(&second, &metric).await,
         "other writer: point 1: `m` {route=/} is another sender's: give each process its own service.instance.id"
     );
-    let none = reported(refused("other writer: point 2"), None, ReportOptions::default());
+    let none = reported(other_writer_at(2), None, ReportOptions::default());
     assert_eq!(answered(&none, &metric).await, "other writer: point 2");
     let hostile = metric.replace(r#""m""#, &format!(r#""\u001b[2J{}""#, "x".repeat(9000)));
     let answer = answered(&second, &hostile).await;
@@ -199,9 +203,8 @@ async fn a_post_with_a_series_twice_over_one_time_is_told_so() {
     let route = r#","attributes":[{"key":"route","value":{"stringValue":"/"}}]"#;
     let points = [point(""), "{}".into(), point(route), point(route)].join(",");
     let metric = format!(r#"{{"name":"m","sum":{{"aggregationTemporality":1,"dataPoints":[{points}]}}}}"#);
-    let refused = |message: &str| Outcome::Refused { status: 400, message: message.into() };
     let twice = "out of order: point 2, frontier 2";
-    let said = answered(&reported(refused(twice), None, ReportOptions::default()), &metric).await;
+    let said = answered(&reported(late(2, 2), None, ReportOptions::default()), &metric).await;
     assert_eq!(
         said,
         format!(
@@ -210,30 +213,27 @@ async fn a_post_with_a_series_twice_over_one_time_is_told_so() {
         )
     );
     // The first one, or where another post has come further.
-    for late in ["out of order: point 1, frontier 2", "out of order: point 2, frontier 3"] {
-        let said = answered(&reported(refused(late), None, ReportOptions::default()), &metric).await;
-        assert!(said.starts_with(&format!("{late}: the point begins before 1970-01-01T")), "{said}");
+    for outcome in [late(1, 2), late(2, 3)] {
+        let begin = format!("{}: the point begins before 1970-01-01T", outcome.message().unwrap());
+        let said = answered(&reported(outcome, None, ReportOptions::default()), &metric).await;
+        assert!(said.starts_with(&begin), "{said}");
     }
 }
 
 /// Nobody reads nanoseconds.
 #[tokio::test]
 async fn a_late_sender_is_told_the_time() {
-    let refused = |message: &str| {
-        let message = message.into();
-        reported(Outcome::Refused { status: 400, message }, None, ReportOptions::default())
-    };
-    let late = "out of order: point 2, frontier 1795808400500000000";
-    let said = answered(&refused(late), GAUGES).await;
-    let begin = format!("{late}: the point begins before 2026-11-27T19:40:00.500000Z, ");
-    assert!(said.starts_with(&begin) && said.contains("clock was set back"), "{said}");
-    assert_eq!(answered(&refused("not JSON"), GAUGES).await, "not JSON");
+    let refused = |outcome| reported(outcome, None, ReportOptions::default());
+    let said = answered(&refused(late(2, 1795808400500000000)), GAUGES).await;
+    let begin = "out of order: point 2, frontier 1795808400500000000: the point begins before 2026-11-27T19:40:00.500000Z, ";
+    assert!(said.starts_with(begin) && said.contains("clock was set back"), "{said}");
+    assert_eq!(answered(&refused(Reason::NotJson.into()), GAUGES).await, "not JSON");
 }
 
 /// What is expected is not told; and what is refused is noted, once for the log.
 #[tokio::test]
 async fn refusals_are_noted() {
-    let options = ReportOptions { log_foreign: 9, expected: vec![Cause::Gauge], ..ReportOptions::default() };
+    let options = ReportOptions { log_foreign: 9, expected: vec![Reason::Gauge], ..ReportOptions::default() };
     let expected = reported(Outcome::taken(3), None, options);
     answered(&expected, GAUGES).await;
     while expected.reporter.is_reading.load(Relaxed) {
@@ -242,15 +242,15 @@ async fn refusals_are_noted() {
     let mut logged = locked(&expected.reporter.logged);
     assert!(logged.foreign.get_mut(&"a".to_string()).unwrap().reasons.is_empty());
     drop(logged);
-    let late = Outcome::Refused { status: 400, message: "out of order: point 0, frontier 5".into() };
-    let busy = Outcome::Refused { status: 503, message: "too many bytes in flight".into() };
+    let late = late(0, 5);
+    let busy = Reason::TooManyBytes.into();
     let refused = reported(late.clone(), None, ReportOptions::default()).reporter.clone();
     refused.answered("a", &late);
     refused.part_refused("a", &late);
     refused.answered("b", &busy);
     assert_eq!(locked(&refused.logged).refusals.count(), 1, "503 is not the sender's");
     let of_a = &refused.activity.last(9).into_iter().find(|(name, _)| name == "a").unwrap().1;
-    assert_eq!((of_a.taken, of_a.refused["out of order"].posts), (0, 2));
+    assert_eq!((of_a.taken, of_a.refused[&Reason::OutOfOrder].posts), (0, 2));
 }
 
 /// The lines of the log, as who reads it sees them.
@@ -278,12 +278,12 @@ fn who_is_refused_behind_a_thousand_others_is_told_of() {
     let lines = Lines::default();
     let _here = tracing_subscriber::registry().with(lines.clone()).set_default();
     let reporter = reported(Outcome::taken(0), None, ReportOptions::default()).reporter.clone();
-    let late = Outcome::Refused { status: 400, message: "out of order: point 0, frontier 5".into() };
+    let late = late(0, 5);
     let off = {
         let clock = Clock { most_ahead: Some(Duration::from_secs(600)), most_behind: None };
         let mut off = OffClock::default();
         off.count(clock.window().off(u64::MAX).unwrap());
-        Outcome::taken_but(1, off)
+        Outcome::taken_but(1, off, Causes::default())
     };
     let tell = |sender: &str| {
         reporter.answered(sender, &late);
@@ -311,7 +311,7 @@ fn who_is_refused_behind_a_thousand_others_is_told_of() {
 #[tokio::test]
 async fn so_many_strangers_are_told_of() {
     let reported = reported(Outcome::taken(0), None, ReportOptions::default());
-    let unknown = Outcome::Refused { status: 401, message: "the token is not known".into() };
+    let unknown = Reason::UnknownToken.into();
     for number in 0..5 * STRANGERS {
         reported.reporter.answered(&format!("address 10.0.{}.{}", number / 256, number % 256), &unknown);
     }
@@ -319,7 +319,7 @@ async fn so_many_strangers_are_told_of() {
     assert_eq!(locked(&reported.reporter.logged).refusals.count(), STRANGERS + 2);
     let activity = reported.reporter.activity.last(1000);
     let of = |name: &str| activity.iter().find(|(activity, _)| activity == name).unwrap().1.clone();
-    let posts = |name: &str| of(name).refused["the token is not known"].posts;
+    let posts = |name: &str| of(name).refused[&Reason::UnknownToken].posts;
     assert_eq!((posts("address 10.0.0.7"), posts("shop-1")), (1, 1));
     assert_eq!(posts(NO_NAME), 4 * STRANGERS as u64);
 }
@@ -327,19 +327,15 @@ async fn so_many_strangers_are_told_of() {
 /// Cumulative points that are refused by name count, beside foreign ones and alone.
 #[tokio::test]
 async fn what_is_refused_of_runs_is_counted() {
-    let turned: Causes = [(Cause::WentDown, 2)].into_iter().collect();
+    let turned: Causes = [(Reason::WentDown, 2)].into_iter().collect();
     for (gauges, metrics) in [(0, ""), (3, GAUGES)] {
-        let outcome = Outcome::Taken {
-            rejected: 2 + gauges,
-            off: OffClock::default(),
-            known: turned.clone(),
-            message: None,
-        };
+        let outcome = Outcome::taken_but(gauges, OffClock::default(), turned.clone());
         let reported = reported(outcome, None, ReportOptions::default());
         let said = reported.post("a", body(metrics).into(), None).await;
-        let Outcome::Taken { rejected, message: Some(message), .. } = said else {
+        let Outcome::Taken { rejected, .. } = said else {
             panic!("{said:?}");
         };
+        let message = said.message().unwrap();
         assert_eq!(rejected, 2 + gauges);
         assert!(message.contains("2 cumulative points that went down"), "{message}");
     }

@@ -4,13 +4,6 @@ use crate::log::{all_shown, cut, of_nanoseconds, shown};
 use crate::otlp::series::SeriesKey;
 use crate::otlp::{point_at, second_at, Explained, Profile};
 
-/// What an answer begins with to a post to another's series; the place of its point follows.
-const OTHER_WRITER: &str = "other writer: point ";
-
-/// The same of a point that is too late; the end of what was taken of its series follows, in nanoseconds since 1970.
-const OUT_OF_ORDER: &str = "out of order: point ";
-const FRONTIER: &str = ", frontier ";
-
 /// How much of a metric's name is told, and of all that identifies a series, in characters.
 const NAME_SHOWN: usize = 100;
 pub(crate) const SERIES_SHOWN: usize = 2000;
@@ -22,17 +15,6 @@ pub(super) fn reason(point: &Explained) -> String {
     let name = cut(&point.metric, NAME_SHOWN);
     let why = point.foreign.as_deref().unwrap_or_default();
     all_shown(&format!("{} `{name}`: {why}", point.kind))
-}
-
-/// The place of the point that another's series is met by.
-pub(super) fn place_of(message: &str) -> Option<u64> {
-    message.strip_prefix(OTHER_WRITER)?.parse().ok()
-}
-
-/// The place of a point that is too late, and where its series ended.
-pub(super) fn late_at(message: &str) -> Option<(u64, u64)> {
-    let (place, frontier) = message.strip_prefix(OUT_OF_ORDER)?.split_once(FRONTIER)?;
-    Some((place.parse().ok()?, frontier.parse().ok()?))
 }
 
 /// What the answer to a post out of order says beside them: when that was, and what it means.

@@ -6,7 +6,7 @@
 //! nothing counts twice, also if a sender says another start of the same run.
 
 use crate::files::OfRun;
-use crate::otlp::Cause;
+use crate::otlp::Reason;
 use serde::{Deserialize, Serialize};
 
 /// A cumulative point of a series.
@@ -149,7 +149,7 @@ pub fn entry(
     kind: Kind,
     known: Option<&Run>,
     point: &Point,
-) -> Result<Option<Entry>, Cause> {
+) -> Result<Option<Entry>, Reason> {
     let Some(known) = known else {
         return first(options, since, point).map(Some);
     };
@@ -158,7 +158,7 @@ pub fn entry(
         return Ok(None);
     }
     if point.time <= last.time {
-        return Err(Cause::EarlierRun);
+        return Err(Reason::EarlierRun);
     }
     if point.start == last.start {
         return of_run(options, kind, last, point).map(Some);
@@ -169,15 +169,15 @@ pub fn entry(
     // Runs overlap, as those of a process and of the one in its place.
     match known.has_ended_at(point.time) {
         true => Ok(Some(noted(point))),
-        false => Err(Cause::EarlierRun),
+        false => Err(Reason::EarlierRun),
     }
 }
 
 /// The first point of a series.
-fn first(options: Options, since: Since, point: &Point) -> Result<Entry, Cause> {
+fn first(options: Options, since: Since, point: &Point) -> Result<Entry, Reason> {
     if point.time <= since.forgotten {
         // From before the series was forgotten: it may have been counted.
-        return Err(Cause::Forgotten);
+        return Err(Reason::Forgotten);
     }
     Ok(match since.counts(options.first, point.start) && !is_instant(point) {
         true => counted(point, point.start),
@@ -208,15 +208,15 @@ fn noted(point: &Point) -> Entry {
 }
 
 /// A later point of the same start.
-fn of_run(options: Options, kind: Kind, last: &Point, point: &Point) -> Result<Entry, Cause> {
+fn of_run(options: Options, kind: Kind, last: &Point, point: &Point) -> Result<Entry, Reason> {
     if kind != Kind::Sum && goes_down(&last.words, &point.words) {
         // Without a start nothing else could say that a run began anew.
         return match options.reset == Reset::Count || point.start == 0 {
             true => Ok(counted(point, last.time)),
-            false => Err(Cause::WentDown),
+            false => Err(Reason::WentDown),
         };
     }
-    let words = difference(kind, &last.words, &point.words).ok_or(Cause::Leap)?;
+    let words = difference(kind, &last.words, &point.words).ok_or(Reason::Leap)?;
     Ok(Entry { of_run: OfRun::More, from: last.time, time: point.time, words })
 }
 

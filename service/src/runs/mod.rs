@@ -22,7 +22,7 @@ pub use law::{EndedRun, Entry, First, Kind, Options, Point, Reset, Run, Since};
 use crate::core::Names;
 use crate::files::{self, OfRun, Outbox, Points};
 use crate::otlp::series::{self, Digest, SeriesKey};
-use crate::otlp::Cause;
+use crate::otlp::Reason;
 use crate::work::locked;
 use law::entry;
 use std::collections::HashMap;
@@ -274,14 +274,14 @@ fn added_by(
     known: Option<&Run>,
     deltas: u64,
     point: &Point,
-) -> Result<Option<Entry>, Cause> {
+) -> Result<Option<Entry>, Reason> {
     let found = entry(options, terms.since, terms.kind, known, point)?;
     let begins = found.as_ref().map_or(u64::MAX, |entry| match (&entry.of_run, known) {
         (OfRun::Noted { start, .. }, None) => entry.from.min(*start),
         _ => entry.from,
     });
     match begins < terms.frontier.max(deltas) {
-        true => Err(Cause::Mixed),
+        true => Err(Reason::Mixed),
         false => Ok(found),
     }
 }

@@ -16,15 +16,15 @@ fn run(start: u64, time: u64, words: &[u64]) -> Run {
     Run { last: point(start, time, words), interval: 10, before: EndedRun { start: 90, time: 105 } }
 }
 
-fn more(from: u64, time: u64, words: &[u64]) -> Result<Option<Entry>, Cause> {
+fn more(from: u64, time: u64, words: &[u64]) -> Result<Option<Entry>, Reason> {
     Ok(Some(Entry { of_run: OfRun::More, from, time, words: words.to_vec() }))
 }
 
-fn counted(start: u64, from: u64, time: u64, words: &[u64]) -> Result<Option<Entry>, Cause> {
+fn counted(start: u64, from: u64, time: u64, words: &[u64]) -> Result<Option<Entry>, Reason> {
     Ok(Some(Entry { of_run: OfRun::Began(start), from, time, words: words.to_vec() }))
 }
 
-fn noted(start: u64, time: u64, words: &[u64]) -> Result<Option<Entry>, Cause> {
+fn noted(start: u64, time: u64, words: &[u64]) -> Result<Option<Entry>, Reason> {
     let of_run = OfRun::Noted { start, words: words.to_vec() };
     Ok(Some(Entry { of_run, from: time - 1, time, words: vec![0; words.len()] }))
 }
@@ -57,7 +57,7 @@ fn a_first_point_counts_from_its_start_as_it_was_told() {
         assert_eq!(first(option, start, 200), wanted, "{option:?} {start}");
     }
     // Late, of a series that may have been counted before it was forgotten.
-    assert_eq!(first(First::Auto, 40, 50), Err(Cause::Forgotten));
+    assert_eq!(first(First::Auto, 40, 50), Err(Reason::Forgotten));
     assert_eq!(first(First::Auto, 40, 51), noted(40, 51, &[7]));
 }
 
@@ -76,7 +76,7 @@ fn a_later_point_adds_what_its_run_has_more_or_all_of_a_new_run() {
     // Also with less than it was: it is another run. Where this one began nobody knows.
     assert_eq!(refuse(210, 210, 3), noted(210, 210, &[3]));
     for start in [0, 109, 111, 199] {
-        assert_eq!(refuse(start, 210, 9), Err(Cause::EarlierRun), "{start}");
+        assert_eq!(refuse(start, 210, 9), Err(Reason::EarlierRun), "{start}");
     }
     // The same point again; an older one, also of the run before, whatever it says.
     for (start, time, value) in [(110, 200, 7), (110, 199, 9), (90, 105, 9), (90, 95, 9)] {
@@ -84,16 +84,16 @@ fn a_later_point_adds_what_its_run_has_more_or_all_of_a_new_run() {
     }
     // These say what nobody has counted.
     for (start, time, value) in [(110, 200, 9), (150, 200, 7), (0, 1, 9), (90, 106, 9)] {
-        assert_eq!(refuse(start, time, value), Err(Cause::EarlierRun), "{start} {time}");
+        assert_eq!(refuse(start, time, value), Err(Reason::EarlierRun), "{start} {time}");
     }
-    assert_eq!(refuse(110, 210, 6), Err(Cause::WentDown));
+    assert_eq!(refuse(110, 210, 6), Err(Reason::WentDown));
     let reset = next(Reset::Count, Kind::Monotonic, 110, 210, 6);
     assert_eq!(reset, counted(110, 200, 210, &[6]));
     let down = next(Reset::Refuse, Kind::Sum, 110, 210, -6);
     assert_eq!(down, more(200, 210, &[-13i64 as u64]));
     // Over 63 bits.
     let lowest = next(Reset::Refuse, Kind::Sum, 110, 210, i64::MIN + 1);
-    assert_eq!(lowest, Err(Cause::Leap));
+    assert_eq!(lowest, Err(Reason::Leap));
 }
 
 /// Nothing else could say that a counter began anew.
@@ -122,7 +122,7 @@ fn a_histogram_has_a_sum_more_where_both_points_have_one() {
     let came = next(&[3, 0, 0, 1, 2], &[5, 1, 70, 2, 3]);
     assert_eq!(came, (more(200, 210, &[2, 0, 0, 1, 1]), Some(vec![5, 0, 0, 2, 3])));
     for now in [[2, 1, 30, 0, 2], [4, 1, 29, 2, 2], [4, 1, 40, 0, 4]] {
-        assert_eq!(next(&[3, 1, 30, 1, 2], &now).0, Err(Cause::WentDown), "{now:?}");
+        assert_eq!(next(&[3, 1, 30, 1, 2], &now).0, Err(Reason::WentDown), "{now:?}");
     }
 }
 
@@ -136,7 +136,7 @@ fn a_run_is_noted_that_overlaps_one_which_was_silent_for_three_intervals() {
     };
     for (first, start) in [(First::Auto, 150), (First::Drop, 199), (First::Count, 109), (First::Auto, 0)] {
         for time in [201, 229] {
-            assert_eq!(next(first, &known, start, time), Err(Cause::EarlierRun), "{start} {time}");
+            assert_eq!(next(first, &known, start, time), Err(Reason::EarlierRun), "{start} {time}");
         }
         assert_eq!(next(first, &known, start, 230), noted(start, 230, &[9]));
     }
@@ -144,7 +144,7 @@ fn a_run_is_noted_that_overlaps_one_which_was_silent_for_three_intervals() {
     assert_eq!(next(First::Auto, &known, 200, 201), counted(200, 200, 201, &[9]));
     // Nobody knows how often it has a point.
     let unknown = Run { interval: 0, ..known };
-    assert_eq!(next(First::Auto, &unknown, 150, 9_000), Err(Cause::EarlierRun));
+    assert_eq!(next(First::Auto, &unknown, 150, 9_000), Err(Reason::EarlierRun));
 }
 
 /// Also where a start reads it again.

@@ -5,12 +5,11 @@ use super::operators::Operators;
 use super::parts::limits;
 use super::senders::Senders;
 use super::{Ended, OfStore, Settings};
-use crate::cluster::NO_STORE;
 use crate::intake::connections::Handler;
 use crate::intake::{Budget, Intake, Threads};
 use crate::log::RateLimit;
 use crate::operate::{message, reply};
-use crate::otlp::{Original, Outcome, Resources};
+use crate::otlp::{Original, Outcome, Reason, Resources};
 use crate::slot::{Elsewhere, Slot, Slots};
 use crate::store::postgres::PostgresStore;
 use crate::work::blocking;
@@ -99,8 +98,8 @@ impl Waiting {
 struct NoStore;
 
 impl Elsewhere for NoStore {
-    fn unavailable(&self) -> Option<&'static str> {
-        Some(NO_STORE)
+    fn unavailable(&self) -> Option<Reason> {
+        Some(Reason::StoreSilent)
     }
 
     fn post<'a>(
@@ -109,7 +108,7 @@ impl Elsewhere for NoStore {
         _: &'a str,
         _: Original,
     ) -> Pin<Box<dyn Future<Output = Outcome> + Send + 'a>> {
-        Box::pin(async { Outcome::Refused { status: 503, message: NO_STORE.into() } })
+        Box::pin(async { Reason::StoreSilent.into() })
     }
 }
 
@@ -117,7 +116,7 @@ impl Handler for NoStore {
     async fn answer(self: Arc<Self>, request: Request<Body>) -> Response<Body> {
         match request.uri().path() {
             "/health" => reply(200, "text/plain; charset=utf-8", "ok\n"),
-            _ => message(503, NO_STORE),
+            _ => message(503, Reason::StoreSilent.text()),
         }
     }
 }

@@ -13,7 +13,7 @@ pub use rules::{Owned, Rules, Share, MOST_POINTS};
 
 use crate::files::Names;
 use crate::otlp::series::others;
-use crate::otlp::Outcome;
+use crate::otlp::{Outcome, Reason, Rejection};
 use crate::work::{blocking, locked};
 use bucket::{Buckets, BURST};
 use bytes::Bytes;
@@ -88,13 +88,14 @@ impl Series {
 
 impl From<Over> for Outcome {
     fn from(over: Over) -> Outcome {
-        let message = over.to_string();
-        match over {
-            Over::Points { seconds, .. } => Outcome::Later { seconds, message },
-            Over::Series { .. } => Outcome::Later { seconds: AGAIN, message },
-            Over::Alone { .. } | Over::AllAlone { .. } => Outcome::Refused { status: 413, message },
-            Over::All { .. } => Outcome::Refused { status: 503, message },
-        }
+        let (reason, seconds) = match over {
+            Over::Points { seconds, .. } => (Reason::OverShare, Some(seconds)),
+            Over::Series { .. } => (Reason::OverShare, Some(AGAIN)),
+            Over::Alone { .. } => (Reason::PostOverShare, None),
+            Over::All { .. } => (Reason::TooManySeries, None),
+            Over::AllAlone { .. } => (Reason::PostOfTooManySeries, None),
+        };
+        Outcome::Refused(Rejection { seconds, ..Rejection::new(reason, over.to_string()) })
     }
 }
 

@@ -197,8 +197,8 @@ async fn all_senders_together_have_no_more_series_than_the_service() {
     assert_eq!(service.post("C", &names("c", 5)).await, Ok(()));
     assert_eq!(service.post("C", &[names("c", 5), names("d", 1)].concat()).await, full(100));
     let told = Outcome::from(Over::All { all: 100, most: 100 });
-    let message = "too many series: there are 100, and at most 100".to_string();
-    assert_eq!(told, Outcome::Refused { status: 503, message });
+    let message = "too many series: there are 100, and at most 100";
+    assert_eq!(told, Outcome::refused(Reason::TooManySeries, message));
 }
 
 #[tokio::test]
@@ -211,7 +211,8 @@ async fn a_share_of_series_is_kept_to_between_two_flushes_too() {
     service.flush();
     assert_eq!(service.post("A", &names("b", 2)).await, Ok(()));
     let over = service.post("A", &[names("b", 2), names("c", 1)].concat()).await.unwrap_err();
-    assert!(matches!(Outcome::from(over), Outcome::Later { seconds: AGAIN, .. }));
+    let told = Outcome::from(over);
+    assert_eq!((told.status(), told.again_in()), (429, Some(AGAIN)));
 }
 
 /// Else who is just below its share comes to nearly twice that.

@@ -8,7 +8,7 @@ use crate::core::{Read, Refused};
 use crate::files::Names as _;
 use crate::log::{shown, RateLimit};
 use crate::otlp::series::{self, Digest};
-use crate::otlp::{Outcome, Window};
+use crate::otlp::{Outcome, Reason, Window};
 use crate::post_reports::SERIES_SHOWN;
 use crate::runs::{self, Draft};
 use crate::shares::Claim;
@@ -75,7 +75,7 @@ impl Slot {
         sender: String,
         mut by: ByNumber,
         mut claim: Claim<'_>,
-    ) -> Result<Journalled, &'static str> {
+    ) -> Result<Journalled, Reason> {
         let window = self.clock.window();
         let (left_out, frontiers) = (LeftOut::of(&mut by, &window), HashMap::new());
         let mut making = Making { sender, by, window, left_out, frontiers, is_of_text: false };
@@ -99,7 +99,7 @@ impl Slot {
         self: &Arc<Slot>,
         mut making: Making,
         claim: &mut Claim<'_>,
-    ) -> (Making, Result<Option<Put>, &'static str>) {
+    ) -> (Making, Result<Option<Put>, Reason>) {
         if making.by.bytes() <= Readers::SHORT {
             let put = self.put_made(&mut making);
             return (making, put);
@@ -114,7 +114,7 @@ impl Slot {
     }
 
     /// None where what is in flight has to land first: nobody waits with the lock of the runs.
-    fn put_made(&self, making: &mut Making) -> Result<Option<Put>, &'static str> {
+    fn put_made(&self, making: &mut Making) -> Result<Option<Put>, Reason> {
         loop {
             match self.try_made(making)? {
                 Tried::Put(put) => return Ok(Some(put)),
@@ -142,7 +142,7 @@ impl Slot {
         self.numbered_text(&text)?.ok_or(Refused::WrongShape)
     }
 
-    fn try_made(&self, making: &Making) -> Result<Tried, &'static str> {
+    fn try_made(&self, making: &Making) -> Result<Tried, Reason> {
         let (by, left_out) = (&making.by, &making.left_out);
         let posted = runs::Posted { points: &by.points, cumulative: &by.cumulative, names: &by.names };
         let frontier = |series: &Digest| match making.frontiers.get(series) {

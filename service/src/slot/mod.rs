@@ -16,12 +16,12 @@ mod verdict;
 
 pub use numbers::{ByNumber, Request, Source};
 pub(crate) use phase::Phase;
-pub use slots::{Elsewhere, Slots, Way, NO_OWNER};
+pub use slots::{Elsewhere, Slots, Way};
 
 use crate::core::Core;
 use crate::files::{FreeSpace, Journal, Outbox};
 use crate::metrics::Metrics;
-use crate::otlp::{Clock, Outcome, Reading};
+use crate::otlp::{Clock, Outcome, Reading, Reason};
 use crate::runs::Runs;
 use crate::shares::Shares;
 use crate::work::Readers;
@@ -30,17 +30,6 @@ use phase::Phases;
 use std::sync::atomic::{AtomicBool, AtomicU64, Ordering};
 use std::sync::Arc;
 use tokio::sync::Notify;
-
-/// What is kept free of the disk is all that is left of it.
-pub const NO_ROOM: &str = "no room for the journal";
-/// Until there is a new start nothing is taken.
-pub const UNFILLED: &str = "no memory: the book does not take what the journal has";
-/// Another instance has the slot, or will have it in a moment.
-pub const MOVED: &str = "this slot is being moved";
-/// A call of the disk takes long.
-pub const NO_ANSWER: &str = "the disk does not answer";
-/// The same, where a store has the slot's files.
-pub const NO_STORE: &str = "the store does not answer";
 
 /// How many long bodies are read at a time: while it is read, one takes several times its length.
 const READERS: usize = 2;
@@ -163,20 +152,20 @@ impl Slot {
         self.request(sender, body.into()).await
     }
 
-    /// Why each post is answered 503 now, in that answer's words.
-    pub fn unavailable(&self) -> Option<&'static str> {
+    /// Why each post is answered 503 now.
+    pub fn unavailable(&self) -> Option<Reason> {
         match self.phase() {
-            Phase::Recovering => Some("recovering"),
-            Phase::Unfilled => Some(UNFILLED),
-            Phase::Stopping => Some("stopping"),
-            Phase::Lost => Some(MOVED),
+            Phase::Recovering => Some(Reason::Recovering),
+            Phase::Unfilled => Some(Reason::Unfilled),
+            Phase::Stopping => Some(Reason::Stopping),
+            Phase::Lost => Some(Reason::SlotMoves),
             // Before its room, for which the disk is asked.
             Phase::Serving if !self.disk_answers() => Some(match self.journal.is_in_store() {
-                true => NO_STORE,
-                false => NO_ANSWER,
+                true => Reason::StoreSilent,
+                false => Reason::DiskSilent,
             }),
             Phase::Serving if self.free_space.is_left() => None,
-            Phase::Serving => Some(NO_ROOM),
+            Phase::Serving => Some(Reason::NoRoom),
         }
     }
 

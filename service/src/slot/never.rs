@@ -6,7 +6,7 @@ use crate::core::{Read, Refused};
 use crate::files::{Body, Points};
 use crate::log::shown;
 use crate::otlp::series::{self, Profile};
-use crate::otlp::{taken_points, Outcome};
+use crate::otlp::{taken_points, Outcome, Reason, Rejection};
 use std::collections::hash_map::RandomState;
 use std::collections::{HashMap, HashSet};
 use std::hash::BuildHasher;
@@ -26,21 +26,24 @@ impl Slot {
             Refused::TooLarge => too_large(read),
             _ => None,
         };
-        never.map_or_else(|| refused.into(), |message| Outcome::Refused { status: 413, message })
+        never.map_or_else(|| refused.into(), Outcome::Refused)
     }
 }
 
 /// Where they are unevenly among the books fewer are too many, which is not seen here.
-fn too_many(read: &Read, most: usize) -> Option<String> {
+fn too_many(read: &Read, most: usize) -> Option<Rejection> {
     let is_over = read.points() > most as u64
         && match &read.post.body {
             Body::Points(points) => points.numbers().collect::<HashSet<_>>().len() > most,
             Body::Text(text) => series::others(text, Profile::Deltas, most as u64, |_| false) > most as u64,
         };
-    is_over.then(|| format!("too many series in a post: over {most}: post fewer series at a time"))
+    is_over.then(|| {
+        let more = format!(": over {most}: post fewer series at a time");
+        Rejection::from(Reason::PostOfTooManySeries).and(&more)
+    })
 }
 
-fn too_large(read: &Read) -> Option<String> {
+fn too_large(read: &Read) -> Option<Rejection> {
     match &read.post.body {
         Body::Points(points) => {
             let (number, most) = large(points)?;
@@ -52,11 +55,10 @@ fn too_large(read: &Read) -> Option<String> {
 }
 
 /// Of a metric with a series that is over this limit.
-fn large_said(metric: &str, most: u64) -> String {
+fn large_said(metric: &str, most: u64) -> Rejection {
     let metric = shown(metric, NAME_SHOWN);
-    format!(
-        "too large: a post's points of one series of {metric} add up to over {most}: post fewer at a time"
-    )
+    let more = format!(" of {metric} add up to over {most}: post fewer at a time");
+    Rejection::from(Reason::PostTooLarge).and(&more)
 }
 
 /// The number of a series that is over a limit, and the limit.
@@ -66,7 +68,7 @@ fn large(points: &Points) -> Option<(u64, u64)> {
 }
 
 /// The same of a text, for whose series there was no room to have numbers. No key is kept.
-fn large_of_text(text: &[u8]) -> Option<String> {
+fn large_of_text(text: &[u8]) -> Option<Rejection> {
     let (hasher, mut rows, mut found) = (RandomState::new(), Rows::default(), None);
     taken_points(text, |key, metric, words| {
         if let (None, Some(most)) = (&found, rows.add(hasher.hash_one(key), &words[2..])) {
@@ -190,8 +192,9 @@ mod tests {
         assert_eq!(outcome.status(), 413, "{outcome:?}");
         let read = slot.core.read("A".into(), sums(10, &[HALF, HALF]).into()).unwrap();
         assert!(matches!(read.post.body, Body::Text(_)));
-        let (status, message) = over(i64::MAX as u64);
-        assert_eq!(slot.refusal(&read, Refused::TooLarge), Outcome::Refused { status, message });
+        let message = over(i64::MAX as u64).1;
+        let wanted = Outcome::refused(Reason::PostTooLarge, message);
+        assert_eq!(slot.refusal(&read, Refused::TooLarge), wanted);
         let read = slot.core.read("A".into(), sums(10, &[HALF]).into()).unwrap();
         assert_eq!(slot.refusal(&read, Refused::TooLarge), Refused::TooLarge.into());
         for (series, status) in [(SERIES_OF_A_BOOK + 1, 413), (SERIES_OF_A_BOOK, 503)] {

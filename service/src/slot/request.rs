@@ -5,11 +5,11 @@
 
 use super::posted::{Posted, RequestReader};
 use super::verdict::Journalled;
-use super::{is_sender, Phase, Request, Slot, MOVED, NO_ROOM};
+use super::{is_sender, Phase, Request, Slot};
 use crate::core::{Locked, Read, Refused};
 use crate::files::{Body, Lost, FAILED};
 use crate::otlp::series::{self, Profile, SeriesKey};
-use crate::otlp::{Outcome, Reading, Window};
+use crate::otlp::{Outcome, Reading, Reason, Window};
 use crate::shares::{Claim, Over, Series};
 use crate::work::blocking;
 use bytes::Bytes;
@@ -33,11 +33,11 @@ impl Slot {
             return Refused::BadSender.into();
         }
         if let Some(why) = self.unavailable() {
-            return unavailable(why);
+            return why.into();
         }
         if let Some(reading) = self.unkept() {
             if let Err(Lost) = Box::pin(self.keep(reading)).await {
-                return unavailable(MOVED);
+                return Reason::SlotMoves.into();
             }
         }
         let said = match request {
@@ -70,7 +70,7 @@ impl Slot {
         };
         match said {
             Ok(journalled) => journalled.durable(&self.journal).await,
-            Err(why) => unavailable(why),
+            Err(why) => why.into(),
         }
     }
 
@@ -125,11 +125,7 @@ impl Slot {
 
     /// Puts a post into the book and into the journal; behind what is in flight, where that is of an hour before. The error
     /// is why the book was not asked.
-    async fn put_in_turn(
-        &self,
-        posted: &mut Posted,
-        mut claim: Claim<'_>,
-    ) -> Result<Journalled, &'static str> {
+    async fn put_in_turn(&self, posted: &mut Posted, mut claim: Claim<'_>) -> Result<Journalled, Reason> {
         loop {
             let landed = self.landed.notified(); // from here on none is missed
             match self.put(posted)? {
@@ -149,7 +145,7 @@ impl Slot {
 
     /// The same, and why the book refused it: also since what is in flight has to land first. Senders may have made as many series as
     /// there is memory for: then posts that bring none go on.
-    pub(super) fn put(&self, posted: &mut Posted) -> Result<Result<Put, Refused>, &'static str> {
+    pub(super) fn put(&self, posted: &mut Posted) -> Result<Result<Put, Refused>, Reason> {
         let put = self.put_once(posted)?;
         let has_no_memory = matches!(put, Err(Refused::NoMemory));
         if has_no_memory && self.has_series_of(&posted.read) && posted.read.parse_with_known_series().is_ok()
@@ -171,15 +167,15 @@ impl Slot {
         }
     }
 
-    fn put_once(&self, posted: &mut Posted) -> Result<Result<Put, Refused>, &'static str> {
+    fn put_once(&self, posted: &mut Posted) -> Result<Result<Put, Refused>, Reason> {
         // Others may have come through the door at once.
         let Some(_reserved) = self.free_space.reserve(posted.read.bytes()) else {
-            return Err(NO_ROOM);
+            return Err(Reason::NoRoom);
         };
         let mut book = self.core.lock();
         // Behind the lock: the last checkpoint may have come between.
         if self.phase() != Phase::Serving {
-            return Err(self.unavailable().unwrap_or("recovering"));
+            return Err(self.unavailable().unwrap_or(Reason::Recovering));
         }
         let before = book.series();
         let admitted = book.admit(&mut posted.read);
@@ -236,7 +232,7 @@ impl Slot {
 #[cfg(test)]
 impl Slot {
     /// The second half of a post's way.
-    pub(crate) fn put_of_test(&self, read: crate::core::Read) -> Result<(), &'static str> {
+    pub(crate) fn put_of_test(&self, read: crate::core::Read) -> Result<(), Reason> {
         self.put(&mut Posted::whole(read)).map(drop)
     }
 }
@@ -249,10 +245,6 @@ fn series_of(read: &Read) -> impl Fn() -> Series + '_ {
         (None, Body::Text(text)) => Series::Text(text.clone()),
         (None, Body::Points(_)) => Series::Text(Bytes::new()), // there are none
     }
-}
-
-fn unavailable(why: &str) -> Outcome {
-    Outcome::Refused { status: 503, message: why.into() }
 }
 
 #[cfg(test)]
@@ -284,7 +276,7 @@ mod tests {
         assert!(!waiting.is_finished());
         slot.lose();
         let told = tokio::time::timeout(Duration::from_secs(5), waiting).await.expect("it waits for ever");
-        assert!(matches!(told.unwrap(), Outcome::Refused { status: 503, .. }));
+        assert!(told.unwrap().status() == 503);
     }
 
     /// Who looks for a series for as long as nobody else has done something.
@@ -387,6 +379,6 @@ mod tests {
         assert_eq!(slot.journal.failure(), Some(NO_REST));
         let told = Journalled::behind_all(Refused::BadSender, &slot.journal);
         let told = told.durable(&slot.journal).await;
-        assert!(matches!(told, Outcome::Refused { status: 503, .. }), "{told:?}");
+        assert_eq!(told.reason(), Some(Reason::SlotMoves));
     }
 }

@@ -3,19 +3,16 @@
 //! A folder has one, and nothing is looked at then. Of several each is here or not, which changes while posts go on: a post has
 //! what it found, also where that changes meanwhile.
 
-use crate::otlp::{Encoding, Original, Outcome, Resources, Split};
+use crate::otlp::{Encoding, Original, Outcome, Reason, Resources, Split};
 use bytes::Bytes;
 use std::future::Future;
 use std::pin::Pin;
 use std::sync::{Arc, PoisonError, RwLock};
 
-/// What is said where a slot is nobody's.
-pub const NO_OWNER: &str = "no instance has the slot of this post";
-
 /// Who brings posts to slots that are not here.
 pub trait Elsewhere: Send + Sync + 'static {
     /// Why no post is taken here now, whosever its slot is.
-    fn unavailable(&self) -> Option<&'static str> {
+    fn unavailable(&self) -> Option<Reason> {
         None
     }
 
@@ -120,7 +117,7 @@ impl<T> Slots<T> {
     }
 
     /// Why each post is answered 503 now, before it is read.
-    pub fn unavailable(&self) -> Option<&'static str> {
+    pub fn unavailable(&self) -> Option<Reason> {
         self.others()?.unavailable()
     }
 
@@ -128,7 +125,7 @@ impl<T> Slots<T> {
     pub async fn elsewhere(&self, slot: u16, sender: &str, part: Original) -> Outcome {
         match self.others() {
             Some(elsewhere) => elsewhere.post(slot, sender, part).await,
-            None => Outcome::Refused { status: 503, message: NO_OWNER.into() },
+            None => Reason::NoOwner.into(),
         }
     }
 }

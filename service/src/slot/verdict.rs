@@ -6,10 +6,8 @@
 //! given: what another instance has says it.
 
 use super::posted::Posted;
-use super::MOVED;
-use crate::core::Refused;
 use crate::files::{Journal, Lost, Ticket};
-use crate::otlp::{Causes, OffClock, Outcome};
+use crate::otlp::{Causes, OffClock, Outcome, Reason};
 
 /// What may be said once the journal is durable up to a place.
 #[must_use = "a sender waits for it"]
@@ -24,7 +22,7 @@ impl Journalled {
         let (post, names) = (&posted.read.post, posted.read.names());
         Journalled {
             ticket: journal.append(post, names),
-            outcome: Outcome::taken_but(post.foreign, posted.left_out.off),
+            outcome: Outcome::taken_but(post.foreign, posted.left_out.off, Causes::default()),
         }
     }
 
@@ -36,12 +34,7 @@ impl Journalled {
     /// The same of a post of which so many points are outside the profile, and others off by their clock or were not taken
     /// for these reasons.
     pub fn without(mut self, foreign: u64, off: OffClock, turned: &Causes) -> Journalled {
-        self.outcome = Outcome::Taken {
-            rejected: foreign + off.points() + turned.count(),
-            off,
-            known: turned.clone(),
-            message: None,
-        };
+        self.outcome = Outcome::taken_but(foreign, off, turned.clone());
         self
     }
 
@@ -49,21 +42,15 @@ impl Journalled {
     pub async fn durable(self, journal: &Journal) -> Outcome {
         match journal.durable(self.ticket).await {
             Ok(()) => self.outcome,
-            Err(Lost) => Outcome::Refused { status: 503, message: MOVED.into() },
+            Err(Lost) => Reason::SlotMoves.into(),
         }
-    }
-}
-
-impl From<Refused> for Outcome {
-    fn from(refused: Refused) -> Outcome {
-        Outcome::Refused { status: refused.status(), message: refused.to_string() }
     }
 }
 
 #[cfg(test)]
 mod tests {
     use super::*;
-    use crate::core::Core;
+    use crate::core::{Core, Refused};
     use crate::files::{Disk, Durability, Folder};
     use std::sync::atomic::{AtomicBool, Ordering::SeqCst};
     use std::sync::Arc;

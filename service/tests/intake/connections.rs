@@ -4,7 +4,7 @@ use crate::support::{json, post, Served, BODY, LATE};
 use std::time::Duration;
 use tokio::io::AsyncWriteExt;
 use totxegun::intake::Limits;
-use totxegun::otlp::Outcome;
+use totxegun::otlp::{Outcome, Reason};
 
 #[tokio::test]
 async fn many_pipelined_requests_are_answered_in_order() {
@@ -164,7 +164,7 @@ async fn a_sender_that_does_not_read_its_answer_is_closed_where_another_waits() 
         idle: Duration::from_secs(600),
     };
     // More than the system keeps for a sender that keeps little itself.
-    let long = Outcome::Refused { status: 400, message: "x".repeat(8 << 20) };
+    let long = Outcome::refused(Reason::Unreadable, "x".repeat(8 << 20));
     let served = Served::limited(limits, LATE, long, 64 << 20).await;
     let deaf = tokio::net::TcpSocket::new_v4().unwrap();
     deaf.set_recv_buffer_size(4096).unwrap();

@@ -3,7 +3,7 @@
 use crate::support::{gzip, json, post, Served, BODY};
 use bytes::Bytes;
 use prost::Message;
-use totxegun::otlp::Outcome;
+use totxegun::otlp::{Outcome, Reason};
 
 /// `google.rpc.Status`, as far as it is answered.
 #[derive(Clone, PartialEq, Message)]
@@ -142,7 +142,7 @@ async fn names_of_senders_are_the_books() {
 
 #[tokio::test]
 async fn what_a_slot_says_is_answered() {
-    let refused = Outcome::Refused { status: 503, message: "recovering".into() };
+    let refused = Reason::Recovering.into();
     let served = Served::with(refused, 1 << 20, 8).await;
     let answer = served.ask(&json(BODY.as_bytes())).await;
     assert_eq!((answer.status, answer.message().as_str()), (503, "recovering"));

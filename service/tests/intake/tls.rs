@@ -10,7 +10,7 @@ use tokio::net::{TcpSocket, TcpStream};
 use tokio_rustls::client::TlsStream;
 use tokio_rustls::TlsConnector;
 use totxegun::intake::Limits;
-use totxegun::otlp::Outcome;
+use totxegun::otlp::{Outcome, Reason};
 
 pub type Secure = Client<TlsStream<TcpStream>>;
 
@@ -197,7 +197,7 @@ async fn a_sender_that_does_not_read_its_answer_leaves_its_place() {
         idle: Duration::from_secs(600),
     };
     // More than the system keeps for a sender that keeps little itself.
-    let long = Outcome::Refused { status: 400, message: "x".repeat(8 << 20) };
+    let long = Outcome::refused(Reason::Unreadable, "x".repeat(8 << 20));
     let served = Served::all(door(at.path(), None, None), limits, LATE, long, 64 << 20).await;
     let deaf = TcpSocket::new_v4().unwrap();
     deaf.set_recv_buffer_size(4096).unwrap();

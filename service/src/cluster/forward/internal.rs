@@ -3,13 +3,13 @@
 use super::head::{Head, Secret};
 use super::operators::{self, Answers};
 use super::peer::SHORT;
-use super::{on_the_way, owner_answer, unavailable, Here, PATH};
-use crate::cluster::local_view::{Cluster, NO_STORE};
+use super::{on_the_way, owner_answer, Here, PATH};
+use crate::cluster::local_view::Cluster;
 use crate::cluster::owners::Whose;
 use crate::cluster::terms::Doing;
 use crate::intake::connections::Handler;
 use crate::intake::{Intake, Taker};
-use crate::otlp::{Original, Outcome};
+use crate::otlp::{Original, Outcome, Reason};
 use bytes::Bytes;
 use hyper::body::HttpBody;
 use hyper::{Body, Method, Request, Response};
@@ -66,7 +66,7 @@ impl<H: Here> Internal<H> {
             return Err(owner_answer::not_mine());
         }
         if self.cluster.is_stalled_for(head.slot) {
-            return Err(owner_answer::answer(&unavailable(NO_STORE)));
+            return Err(owner_answer::answer(&Reason::StoreSilent.into()));
         }
         let body = request.into_body();
         let is_long = body.size_hint().upper().is_none_or(|said| said > SHORT as u64);

@@ -1,12 +1,11 @@
-//! An owner's answer on its way back: its status, when to come again, and the words that the sender is told.
+//! An owner's answer on its way back: what became of the post.
 
 use super::Broken;
-use crate::otlp::{Causes, OffClock, Outcome};
+use crate::otlp::Outcome;
 use bytes::{Bytes, BytesMut};
 use hyper::body::HttpBody;
-use hyper::header::{HeaderValue, CONTENT_TYPE, RETRY_AFTER};
+use hyper::header::{HeaderValue, CONTENT_TYPE};
 use hyper::{Body, Response, StatusCode};
-use serde::{Deserialize, Serialize};
 
 /// Which answers are of an instance that was asked: what stands between two may have its own.
 const SAYS: &str = "totxegun-says";
@@ -15,26 +14,9 @@ const NOT_MINE: &str = "not mine";
 /// An answer has the reasons of a request's points, and no more.
 const MOST: usize = 256 << 10;
 
-#[derive(Default, Deserialize, Serialize)]
-struct Words {
-    #[serde(default)]
-    rejected: u64,
-    message: Option<String>,
-}
-
 pub(super) fn answer(outcome: &Outcome) -> Response<Body> {
-    let words = match outcome {
-        Outcome::Taken { rejected, message, .. } => Words { rejected: *rejected, message: message.clone() },
-        Outcome::Refused { message, .. } | Outcome::Later { message, .. } => {
-            Words { rejected: 0, message: Some(message.clone()) }
-        }
-    };
-    let body = serde_json::to_vec(&words).unwrap_or_default(); // numbers and texts are always written
-    let mut response = with(outcome.status(), ANSWER, body);
-    if let Some(seconds) = outcome.again_in() {
-        response.headers_mut().insert(RETRY_AFTER, seconds.into());
-    }
-    response
+    let body = serde_json::to_vec(outcome).unwrap_or_default(); // numbers, texts and maps by texts are always written
+    with(outcome.status(), ANSWER, body)
 }
 
 pub(super) fn not_mine() -> Response<Body> {
@@ -103,23 +85,6 @@ pub(super) async fn read(response: Response<Body>) -> Result<Option<Outcome>, Br
         return Ok(None);
     }
     let status = response.status().as_u16();
-    let seconds = head(&response, RETRY_AFTER.as_str()).and_then(|text| text.parse().ok());
     let bytes = whole(response.into_body(), MOST).await?;
-    let words = serde_json::from_slice(&bytes).map_err(|_| Broken::Strange(status))?;
-    Ok(Some(outcome(status, seconds, words)))
-}
-
-fn outcome(status: u16, seconds: Option<u64>, words: Words) -> Outcome {
-    let message = words.message.clone().unwrap_or_default();
-    match (status, seconds) {
-        (200, _) => Outcome::Taken {
-            rejected: words.rejected,
-            // They were counted where it was taken.
-            off: OffClock::default(),
-            known: Causes::default(),
-            message: words.message,
-        },
-        (429, Some(seconds)) => Outcome::Later { seconds, message },
-        _ => Outcome::Refused { status, message },
-    }
+    serde_json::from_slice(&bytes).map(Some).map_err(|_| Broken::Strange(status))
 }

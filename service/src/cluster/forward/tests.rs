@@ -5,7 +5,8 @@ mod room;
 mod tls;
 
 use super::*;
-use crate::otlp::{Encoding, Reading, Resources};
+use crate::core::Refused;
+use crate::otlp::{Causes, Encoding, Off, OffClock, Reading, Rejection, Resources};
 use bytes::Bytes;
 use peers::{ends_after_one, half_deaf, posted, receiver, secret, slow_way, strange, there, Peer, Slots};
 use std::sync::atomic::Ordering::SeqCst;
@@ -14,21 +15,21 @@ use tokio::time::sleep;
 
 #[tokio::test]
 async fn an_owners_answer_comes_back_as_it_said_it() {
-    let refused = |status, message: &str| Outcome::Refused { status, message: message.into() };
+    let mut off = OffClock::default();
+    off.count(Off::Ahead(Duration::from_secs(7)));
+    let unfit = Some("zw\u{f6}lf \"points\"\n".to_string());
+    let causes: Causes = [(Reason::Gauge, 2), (Reason::WentDown, 1)].into_iter().collect();
+    let parts = vec![(3, Rejection::from(Reason::Quarantined))];
+    let over_share = Rejection { seconds: Some(17), ..Rejection::new(Reason::OverShare, "its share") };
     let says = [
         Outcome::taken(0),
         Outcome::taken(7),
-        Outcome::Taken {
-            rejected: 2,
-            off: Default::default(),
-            known: Default::default(),
-            message: Some("zwölf \"points\"\n".into()),
-        },
-        refused(400, "out of order: point 3"),
-        refused(403, "this sender is quarantined"),
-        refused(429, "too many series"),
-        refused(503, "recovering"),
-        Outcome::Later { seconds: 17, message: "its share".into() },
+        Outcome::Taken { rejected: 9, off, causes, unfit, parts },
+        Refused::OutOfOrder { point: 3, frontier: 5 }.into(),
+        Outcome::refused(Reason::OtherWriter, "other writer: point 3: `m` {} is another sender's"),
+        Reason::Quarantined.into(),
+        Reason::Recovering.into(),
+        over_share.into(),
     ];
     let peer = Peer::here().await;
     let forward = receiver(peer.whose(), secret("of all"));
@@ -120,7 +121,7 @@ async fn a_slot_without_an_owner_is_waited_for_three_seconds() {
     let old = Peer::with(Slots::default(), Whose::Nobody).await;
     for whose in [Whose::Nobody, old.whose()] {
         let (forward, began) = (receiver(whose, secret("of all")), Instant::now());
-        assert_eq!(posted(&forward, "{}").await, unavailable(MOVED));
+        assert_eq!(posted(&forward, "{}").await, Reason::OwnerChanges.into());
         assert!((LOOKED_FOR..LOOKED_FOR * 3).contains(&began.elapsed()));
     }
     assert_eq!(old.slots.count(), 0);
@@ -130,7 +131,7 @@ async fn a_slot_without_an_owner_is_waited_for_three_seconds() {
 async fn who_has_another_secret_or_none_is_asked_nothing() {
     let peer = Peer::here().await;
     let forward = receiver(peer.whose(), secret("another"));
-    assert_eq!(posted(&forward, "{}").await, unavailable(BROKEN));
+    assert_eq!(posted(&forward, "{}").await, Reason::OwnerSilent.into());
     let client = hyper::Client::new();
     let ask = |request: hyper::http::request::Builder, body: &'static str| {
         let asking = client.request(request.body(Body::from(body)).unwrap());
@@ -159,7 +160,7 @@ async fn what_breaks_off_or_is_no_instance_is_503_and_is_asked_once() {
     for says in broken {
         let (address, count) = strange(says, false).await;
         let forward = receiver(there(&address), secret("of all"));
-        assert_eq!(posted(&forward, "{}").await, unavailable(BROKEN));
+        assert_eq!(posted(&forward, "{}").await, Reason::OwnerSilent.into());
         assert_eq!(count.load(SeqCst), 1, "{}", String::from_utf8_lossy(says));
         assert_eq!(forward.forwarded().broken, 1);
         assert!(forward.unanswering().is_empty(), "not for ten seconds");
@@ -169,7 +170,7 @@ async fn what_breaks_off_or_is_no_instance_is_503_and_is_asked_once() {
     let address = listener.local_addr().unwrap().to_string();
     drop(listener);
     let forward = receiver(there(&address), secret("of all"));
-    assert_eq!(posted(&forward, "{}").await, unavailable(BROKEN));
+    assert_eq!(posted(&forward, "{}").await, Reason::OwnerSilent.into());
 }
 
 #[tokio::test]
@@ -177,7 +178,7 @@ async fn a_kept_connection_that_ends_is_made_anew_but_not_under_a_post() {
     let (address, count) = ends_after_one(false).await;
     let forward = receiver(there(&address), secret("of all"));
     assert_eq!(posted(&forward, "{}").await, Outcome::taken(0));
-    assert_eq!(posted(&forward, "{}").await, unavailable(BROKEN));
+    assert_eq!(posted(&forward, "{}").await, Reason::OwnerSilent.into());
     assert_eq!(count.load(SeqCst), 2, "it may have been taken, so it is not sent again");
     let (address, count) = ends_after_one(true).await;
     let forward = receiver(there(&address), secret("of all"));
@@ -210,7 +211,7 @@ async fn who_stalls_is_left_after_ten_seconds_and_said_and_holds_up_no_other() {
     assert_eq!(forward.unanswering(), []);
     assert_eq!(count.load(SeqCst), peer::POSTS, "on their way at once");
     for one in many {
-        assert_eq!(one.await.unwrap(), unavailable(BROKEN));
+        assert_eq!(one.await.unwrap(), Reason::OwnerSilent.into());
     }
     assert!((WITHIN..WITHIN * 2).contains(&began.elapsed()));
     let [unanswering] = &forward.unanswering()[..] else { panic!() };
@@ -231,7 +232,7 @@ async fn who_stalls_is_left_once_another_has_the_slot_but_not_before_it_may_have
     };
     let began = Instant::now();
     let (outcome, ()) = tokio::join!(posted(&forward, "{}"), moves(peer.whose()));
-    assert_eq!(outcome, unavailable(BROKEN));
+    assert_eq!(outcome, Reason::OwnerSilent.into());
     assert!((AFTER_MOVE..WITHIN / 2).contains(&began.elapsed()));
     assert_eq!((count.load(SeqCst), peer.slots.count()), (1, 0), "it may have been taken");
     assert_eq!(posted(&forward, "{}").await, Outcome::taken(0));
@@ -278,7 +279,7 @@ async fn not_mine_is_asked_again_a_bounded_number_of_times() {
             sleep(Duration::from_millis(2)).await;
         }
     });
-    assert_eq!(posted(&forward, "{}").await, unavailable(MOVED));
+    assert_eq!(posted(&forward, "{}").await, Reason::OwnerChanges.into());
     let asked = forward.forwarded().not_mine;
     assert!((5..=u64::from(MOST_ASKED)).contains(&asked), "{asked}");
     moves.abort();
@@ -304,7 +305,7 @@ async fn not_mine_is_asked_again_a_bounded_number_of_times() {
             sleep(Duration::from_millis(2)).await;
         }
     });
-    assert_eq!(posted(&forward, "{}").await, unavailable(MOVED));
+    assert_eq!(posted(&forward, "{}").await, Reason::OwnerChanges.into());
     assert_eq!(forward.forwarded().not_mine, u64::from(MOST_ASKED));
     moves.abort();
 }
@@ -331,10 +332,10 @@ async fn without_beats_a_post_is_turned_away_at_the_door() {
         intake.put(head, Bytes::from_static(b"{\"resourceMetrics\":[]}"), intake.budget.hold())
     };
     let began = Instant::now();
-    assert_eq!(post().await, unavailable(NO_STORE));
+    assert_eq!(post().await, Reason::StoreSilent.into());
     assert!(began.elapsed() < LOOKED_FOR / 3);
     forward.cluster.knows(&[]);
-    assert_eq!(post().await, unavailable(MOVED), "it is looked for");
+    assert_eq!(post().await, Reason::OwnerChanges.into(), "it is looked for");
 }
 
 /// Else it would look for an owner for three seconds, or wait for one that waits.
@@ -345,7 +346,7 @@ async fn of_a_database_that_is_silent_a_post_is_turned_away_at_once_and_others_g
     for whose in [Whose::Nobody, Whose::Here { term: 5 }, peer.whose()] {
         let forward = half_deaf(&[(3, whose), (4, peer.whose())]);
         let began = Instant::now();
-        assert_eq!(posted(&forward, "{}").await, unavailable(NO_STORE));
+        assert_eq!(posted(&forward, "{}").await, Reason::StoreSilent.into());
         assert!(began.elapsed() < LOOKED_FOR / 3);
         let part = Original { encoding: Encoding::Json, body: Bytes::new() };
         assert_eq!(forward.post(4, "web-1", part).await, Outcome::taken(0));

@@ -19,13 +19,13 @@ fn head(method: &str, path: &str, headers: &[(&str, &str)]) -> Result<Head, u16>
     let text = text(method, path, headers);
     let (end, asked) = read(text.as_bytes()).unwrap().expect("a whole head");
     assert_eq!(end, text.len());
-    asked.head.map_err(|turned| turned.refusal.status())
+    asked.head.map_err(|turned| turned.refusal.reason().status())
 }
 
 fn asked(text: &str) -> Result<Asked, u16> {
     match read(text.as_bytes()) {
         Ok(read) => Ok(read.expect("a whole head").1),
-        Err(refusal) => Err(refusal.status()),
+        Err(refusal) => Err(refusal.reason().status()),
     }
 }
 

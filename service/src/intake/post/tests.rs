@@ -4,7 +4,7 @@ use super::*;
 use crate::intake::head::Packing;
 use crate::intake::{Budget, Intake};
 use crate::otlp::{slot_of, Resources};
-use crate::slot::{ByNumber, Elsewhere, NO_OWNER};
+use crate::slot::{ByNumber, Elsewhere};
 use std::future::Future;
 use std::pin::Pin;
 use std::sync::Mutex;
@@ -115,7 +115,7 @@ fn in_protobuf(body: &Bytes) -> Bytes {
 }
 
 fn late(point: u64) -> Outcome {
-    Outcome::Refused { status: 400, message: format!("out of order: point {point}, frontier 5") }
+    core::Refused::OutOfOrder { point, frontier: 5 }.into()
 }
 
 #[tokio::test]
@@ -125,12 +125,12 @@ async fn each_slot_is_asked_for_its_resources() {
     let body = request(&elements);
     for (encoding, body) in [(Encoding::Json, body.clone()), (Encoding::Protobuf, in_protobuf(&body))] {
         let said = served.post(encoding, body).await;
-        let Outcome::Taken { rejected, message, .. } = &said else {
+        let Outcome::Taken { rejected, .. } = &said else {
             panic!("{said:?}");
         };
         // Of slot 2 the request's point 3; of slot 0 its point 7.
         let why = "3 points are refused: out of order: point 3, frontier 5; 4 points are refused: out of order: point 7, frontier 5";
-        assert_eq!((*rejected, message.as_deref()), (7, Some(why)));
+        assert_eq!((*rejected, said.message().as_deref()), (7, Some(why)));
         let text = String::from_utf8(said.body(Encoding::Json)).unwrap();
         assert!(text.contains(r#""rejectedDataPoints":"7""#), "{text}");
         let binary = said.body(Encoding::Protobuf);
@@ -191,7 +191,7 @@ async fn a_slot_that_fails_makes_all_of_it_to_be_sent_again() {
     let lone = Slots::<Kept>::several(Resources::new(SLOTS, Arc::default()), None);
     let part = Original { encoding: Encoding::Json, body: request(&[element(1, 1)]) };
     let nobody = lone.elsewhere(1, "A", part).await;
-    assert_eq!((nobody.status(), nobody.refusal()), (503, Some(NO_OWNER)));
+    assert_eq!(nobody, crate::otlp::Reason::NoOwner.into());
 }
 
 #[tokio::test]

@@ -182,7 +182,7 @@ pub fn point(name: &str, start: u64, time: u64, value: i64) -> Point {
 
 pub fn rejected(outcome: &Outcome) -> (u64, String) {
     match outcome {
-        Outcome::Taken { rejected, known, .. } => (*rejected, known.to_string()),
+        Outcome::Taken { rejected, causes, .. } => (*rejected, causes.to_string()),
         other => panic!("{other:?}"),
     }
 }

@@ -8,8 +8,8 @@ use crate::files::drive::{self, lost};
 use crate::files::{Drive, Fault};
 use crate::intake::{Budget, Intake};
 use crate::otlp::series::{forwarded, Value};
-use crate::otlp::{Encoding, Original, Resources};
-use crate::slot::{Slots, MOVED, NO_STORE};
+use crate::otlp::{Encoding, Original, Reason, Resources};
+use crate::slot::Slots;
 use std::collections::BTreeMap;
 use std::io;
 use std::sync::atomic::AtomicU64;
@@ -115,9 +115,9 @@ impl World {
         let run = self.run.take().unwrap();
         let ended = run.running.await.unwrap();
         assert!(matches!(ended, Err(Trouble::Lost(_))), "{ended:?}");
-        assert_eq!(run.slot.unavailable(), Some(MOVED));
+        assert_eq!(run.slot.unavailable(), Some(Reason::SlotMoves));
         let late = run.slot.post("C".into(), point("c", 1).into()).await;
-        assert_eq!((late.status(), late.refusal()), (503, Some(MOVED)));
+        assert_eq!(late, Reason::SlotMoves.into());
     }
 
     async fn tried(&mut self, act: Act, again: bool) -> Result<(), Moved> {
@@ -188,9 +188,9 @@ impl World {
 /// Status and text; none where the slot is lost.
 fn answered(outcome: Outcome) -> Result<(u16, String), Moved> {
     let why = outcome.refusal().unwrap_or_default().to_string();
-    match (outcome.status(), why.as_str()) {
-        (503, MOVED) => Err(Moved),
-        (status, _) => Ok((status, why)),
+    match outcome.reason() {
+        Some(Reason::SlotMoves) => Err(Moved),
+        _ => Ok((outcome.status(), why)),
     }
 }
 
@@ -333,7 +333,7 @@ async fn what_was_forwarded_waits_for_the_store_too() {
     stalls.store(false, SeqCst);
     let told = forwarded.await.unwrap().unwrap();
     assert!(waits, "{told:?}");
-    assert_eq!((told.status(), told.refusal()), (503, Some(MOVED)));
+    assert_eq!(told, Reason::SlotMoves.into());
 }
 
 /// A store may take long, and posts are put into the book meanwhile; who comes later is told.
@@ -356,7 +356,7 @@ async fn nobody_waits_for_the_store_with_the_lock_of_the_book() {
     let shown = (run.slot.unavailable(), run.slot.outbox.may_deliver(1));
     let wait = !post.is_finished() && !checkpoint.is_finished();
     stalls.store(false, SeqCst);
-    assert!(wait && shown == (Some(NO_STORE), false), "{shown:?}");
+    assert!(wait && shown == (Some(Reason::StoreSilent), false), "{shown:?}");
     assert_eq!(post.await.unwrap(), Outcome::taken(0));
     assert_eq!(checkpoint.await.unwrap(), Some(Done::Flushed { requests: 1 }));
     assert_eq!(run.flush().await, 1);

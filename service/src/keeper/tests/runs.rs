@@ -3,6 +3,7 @@
 
 use super::cumulative::{copy, killed, point, rejected, text, Plain, Point, Program, BEGIN};
 use super::*;
+use crate::core::Refused;
 use crate::files::test_random::TestRandom;
 use crate::otlp::Outcome;
 use crate::runs::{First, Options, Reset};
@@ -46,7 +47,7 @@ async fn runs_over_kills_and_quarantines_come_to_the_sum_of_their_last_values() 
                     };
                     let outcome = run.cumulative(program.sender, &points).await;
                     match outcome {
-                        Outcome::Refused { status: 403, .. } => assert!(quarantined),
+                        Outcome::Refused(_) if outcome.status() == 403 => assert!(quarantined),
                         Outcome::Taken { .. } => points.iter().for_each(|point| plain.take(point)),
                         other => panic!("{other:?}"),
                     }
@@ -167,8 +168,7 @@ async fn what_is_refused_has_its_name() {
     // The same again, also of another, adds nothing.
     assert_eq!(run.cumulative("A", std::slice::from_ref(&old)).await, Outcome::taken(0));
     let other = run.cumulative("B", &[point("m", 10, BEGIN + 5, 7)]).await;
-    let message = "other writer: point 0".into();
-    assert_eq!(other, Outcome::Refused { status: 400, message });
+    assert_eq!(other, Refused::OtherWriter { point: 0 }.into());
     let down = [point("m", 10, BEGIN + 5, 7), point("m2", BEGIN, BEGIN + 5, 1)];
     let said = rejected(&run.cumulative("A", &down).await);
     assert_eq!(said, (1, "1 cumulative point that went down".into()));
@@ -178,8 +178,7 @@ async fn what_is_refused_has_its_name() {
     run.flush().await;
     // A point of another's that is no later than the run is no repeat: it names the one, though another was left out.
     let other = [point("m3", BEGIN, BEGIN + 1, 1), point("m", 10, BEGIN, 5)];
-    let message = "other writer: point 1".into();
-    assert_eq!(run.cumulative("B", &other).await, Outcome::Refused { status: 400, message });
+    assert_eq!(run.cumulative("B", &other).await, Refused::OtherWriter { point: 1 }.into());
     let sums = run.forwarded().await;
     assert_eq!((sums["m"].0, sums["m2"].0), (2, 3));
     run.end().await;
@@ -247,8 +246,7 @@ async fn a_run_goes_on_behind_a_refused_post_with_delta_points_of_its_series() {
     assert_eq!(run.cumulative("A", &[point("m", BEGIN, BEGIN + 10, 5)]).await, Outcome::taken(0));
     let deltas = [point("m", BEGIN + 10, BEGIN + 20, 2)];
     let all = [point("m", BEGIN, BEGIN + 30, 9), point("m2", BEGIN, BEGIN + 30, 3)];
-    let message = "other writer: point 2".into();
-    assert_eq!(run.mixed("A", &deltas, &all).await, Outcome::Refused { status: 400, message });
+    assert_eq!(run.mixed("A", &deltas, &all).await, Refused::OtherWriter { point: 2 }.into());
     assert_eq!(run.cumulative("A", &[point("m", BEGIN, BEGIN + 30, 9)]).await, Outcome::taken(0));
     run.flush().await;
     let sums = run.forwarded().await;

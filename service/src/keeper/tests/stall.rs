@@ -1,7 +1,7 @@
 //! A disk that stalls: who comes later is told at once, and all goes on after it.
 
 use super::*;
-use crate::slot::NO_ANSWER;
+use crate::otlp::Reason;
 
 /// The disk answers again, also where a check fails: the end of a test waits for it.
 struct Thaw(Arc<AtomicBool>);
@@ -43,12 +43,11 @@ async fn stall(stalled: Call, folder: &'static str) {
     let (turned_away, asks) = (run.slot.clone(), Instant::now());
     for number in 0..20 {
         let outcome = turned_away.post(format!("S{number}"), point("s", 1).into()).await;
-        let (status, message) = (503, NO_ANSWER.into());
-        assert_eq!(outcome, Outcome::Refused { status, message });
+        assert_eq!(outcome, Reason::DiskSilent.into());
     }
     // What an operator is shown.
     let shown = (run.slot.unavailable(), run.slot.journal.held().posts, run.slot.outbox.stuck());
-    assert_eq!(shown, (Some(NO_ANSWER), 0, None));
+    assert_eq!(shown, (Some(Reason::DiskSilent), 0, None));
     assert!(run.slot.journal.size().0 > 0 && run.slot.outbox.waiting().0 == 0);
     let call = run.slot.disk_call();
     let took = asks.elapsed();
@@ -116,7 +115,10 @@ async fn a_thread_that_serves_waits_for_no_write() {
         tokio::time::sleep(Duration::from_millis(5)).await;
     }
     let late = run.slot.post("S".into(), point("s", 1).into()).await;
-    assert_eq!((late.status(), late.refusal(), first.is_finished()), (503, Some(NO_ANSWER), false));
+    assert_eq!(
+        (late.status(), late.refusal(), first.is_finished()),
+        (503, Some(Reason::DiskSilent.text()), false)
+    );
     drop(thaw);
     assert_eq!(first.await.unwrap(), Outcome::taken(0));
     run.end().await;

@@ -7,9 +7,8 @@ use super::{cluster, counting, frame, Desk, Page};
 use crate::command::values::{bytes_shown, seconds_shown, sender_shown};
 use crate::files::dead::Letter;
 use crate::log::seconds;
-use crate::metrics::to_do;
 use crate::operate::status::{held, quarantined, Status, Stock};
-use crate::otlp::Cause;
+use crate::otlp::Reason;
 use crate::post_reports::{OfReason, OfSender};
 use std::sync::Arc;
 
@@ -139,16 +138,16 @@ impl Seen<'_> {
         let senders = self.senders.iter();
         let all =
             senders.flat_map(|(name, of)| of.refused.iter().map(move |(reason, of)| (name, *reason, of)));
-        let mut all: Vec<(&String, &str, &OfReason)> = all.collect();
+        let mut all: Vec<(&String, Reason, &OfReason)> = all.collect();
         all.sort_by_key(|(_, _, of)| std::cmp::Reverse(of.last));
         let rows = all.into_iter().map(|(name, reason, of)| {
             vec![
                 Cell::Text(sender_shown(name)),
-                Cell::of(of.status),
+                Cell::of(reason.status()),
                 Cell::of(&of.text),
                 Cell::of(grouped(of.posts)),
                 Cell::of(self.ago(of.last)),
-                Cell::of(to_do(reason)),
+                Cell::of(reason.advice()),
             ]
         });
         let heads = ["sender", "status", "last answer", "posts#", "last#", "what to do"];
@@ -161,8 +160,13 @@ impl Seen<'_> {
         let mut all = self.desk.metrics.all_foreign();
         all.sort_by_key(|(_, _, points)| std::cmp::Reverse(*points));
         let rows = all.into_iter().map(|(name, cause, points)| {
-            let to_do = Cause::named(&cause).map_or("", Cause::to_do);
-            vec![Cell::Text(sender_shown(&name)), Cell::of(cause), Cell::of(grouped(points)), Cell::of(to_do)]
+            let advice = Reason::labelled(&cause).map_or("", Reason::advice);
+            vec![
+                Cell::Text(sender_shown(&name)),
+                Cell::of(cause),
+                Cell::of(grouped(points)),
+                Cell::of(advice),
+            ]
         });
         let heads = ["sender", "cause", "points#", "what to do"];
         html.section("Points not taken")

@@ -4,7 +4,7 @@ use super::Desk;
 use crate::keeper::{Done, Order};
 use crate::operate::amend::Sought;
 use crate::operate::{letters, Asked, Unit};
-use crate::otlp::{Encoding, Outcome};
+use crate::otlp::{Encoding, Outcome, Reason};
 use crate::work::blocking;
 use serde::{Deserialize, Serialize};
 use serde_json::{json, Value};
@@ -146,7 +146,7 @@ async fn ordered(unit: &Unit, order: Order) -> Option<Answer> {
 /// The books' report: while one is filled nobody waits for it.
 async fn report(unit: Arc<Unit>) -> Answer {
     if !unit.slot.is_ready() {
-        return Answer::told(503, unit.slot.unavailable().unwrap_or("recovering"));
+        return Answer::told(503, unit.slot.unavailable().unwrap_or(Reason::Recovering).text());
     }
     match blocking(move || unit.slot.core().lock().report()).await {
         Ok(report) => Answer::new(200, String::from_utf8_lossy(&report)),

@@ -36,7 +36,7 @@ const WITHIN: Duration = Duration::from_secs(100);
 const MOVED: &str = "it is being moved to another instance";
 const NOBODY: &str = "no instance has it";
 /// Where there are no others.
-pub(super) const ENDING: &str = "stopping";
+const ENDING: &str = "stopping";
 
 /// What came of it in a slot.
 type InSlot = (u16, Done);

@@ -4,6 +4,7 @@ use crate::cluster;
 use crate::command::values::seconds_shown;
 use crate::operate::reach::Others;
 use crate::operate::Desk;
+use crate::otlp::Reason;
 use serde::{Deserialize, Serialize};
 
 /// The instances of a store, and its databases.
@@ -60,7 +61,8 @@ impl Desk {
         let others = self.others.as_ref()?;
         let seen = others.cluster.status();
         let namesake = "another process beats under its name: give each its own --instance";
-        let trouble = seen.has_namesake.then_some(namesake).or(self.unavailable()).map(String::from);
+        let unavailable = self.unavailable().map(Reason::text);
+        let trouble = seen.has_namesake.then_some(namesake).or(unavailable).map(String::from);
         let own = InstanceStatus {
             name: others.instance.clone(),
             address: others.address.clone(),

@@ -1,6 +1,6 @@
 use super::*;
 use crate::core::Refused;
-use crate::otlp::{Encoding, Off, OffClock};
+use crate::otlp::{Encoding, Off, OffClock, RejectedPoint};
 use bytes::Bytes;
 use std::time::Duration;
 
@@ -9,7 +9,7 @@ fn refused(refused: Refused) -> Outcome {
 }
 
 fn later(seconds: u64) -> Outcome {
-    Outcome::Later { seconds, message: format!("over its share: again in {seconds} s") }
+    Rejection { seconds: Some(seconds), ..Rejection::from(Reason::OverShare) }.into()
 }
 
 /// A resource with so many points, of which the first is no point of the profile.
@@ -36,10 +36,12 @@ fn part(outcome: Outcome, resources: &[(u32, usize)]) -> OfPart {
 }
 
 fn said(parts: &[OfPart]) -> (u16, u64, String) {
-    match combined(parts, &Reading::default()) {
-        Outcome::Taken { rejected, message, .. } => (200, rejected, message.unwrap_or_default()),
-        other => (other.status(), 0, other.refusal().unwrap_or_default().to_string()),
-    }
+    let outcome = combined(parts, &Reading::default());
+    let rejected = match outcome {
+        Outcome::Taken { rejected, .. } => rejected,
+        Outcome::Refused(_) => 0,
+    };
+    (outcome.status(), rejected, outcome.message().unwrap_or_default())
 }
 
 #[test]
@@ -80,26 +82,27 @@ fn what_is_taken_in_part_is_taken() {
 
 #[test]
 fn reasons_are_named_together() {
-    let causes = |text: &str| Causes::read(text).unwrap();
-    let taken = |text: &str| Outcome::taken(causes(text).count()).with_causes(&causes(text));
+    let taken = |causes: &[(Reason, u64)]| {
+        Outcome::taken_but(0, OffClock::default(), causes.iter().copied().collect())
+    };
     let mut off = OffClock::default();
     off.count(Off::Ahead(Duration::from_secs(7)));
-    let ahead = Outcome::taken_but(0, off).with_causes(&Causes::of_clocks(off));
+    let ahead = Outcome::taken_but(0, off, Causes::default());
     let quarantined = || refused(Refused::Quarantined);
     let parts = [
-        part(taken("1 gauge, 2 doubles"), &[(0, 9)]),
+        part(taken(&[(Reason::Gauge, 1), (Reason::Double, 2)]), &[(0, 9)]),
         part(quarantined(), &[(1, 2)]),
         part(ahead, &[(2, 9)]),
-        part(taken("3 gauges"), &[(3, 9)]),
+        part(taken(&[(Reason::Gauge, 3)]), &[(3, 9)]),
         part(quarantined(), &[(4, 3)]),
     ];
-    let wanted = "points outside the profile: 4 gauges, 2 doubles: see docs/OPERATING.md, \"Senders\"; \
-                  points outside the profile: 1 point ahead of time: its clock is 7s ahead: see docs/OPERATING.md, \
-                  \"Senders\"; 5 points are refused: quarantined";
+    let wanted =
+        "points outside the profile: 4 gauges, 2 doubles, 1 point ahead of time: its clock is 7s ahead: see \
+                  docs/OPERATING.md, \"Senders\"; 5 points are refused: quarantined";
     assert_eq!(said(&parts), (200, 12, wanted.into()));
     let many: Vec<OfPart> = (0..30)
         .map(|place| {
-            let refusal = Outcome::Refused { status: 400, message: format!("reason {place}") };
+            let refusal = Outcome::refused(Reason::Unreadable, format!("reason {place}"));
             part(if place == 0 { Outcome::taken(0) } else { refusal }, &[(place, 1)])
         })
         .collect();
@@ -119,30 +122,15 @@ fn a_refusal_names_the_point_s_place_in_the_request() {
         let wanted = format!("out of order: point {place}, frontier 5");
         assert_eq!(said(&parts), (400, 0, wanted));
     }
-    let other = Outcome::Refused {
-        status: 400,
-        message: refused(Refused::OtherWriter { point: 1 }).refusal().unwrap().to_string()
-            + ": `m` {} is another's",
-    };
+    let point = RejectedPoint { place: 1, frontier: None };
+    let other = Rejection::of_point(Reason::OtherWriter, point).and(": `m` {} is another's");
+    let other = Outcome::from(other);
     let parts = [part(other.clone(), &[at(3)]), part(late(0), &[at(0), at(1), at(2)])];
     assert_eq!(said(&parts), (400, 0, "other writer: point 6: `m` {} is another's".into()));
     let beyond = [part(late(9), &[at(0)]), part(other, &[at(1)])];
     assert_eq!(said(&beyond).2, "out of order: point 9, frontier 5", "it is left as it is");
     // What was too long for its slot's memory is not read here either.
-    let too_long = Outcome::Refused { status: 413, message: "body too long".into() };
+    let too_long = Reason::BodyTooLong.into();
     let behind = [part(late(1), &[at(1), at(2)]), part(too_long, &[at(0)])];
     assert_eq!(said(&behind).2, "out of order: point 1, frontier 5", "nor is this one placed behind it");
-}
-
-#[test]
-fn causes_are_read_as_they_are_shown() {
-    let all: Vec<_> = <crate::otlp::Cause as clap::ValueEnum>::value_variants().to_vec();
-    let once: Causes = all.iter().map(|cause| (*cause, 1)).collect();
-    let twice = once.clone().and(&once);
-    for causes in [once, twice] {
-        assert_eq!(Causes::read(&causes.to_string()), Some(causes));
-    }
-    for other in ["", "3", "3 pears", "x gauges", "3 gauges,2 doubles"] {
-        assert_eq!(Causes::read(other), None, "{other}");
-    }
 }

@@ -48,7 +48,7 @@ fn what_is_outside_is_handed_on_as_it_came() {
     left["resourceMetrics"].as_array_mut().unwrap().pop();
     let (found, causes) = of(&metrics(all), &Reading::default());
     assert_eq!(found, Some((left, 5)));
-    assert_eq!(causes.iter().collect::<Vec<_>>(), [(Cause::Other, 1)]);
+    assert_eq!(causes.iter().collect::<Vec<_>>(), [(Reason::Other, 1)]);
     let (found, causes) = of(&metrics(json!([sum(json!([whole, negative]))])), &Reading::default());
     assert_eq!((found, causes.count()), (None, 1));
 }

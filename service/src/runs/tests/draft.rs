@@ -57,7 +57,7 @@ fn a_series_is_looked_up_once_however_many_of_its_points_are_not_taken() {
     };
     let draft = drafted(posted);
     assert_eq!((draft.foreign(), draft.turned.count(), draft.points.count()), (50, 50, 2));
-    assert_eq!(draft.turned, [(Cause::Mixed, 50)].into_iter().collect());
+    assert_eq!(draft.turned, [(Reason::Mixed, 50)].into_iter().collect());
     assert_eq!(asked.get(), 2, "until one is taken, and then");
     drop(draft);
     // And for the posts after it not again.
@@ -88,7 +88,7 @@ fn of_two_points_over_one_time_in_a_post_the_second_is_refused_by_name() {
         let posted = Posted { points: &points, cumulative: &cumulative, names: &names };
         let draft = runs.draft(posted, |_| 0);
         let (late, refused) = (draft.late.len(), draft.turned.count());
-        assert!(draft.turned.iter().all(|(cause, _)| cause == Cause::EarlierRun));
+        assert!(draft.turned.iter().all(|(cause, _)| cause == Reason::EarlierRun));
         draft.keep();
         (late, refused)
     };

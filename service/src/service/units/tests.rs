@@ -16,10 +16,9 @@ use crate::intake::{Budget, Intake};
 use crate::metrics::Metrics;
 use crate::operate::{Acts, Desk, Others, Pulse};
 use crate::otlp::series::{forwarded, Value};
-use crate::otlp::{slot_of, Clock, Encoding, Outcome, Reading, Resources};
+use crate::otlp::{slot_of, Clock, Encoding, Outcome, Reading, Reason, Resources};
 use crate::shares::Share;
 use crate::sinks::{Address, Answer, Fate, Forwarded, Keys, Retention};
-use crate::slot::{MOVED, NO_OWNER};
 use bytes::Bytes;
 use hyper::{Body, Request};
 use std::path::{Path, PathBuf};
@@ -216,7 +215,7 @@ async fn a_slot_is_handed_over_while_the_others_go_on() {
     assert!(service.units.hand_over(1).await.unwrap(), "in time");
     assert!(service.units.at_work.units().get(1).is_none());
     let nobody = service.post(&[1], 20).await;
-    assert_eq!((nobody.status(), nobody.refusal()), (503, Some(NO_OWNER)));
+    assert_eq!(nobody, Reason::NoOwner.into());
     assert_eq!(service.post(&[0, 2], 20).await, Outcome::taken(0));
     service.open(1).await; // nobody has its folder any more
     assert_eq!(service.post(&[1], 10).await.status(), 400, "it knows what it had");
@@ -244,7 +243,7 @@ async fn a_slot_that_is_lost_ends_alone() {
     let lost = service.units.at_work.units().all().remove(1);
     service.units.lose(1);
     assert_eq!(service.post(&[1], 20).await.status(), 503);
-    assert_eq!(lost.slot.unavailable(), Some(MOVED), "also for who had found it before");
+    assert_eq!(lost.slot.unavailable(), Some(Reason::SlotMoves), "also for who had found it before");
     assert_eq!(service.post(&[0, 2], 20).await, Outcome::taken(0));
     assert!(service.ends.try_recv().is_err(), "nothing else has ended");
     assert!(service.units.at_work.units().get(1).is_none());

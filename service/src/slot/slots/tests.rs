@@ -4,7 +4,7 @@ use super::super::numbers::Numbers;
 use super::super::posted::RequestReader;
 use super::super::{Shared, Slot};
 use super::*;
-use crate::core::{Across, Core};
+use crate::core::{Across, Core, Refused};
 use crate::files::test_runs::runs;
 use crate::files::{Durability, Folder};
 use crate::intake::head::{Head, Packing};
@@ -226,10 +226,6 @@ fn request(processes: &[(&str, i64)], end: u64) -> Bytes {
     format!(r#"{{"resourceMetrics":[{}]}}"#, resources.join(",")).into()
 }
 
-fn refused(status: u16, message: &str) -> Outcome {
-    Outcome::Refused { status, message: message.into() }
-}
-
 /// A sender drops what is answered 400: it would take for lost what is there.
 #[tokio::test]
 async fn a_repeat_of_a_post_that_was_taken_in_part_is_taken() {
@@ -238,14 +234,15 @@ async fn a_repeat_of_a_post_that_was_taken_in_part_is_taken() {
     let (one, other) = (process(1), process(2));
     let body = request(&[(&one, 5), (&other, 7)], 10);
     service.open(1);
-    assert_eq!(service.post("A", &body).await, refused(503, NO_OWNER));
+    assert_eq!(service.post("A", &body).await, Reason::NoOwner.into());
     service.open(2);
-    let Outcome::Taken { rejected, message, .. } = service.post("A", &body).await else {
+    let said = service.post("A", &body).await;
+    let Outcome::Taken { rejected, .. } = said else {
         panic!("what was taken in part is refused");
     };
     let why = "1 point is refused: out of order: point 0, frontier 10";
-    assert_eq!((rejected, message.as_deref()), (1, Some(why)));
-    assert_eq!(service.post("A", &body).await, refused(400, "out of order: point 0, frontier 10"));
+    assert_eq!((rejected, said.message().as_deref()), (1, Some(why)));
+    assert_eq!(service.post("A", &body).await, Refused::OutOfOrder { point: 0, frontier: 10 }.into());
     assert_eq!((service.totals(), service.budget.used()), (vec![5, 7], 0));
     assert_eq!(service.heard(), ["A 503", "A part 400", "A 200", "A 400"]);
 }

@@ -186,7 +186,9 @@ pub async fn slow_way(to: String, bytes: usize) -> String {
 
 /// Answers the first post of each connection, and ends it: at once, or once another post has come.
 pub async fn ends_after_one(at_once: bool) -> (String, Arc<AtomicUsize>) {
-    let answer = b"HTTP/1.1 200 OK\r\ntotxegun-says: answer\r\ncontent-length: 2\r\n\r\n{}";
+    let taken = serde_json::to_string(&Outcome::taken(0)).unwrap();
+    let head = format!("HTTP/1.1 200 OK\r\ntotxegun-says: answer\r\ncontent-length: {}\r\n\r\n", taken.len());
+    let answer = head + &taken;
     let listener = TcpListener::bind("127.0.0.1:0").await.unwrap();
     let address = listener.local_addr().unwrap().to_string();
     let count = Arc::new(AtomicUsize::new(0));
@@ -196,7 +198,7 @@ pub async fn ends_after_one(at_once: bool) -> (String, Arc<AtomicUsize>) {
             let mut bytes = [0; 4096];
             let _ = stream.read(&mut bytes).await;
             counted.fetch_add(1, SeqCst);
-            let _ = stream.write_all(answer).await;
+            let _ = stream.write_all(answer.as_bytes()).await;
             if !at_once {
                 let _ = stream.read(&mut bytes).await;
                 counted.fetch_add(1, SeqCst);

@@ -53,14 +53,14 @@ async fn over_tls_both_sides_look_at_what_the_other_shows() {
         [(Some(peer("other", "both")), "another root has signed what it shows"), (None, "no TLS")]
     {
         let forward = asks_over(tls, port, "of all");
-        assert_eq!(posted(&forward, "{}").await, unavailable(BROKEN), "{why}");
+        assert_eq!(posted(&forward, "{}").await, Reason::OwnerSilent.into(), "{why}");
     }
     let (elsewhere, strange, _stop) = over_tls(peer("other", "both")).await;
     let forward = asks_over(Some(ours.clone()), elsewhere, "of all");
-    assert_eq!(posted(&forward, "{}").await, unavailable(BROKEN), "it is not believed");
+    assert_eq!(posted(&forward, "{}").await, Reason::OwnerSilent.into(), "it is not believed");
     // The secret is asked for all the same.
     let forward = asks_over(Some(ours), port, "another");
-    assert_eq!(posted(&forward, "{}").await, unavailable(BROKEN));
+    assert_eq!(posted(&forward, "{}").await, Reason::OwnerSilent.into());
     assert_eq!((slots.count(), strange.count()), (1, 0));
 }
 
@@ -90,7 +90,7 @@ async fn files_that_change_count_for_connections_that_are_kept() {
     };
     // The root of what is shown is taken away, and then another certificate is shown.
     copy("ca.pem", "owners.pem");
-    within(unavailable(BROKEN)).await;
+    within(Reason::OwnerSilent.into()).await;
     for end in ["pem", "key"] {
         copy(&format!("server.{end}"), &format!("mine.{end}"));
     }
@@ -112,7 +112,7 @@ async fn a_connection_that_is_kept_ends_with_its_certificate() {
         assert_eq!(posted(&forward, "{}").await, Outcome::taken(0));
         sleep(Duration::from_millis(50)).await;
     }
-    while posted(&forward, "{}").await != unavailable(BROKEN) {
+    while posted(&forward, "{}").await != Reason::OwnerSilent.into() {
         assert!(made.elapsed() < Duration::from_secs(8), "it goes on behind its end");
         sleep(Duration::from_millis(50)).await;
     }

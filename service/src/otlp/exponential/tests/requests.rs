@@ -4,7 +4,7 @@ use super::bounds;
 use crate::otlp::tests::posted_with;
 use crate::otlp::wire::field;
 use crate::otlp::{
-    explained, prepare, Cause, Causes, Clock, Encoding, FinerUnits, Original, Prepared, Profile, Reading,
+    explained, prepare, Causes, Clock, Encoding, FinerUnits, Original, Prepared, Profile, Reading, Reason,
 };
 
 fn reading(bounds: &str) -> Reading {
@@ -118,14 +118,14 @@ fn what_does_not_fall_into_one_bucket_is_foreign_by_name() {
         .iter()
         .map(|point| (point.foreign.as_deref().unwrap_or(""), point.cause, point.is_passed()))
         .collect();
-    let cause = Some(Cause::ExponentialHistogram);
+    let cause = Some(Reason::ExponentialHistogram);
     let named = |why: &str| format!("it is an exponential histogram: {why}");
     let wanted = [
         (named(why), cause, true),
         (String::new(), None, false),
         (named("the scale is none from -10 to 20"), cause, true),
         (named("zeroCount can't be read"), cause, true),
-        ("bucketCounts do not add up to the count".into(), Some(Cause::Other), false),
+        ("bucketCounts do not add up to the count".into(), Some(Reason::Other), false),
     ];
     let wanted: Vec<_> = wanted.iter().map(|(why, cause, passed)| (&**why, *cause, *passed)).collect();
     assert_eq!(found, wanted);

@@ -1,7 +1,6 @@
 //! Whether an instance among others takes posts.
 
 use super::*;
-use crate::cluster::NO_STORE;
 
 /// A balancer would take it out else, for as long as its journals take to read.
 #[tokio::test]
@@ -26,10 +25,13 @@ async fn an_instance_is_ready_while_it_takes_posts_of_any_slot() {
     assert!(status == 503 && why.contains("stopping"), "{status} {why}");
     let (new, of_new) = instance("c", &folder(), &both.net);
     let (status, why) = new.ask("GET", "/ready").await;
-    assert!(status == 503 && why.contains(NO_STORE), "before its first beat: {status} {why}");
+    assert!(
+        status == 503 && why.contains(Reason::StoreSilent.text()),
+        "before its first beat: {status} {why}"
+    );
     of_new.knows(&[(0, Whose::Nobody), (1, Whose::Nobody)]);
     let (status, why) = new.ask("GET", "/ready").await;
-    assert!(status == 503 && why.contains(NO_OWNER), "before its first slot: {status} {why}");
+    assert!(status == 503 && why.contains(Reason::NoOwner.text()), "before its first slot: {status} {why}");
     new.open(0).await;
     of_new.knows(&[(0, Whose::Here { term: 1 }), (1, Whose::Nobody)]);
     assert_eq!(new.ask("GET", "/ready").await.0, 200);
