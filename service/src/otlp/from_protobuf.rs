@@ -111,9 +111,15 @@ fn is_payload_of(kind: Kind, payload: Payload<'_>) -> bool {
     }
 }
 
+/// The text that counts. Each one that is there has to be UTF-8 ("Updating A Message Type" and "Scalar Value Types" of protobuf's
+/// language guide: the last one is kept, a text is always UTF-8).
 fn text<'a>(of: &'static Message, field: &Field, found: FoundField<'a>) -> Result<&'a str, Refused> {
-    let text = std::str::from_utf8(found.last.bytes());
-    text.map_err(|_| refused(of, format_args!("{} is not UTF-8", field.name)))
+    let read = |bytes| {
+        std::str::from_utf8(bytes).map_err(|_| refused(of, format_args!("{} is not UTF-8", field.name)))
+    };
+    let earlier = found.all_bytes(field.number).take(found.times - 1);
+    earlier.map(read).try_for_each(|text| text.map(drop))?;
+    read(found.last.bytes())
 }
 
 impl<'a, 'r> Writer<'a, 'r> {
@@ -126,7 +132,7 @@ impl<'a, 'r> Writer<'a, 'r> {
             return Err(refused(of, "nested too deep"));
         }
         let first = self.found.len();
-        self.look_through(of, bytes)?;
+        self.look_through(of, bytes, depth)?;
         self.out.text.push(b'{');
         let inside = self.out.text.len();
         for index in first..self.found.len() {
@@ -147,7 +153,7 @@ impl<'a, 'r> Writer<'a, 'r> {
 
     /// Puts behind what is found what this message has, in the order of its table. Refuses what is malformed and what
     /// would be lost.
-    fn look_through(&mut self, of: &'static Message, bytes: &'a [u8]) -> Result<(), Refused> {
+    fn look_through(&mut self, of: &'static Message, bytes: &'a [u8], depth: usize) -> Result<(), Refused> {
         let first = self.found.len();
         let mut fields = Fields::of(bytes);
         loop {
@@ -170,7 +176,7 @@ impl<'a, 'r> Writer<'a, 'r> {
                 }
             }
             if of.one_of.contains(&field.number) {
-                self.forget_others(of, first, place);
+                self.forget_others(of, first, place, depth)?;
             }
             let before = self.found[first..].iter().rposition(|found| found.place <= place);
             let index = before.map_or(first, |before| first + before + 1);
@@ -184,14 +190,27 @@ impl<'a, 'r> Writer<'a, 'r> {
         }
     }
 
-    /// Of the fields of which a message has one, the last that is there counts (a oneof of protobuf).
-    fn forget_others(&mut self, of: &'static Message, first: usize, place: usize) {
+    /// Of the fields of which a message has one, the last that is there counts ("Oneof Features" of protobuf's language guide).
+    /// The one before is read all the same: the readers of C++ and Go refuse what is malformed in it.
+    fn forget_others(
+        &mut self,
+        of: &'static Message,
+        first: usize,
+        place: usize,
+        depth: usize,
+    ) -> Result<(), Refused> {
         let is_other = |found: &FoundField<'_>| {
             found.place != place && of.one_of.contains(&of.fields[found.place].number)
         };
         while let Some(other) = self.found[first..].iter().position(is_other) {
-            self.found.remove(first + other);
+            let other = self.found.remove(first + other);
+            if let Payload::Bytes(_) = other.last {
+                let from = self.out.text.len();
+                self.value(of, &of.fields[other.place], other, depth)?;
+                self.out.text.truncate(from);
+            }
         }
+        Ok(())
     }
 
     fn value(

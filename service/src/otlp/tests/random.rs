@@ -182,13 +182,29 @@ fn both_encodings_mean_the_same_in_units_that_are_decided() {
     assert!(rounded.values().any(|one| one.values > 10), "{rounded:?}");
 }
 
+/// Of each profile why points of a request are not taken, how many are handed on, and why the others are not.
+fn reasons(encoding: Encoding, body: &Bytes, prepared: &Prepared) -> Vec<(Causes, u64, Causes)> {
+    let of = |profile| {
+        let window = Clock::default().window();
+        let explained = explained(&prepared.body, profile, window).unwrap();
+        let foreign = explained.iter().filter(|point| point.foreign.is_some()).count() as u64;
+        let original = Original { encoding, body: body.clone() };
+        let (outside, others) = original.outside(foreign, profile, || Some(prepared.body.clone()));
+        let causes = Causes::of(&prepared.body, profile, foreign);
+        (causes, outside.map_or(0, |outside| outside.points), others)
+    };
+    [Profile::Deltas, Profile::AlsoCumulative].map(of).into()
+}
+
 fn both_mean_the_same(reading: &Reading) -> BTreeMap<String, Rounding> {
     let prepared = |encoding, body: Vec<u8>| prepare(encoding, body.into(), reading).unwrap();
     let mut random = Random(0x9e37_79b9_7f4a_7c15);
     let (mut series, mut foreign, mut rounded) = (0, 0, BTreeMap::new());
-    for _ in 0..600 {
+    for place in 0..600 {
         let request = random.request();
-        let mut binary = prepared(Encoding::Protobuf, request.encode_to_vec());
+        let body: Bytes = request.encode_to_vec().into();
+        let mut binary = prepared(Encoding::Protobuf, body.to_vec());
+        let of_binary = reasons(Encoding::Protobuf, &body, &binary);
         let expected = posted(&binary.body).unwrap();
         let explained = explained(&binary.body, Profile::Deltas, Clock::default().window()).unwrap();
         let told = explained.iter().filter(|point| point.foreign.is_some()).count();
@@ -214,6 +230,9 @@ fn both_mean_the_same(reading: &Reading) -> BTreeMap<String, Rounding> {
             assert_eq!(written.rounded, binary.rounded, "{text}");
             let found = posted(&written.body).unwrap();
             assert_eq!((found.series, found.foreign), (expected.series.clone(), expected.foreign), "{text}");
+            if draw == place % 8 {
+                assert_eq!(reasons(Encoding::Json, &text.into_bytes().into(), &written), of_binary);
+            }
         }
         series += expected.series.len();
         foreign += expected.foreign;

@@ -75,6 +75,13 @@ fn protobuf_that_is_malformed_or_would_be_lost_is_refused() {
         (attribute(&bytes(7, b"\xff")[..2]), "cut"),
         (attribute(&nested(60)), "nested too deep"),
         (attribute(&in_parts(30)), "too much is there in parts"),
+        // What comes later takes its place, and it is malformed all the same.
+        (attribute(&[bytes(6, &bytes(1, b"\x0a")), bytes(1, b"t")].concat()), "KeyValue: cut"),
+        (attribute(&[bytes(5, &bytes(1, b"\x0a")), vec![0x18, 5]].concat()), "AnyValue: cut"),
+        (attribute(&[bytes(1, b"\xff"), vec![0x10, 1]].concat()), "stringValue is not UTF-8"),
+        (attribute(&[bytes(1, b"\xff"), bytes(1, b"t")].concat()), "stringValue is not UTF-8"),
+        (attribute(&[nested(60), bytes(1, b"t")].concat()), "nested too deep"),
+        (within_request(&[bytes(1, b"\xff"), bytes(1, b"m")].concat()), "name is not UTF-8"),
     ];
     for (body, expected) in cases {
         let refused = prepared(Encoding::Protobuf, body.clone()).unwrap_err();
