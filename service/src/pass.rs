@@ -8,6 +8,7 @@ mod send;
 use crate::log::RateLimit;
 use crate::metrics::Metrics;
 use crate::otlp::{Encoding, Outside};
+use crate::sinks::Access;
 use crate::work::locked;
 use bytes::Bytes;
 use send::Receiver;
@@ -63,9 +64,9 @@ impl Passed {
 
 impl Pass {
     /// To `http://HOST:PORT`, or a whole URL.
-    pub fn to(address: &str, metrics: Arc<Metrics>) -> Result<Arc<Pass>, BadReceiver> {
+    pub fn to(address: &str, access: Access, metrics: Arc<Metrics>) -> Result<Arc<Pass>, BadReceiver> {
         Ok(Arc::new(Pass {
-            receiver: Receiver::at(address)?,
+            receiver: Receiver::at(address, access)?,
             waiting: Mutex::default(),
             arrived: Notify::new(),
             metrics,

@@ -10,6 +10,7 @@ mod explain;
 mod export;
 mod letters;
 mod of_book;
+mod of_receivers;
 mod of_senders;
 mod of_store;
 mod periods;

@@ -1,6 +1,7 @@
 //! `totxegun serve`: its options, and its run.
 
 use super::of_book::OfBook;
+use super::of_receivers::{OfPass, OfSink};
 use super::of_senders::OfSenders;
 use super::of_store::OfStore;
 use super::reading::OfReading;
@@ -15,11 +16,10 @@ use crate::identity;
 use crate::log;
 use crate::metrics::Metrics;
 use crate::otlp::Reason;
-use crate::pass::Pass;
 use crate::post_reports::ReportOptions;
 use crate::runs;
 use crate::service::{self, init, Operate, Settings};
-use crate::sinks::{header_of, Address};
+use crate::sinks::Address;
 use anyhow::{anyhow, bail, Context};
 use clap::builder::{PossibleValuesParser, TypedValueParser};
 use clap::{value_parser, Args, CommandFactory};
@@ -97,9 +97,6 @@ pub struct Options {
     /// What is meant to be left out, and so is counted by itself and not alerted on
     #[arg(long, env = "TOTXEGUN_EXPECT_FOREIGN", value_name = "CAUSE", value_delimiter = ',', value_parser = causes())]
     expect_foreign: Vec<Reason>,
-    /// Hands points that are outside the profile to another OTLP receiver, http://HOST:PORT, at most once: so they are no fault
-    #[arg(long, env = "TOTXEGUN_PASS", value_name = "ADDRESS")]
-    pass: Option<String>,
     /// Writes each line of the log as a JSON object, with `time`, `level`, `text` and what it is about
     #[arg(long, env = "TOTXEGUN_LOG_JSON")]
     log_json: bool,
@@ -120,6 +117,8 @@ pub struct Options {
     #[command(flatten)]
     of_sink: OfSink,
     #[command(flatten)]
+    of_pass: OfPass,
+    #[command(flatten)]
     of_retention: OfRetention,
     #[command(flatten)]
     of_reading: OfReading,
@@ -129,52 +128,12 @@ pub struct Options {
     of_book: OfBook,
 }
 
-#[derive(Args)]
-#[command(next_help_heading = "Options of an OTLP sink")]
-struct OfSink {
-    /// Sends protobuf in the place of JSON
-    #[arg(long, env = "TOTXEGUN_SINK_PROTOBUF")]
-    sink_protobuf: bool,
-    /// Packs what it sends
-    #[arg(long, env = "TOTXEGUN_SINK_GZIP")]
-    sink_gzip: bool,
-    /// A header of each request; may be given again, in the environment a line each
-    #[arg(long = "sink-header", env = "TOTXEGUN_SINK_HEADER", value_name = "NAME: VALUE", hide_env_values = true, value_delimiter = '\n', value_parser = header)]
-    sink_headers: Vec<(String, String)>,
-}
-
-impl OfSink {
-    /// These options say how an OTLP sink is sent to; for another they are a mistake.
-    fn put_into(self, sink: Address) -> anyhow::Result<Address> {
-        match sink {
-            Address::Otlp { url, .. } => {
-                let (protobuf, gzip, headers) = (self.sink_protobuf, self.sink_gzip, self.sink_headers);
-                Ok(Address::Otlp { url, protobuf, gzip, headers })
-            }
-            Address::Sqlite(_) | Address::Postgres(_)
-                if self.sink_protobuf || self.sink_gzip || !self.sink_headers.is_empty() =>
-            {
-                bail!("--sink-protobuf, --sink-gzip and --sink-header are for a sink of OTLP: give --sink http://.. too")
-            }
-            Address::Sqlite(path) => Ok(Address::Sqlite(absolute(&path)?)),
-            Address::Postgres(server) => Ok(Address::Postgres(server)),
-        }
-    }
-}
-
 fn most_bytes(text: &str) -> Result<u64, String> {
     let bytes = size(text)?;
     match bytes >= LEAST_BYTES {
         true => Ok(bytes),
         false => Err("less than 1MiB would refuse most posts for good".to_string()),
     }
-}
-
-fn header(text: &str) -> Result<(String, String), String> {
-    let (name, value) = text.split_once(':').ok_or("write a name, a colon and a value")?;
-    let (name, value) = (name.trim(), value.trim());
-    header_of(name, value).map_err(|why| why.to_string())?;
-    Ok((name.to_string(), value.to_string()))
 }
 
 /// Refuses a setting that no option reads, and warns of those whose options are gone.
@@ -270,13 +229,7 @@ impl Options {
             )));
         }
         operate.tokens = tokens.map(|path| identity::operators(path, &metrics)).transpose()?;
-        let pass = self.pass.map(|address| Pass::to(&address, metrics.clone()));
-        let pass = pass.transpose().map_err(|bad| Ended::Line(bad.into()))?;
-        if pass.as_ref().is_some_and(|pass| pass.is_to(&self.listen)) {
-            return Err(Ended::Line(anyhow!(
-                "--pass is the address where senders post: points would come again for ever"
-            )));
-        }
+        let pass = self.of_pass.pass(&self.listen, &metrics).map_err(Ended::Line)?;
         Ok(Settings {
             data,
             store,
@@ -326,7 +279,7 @@ fn operate(addresses: &[String], data: &Path) -> anyhow::Result<Operate> {
 }
 
 /// Other programs are told where files are: their folder may be another.
-fn absolute(path: &Path) -> anyhow::Result<PathBuf> {
+pub fn absolute(path: &Path) -> anyhow::Result<PathBuf> {
     std::path::absolute(path).with_context(|| format!("{} is no path", path.display()))
 }
 

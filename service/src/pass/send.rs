@@ -3,59 +3,58 @@
 use super::Passed;
 use crate::log::shown;
 use crate::otlp::{partial_success, Encoding, ExportMetricsServiceResponse, Outside};
-use crate::sinks::Address;
+use crate::sinks::{Access, Address, Client};
+use crate::work::blocking;
 use hyper::body::HttpBody;
-use hyper::client::HttpConnector;
 use hyper::header::{CONTENT_TYPE, USER_AGENT};
-use hyper::{Body, Client, Request, Response, Uri};
+use hyper::{Body, Request, Response, Uri};
 use prost::Message;
 use std::time::Duration;
 use tokio::time::timeout;
 
-const CONNECT: Duration = Duration::from_secs(5);
-/// How long the receiver may take for an answer, from the connection on.
+/// How long the receiver may take for a connection and an answer.
 const PATIENCE: Duration = Duration::from_secs(10);
-/// Shorter than what servers commonly allow.
-const IDLE: Duration = Duration::from_secs(20);
 /// What of an answer is read, and of its text shown.
 const LONGEST_ANSWER: usize = 64 << 10;
 const SHOWN: usize = 300;
 
 #[derive(Debug, thiserror::Error)]
-#[error("--pass takes http://HOST:PORT: {0}")]
+#[error("--pass takes http://HOST:PORT or https://HOST: {0}")]
 pub struct BadReceiver(String);
 
 pub(super) struct Receiver {
     pub url: Uri,
-    client: Client<HttpConnector>,
+    client: Client,
+    access: Access,
 }
 
 /// How many points it refused, what became of the others, and why.
 type Said = (u64, Passed, String);
 
 impl Receiver {
-    pub fn at(address: &str) -> Result<Receiver, BadReceiver> {
+    pub fn at(address: &str, access: Access) -> Result<Receiver, BadReceiver> {
         let bad = |why: &dyn std::fmt::Display| BadReceiver(why.to_string());
-        let url = match address.parse() {
-            Ok(Address::Otlp { url, .. }) if url.starts_with("http://") => url,
-            Err(error) if address.starts_with("http://") => return Err(bad(&error)),
+        let url: Uri = match address.parse() {
+            Ok(Address::Otlp { url, .. }) => url.parse().map_err(|error| bad(&error))?,
+            Err(error) if address.starts_with("http") => return Err(bad(&error)),
             _ => return Err(bad(&"this is another address")),
         };
-        let mut http = HttpConnector::new();
-        http.set_nodelay(true);
-        http.set_connect_timeout(Some(CONNECT));
-        Ok(Receiver {
-            url: url.parse().map_err(|error| bad(&error))?,
-            client: Client::builder().pool_idle_timeout(IDLE).build(http),
-        })
+        let client = access.client(&url).map_err(|error| bad(&error))?;
+        Ok(Receiver { url, client, access })
     }
 
     pub async fn send(&self, outside: Outside) -> Said {
         let encoding = outside.encoding;
-        let post = match self.post(outside) {
+        let access = self.access.clone();
+        let headers = match blocking(move || access.read_headers()).await {
+            Ok(headers) => headers,
+            Err(error) => return (0, Passed::Lost, error.to_string()),
+        };
+        let mut post = match self.post(outside) {
             Ok(post) => post,
             Err(error) => return (0, Passed::Lost, error.to_string()),
         };
+        post.headers_mut().extend(headers);
         let answered = async {
             let response = self.client.request(post).await?;
             said(response, encoding).await

@@ -16,7 +16,7 @@ fn counted(metrics: &Metrics) -> [u64; 4] {
 #[test]
 fn what_waits_has_a_bound() {
     let metrics = Arc::new(Metrics::new().unwrap());
-    let pass = Pass::to("http://127.0.0.1:9", metrics.clone()).unwrap();
+    let pass = Pass::to("http://127.0.0.1:9", Access::default(), metrics.clone()).unwrap();
     let body = vec![0; MOST_WAITING / 4];
     (0..6).for_each(|_| pass.hand_on(outside(&body, 2)));
     assert_eq!(counted(&metrics), [0, 0, 0, 6]);
@@ -69,7 +69,7 @@ async fn what_becomes_of_points_is_counted() {
         ("503 Service Unavailable", b"later"),
     ]);
     let metrics = Arc::new(Metrics::new().unwrap());
-    let pass = Pass::to(&answers, metrics.clone()).unwrap();
+    let pass = Pass::to(&answers, Access::default(), metrics.clone()).unwrap();
     tokio::spawn(pass.clone().run());
     let mut before = 0;
     for _ in 0..4 {
@@ -88,11 +88,55 @@ async fn what_becomes_of_points_is_counted() {
 
 #[test]
 fn an_address_is_one_of_otlp_over_http() {
-    let to = |address| Pass::to(address, Arc::new(Metrics::new().unwrap()));
+    let to = |address| Pass::to(address, Access::default(), Arc::new(Metrics::new().unwrap()));
     let urls = ["http://h:4318", "http://h:4318/otlp"].map(|address| to(address).unwrap().url());
     assert_eq!(urls, ["http://h:4318/v1/metrics", "http://h:4318/otlp"]);
-    for bad in ["", "h:4318", "https://h", "sqlite:x", "http://"] {
+    for bad in ["", "h:4318", "sqlite:x", "http://", "https://127.0.0.1"] {
         let error = to(bad).err().unwrap().to_string();
-        assert!(error.starts_with("--pass takes http://HOST:PORT: "), "{error}");
+        assert!(error.starts_with("--pass takes http://HOST:PORT or https://HOST: "), "{error}");
     }
+}
+
+/// A token that is renewed is used from the next request on.
+#[tokio::test]
+async fn headers_of_a_file_go_with_each_request() {
+    let listener = TcpListener::bind("127.0.0.1:0").unwrap();
+    let address = format!("http://{}", listener.local_addr().unwrap());
+    let heads = std::thread::spawn(move || {
+        let head = |_| {
+            let (mut stream, _) = listener.accept().unwrap();
+            let mut read = Vec::new();
+            while !read.ends_with(b"\r\n\r\nx") {
+                let mut byte = [0];
+                stream.read_exact(&mut byte).unwrap();
+                read.push(byte[0]);
+            }
+            stream.write_all(b"HTTP/1.1 200 OK\r\nContent-Length: 0\r\nConnection: close\r\n\r\n").unwrap();
+            String::from_utf8(read).unwrap().to_ascii_lowercase()
+        };
+        (0..2).map(head).collect::<Vec<String>>()
+    });
+    let folder = tempfile::tempdir().unwrap();
+    let file = folder.path().join("headers");
+    let access = Access { headers: Some(file.clone()), ..Access::default() };
+    std::fs::write(&file, "authorization: bearer one\n").unwrap();
+    let metrics = Arc::new(Metrics::new().unwrap());
+    let pass = Pass::to(&address, access, metrics.clone()).unwrap();
+    tokio::spawn(pass.clone().run());
+    for (token, taken) in [("one", 1), ("two", 2)] {
+        std::fs::write(&file, format!("authorization: bearer {token}\n")).unwrap();
+        pass.hand_on(outside(b"x", 1));
+        for _ in 0..1000 {
+            if counted(&metrics)[0] == taken {
+                break;
+            }
+            tokio::time::sleep(Duration::from_millis(5)).await;
+        }
+        assert_eq!(counted(&metrics), [taken, 0, 0, 0]);
+    }
+    let heads = heads.join().unwrap();
+    assert!(
+        heads[0].contains("authorization: bearer one") && heads[1].contains("authorization: bearer two"),
+        "{heads:?}"
+    );
 }

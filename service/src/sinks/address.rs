@@ -1,7 +1,7 @@
 //! How a sink is written on the command line.
 
 use super::postgres::Server;
-use super::roots;
+use super::{roots, Access};
 use crate::files::KnownSink;
 use std::path::PathBuf;
 use std::str::FromStr;
@@ -11,7 +11,7 @@ use std::str::FromStr;
 pub enum Address {
     Sqlite(PathBuf),
     Postgres(Box<Server>),
-    Otlp { url: String, protobuf: bool, gzip: bool, headers: Vec<(String, String)> },
+    Otlp { url: String, protobuf: bool, gzip: bool, headers: Vec<(String, String)>, access: Access },
 }
 
 impl Address {
@@ -88,7 +88,7 @@ fn otlp(url: String) -> Result<Address, BadAddress> {
         Some(path) => path,
     };
     let url = format!("{}://{authority}{path}", uri.scheme_str().unwrap_or("http"));
-    Ok(Address::Otlp { url, protobuf: false, gzip: false, headers: Vec::new() })
+    Ok(Address::Otlp { url, protobuf: false, gzip: false, headers: Vec::new(), access: Access::default() })
 }
 
 #[cfg(test)]

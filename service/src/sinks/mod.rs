@@ -22,10 +22,12 @@ mod utc;
 pub use address::{Address, BadAddress};
 pub use delivery::{deliver, of_part, Attempts, Delivery};
 pub use keys::{Held, Keys};
-pub use otlp::header_of;
+pub(crate) use otlp::Client;
+pub use otlp::{header_of, Access};
 use periods::{Deed, Told};
 pub use retention::Retention;
 pub use rewind::Rewind;
+pub use roots::ClientFiles;
 
 use std::future::Future;
 use std::pin::Pin;
@@ -172,8 +174,8 @@ pub fn open(
     match address {
         Address::Sqlite(path) => Ok(Arc::new(sqlite::SqliteSink::open(path, retention, memory)?)),
         Address::Postgres(server) => Ok(Arc::new(postgres::PostgresSink::open(server, retention, memory)?)),
-        Address::Otlp { url, protobuf, gzip, headers } => {
-            Ok(Arc::new(otlp::OtlpSink::open(url, *protobuf, *gzip, headers)?))
+        Address::Otlp { url, protobuf, gzip, headers, access } => {
+            Ok(Arc::new(otlp::OtlpSink::open(url, *protobuf, *gzip, headers, access.clone())?))
         }
     }
 }

@@ -1,5 +1,6 @@
 //! A sink that speaks OTLP/HTTP: one POST a request, over a connection that is kept.
 
+mod access;
 mod answer;
 mod connect;
 #[cfg(test)]
@@ -9,6 +10,9 @@ mod tests;
 #[cfg(test)]
 mod tls_tests;
 
+pub use access::Access;
+pub(crate) use connect::Client;
+
 use super::{Answer, Fate, Forwarded, Keys, Rewind, Sink};
 use crate::otlp::{protobuf_of_forwarded, Encoding};
 use crate::work::blocking;
@@ -16,6 +20,7 @@ use bytes::Bytes;
 use hyper::header::{HeaderMap, HeaderName, HeaderValue, CONTENT_ENCODING, CONTENT_TYPE, USER_AGENT};
 use hyper::{Body, Request, Uri};
 use std::io::Write;
+use std::path::PathBuf;
 use std::time::Duration;
 use tokio::time::{timeout_at, Instant};
 
@@ -46,6 +51,10 @@ pub enum BadOtlp {
     HeaderValue(String),
     #[error("header `{0}` is the service's own: leave it out")]
     OwnHeader(String),
+    #[error("{} can't be read as headers: {why}", .file.display())]
+    HeaderFile { file: PathBuf, why: String },
+    #[error("files of TLS are for https://: leave them out, or write the address so")]
+    NoTls,
     #[error(transparent)]
     Roots(#[from] crate::sinks::roots::NoRoots),
 }
@@ -55,7 +64,8 @@ pub struct OtlpSink {
     encoding: Encoding,
     gzip: bool,
     headers: HeaderMap,
-    client: connect::Client,
+    access: Access,
+    client: Client,
     patience: Duration,
     keys: Keys,
 }
@@ -66,20 +76,27 @@ impl OtlpSink {
         protobuf: bool,
         gzip: bool,
         headers: &[(String, String)],
+        access: Access,
     ) -> Result<OtlpSink, BadOtlp> {
         let encoding = if protobuf { Encoding::Protobuf } else { Encoding::Json };
         let headers = headers.iter().map(|(name, value)| header_of(name, value));
         let headers = headers.collect::<Result<HeaderMap, _>>()?;
         let url: Uri = url.parse().map_err(|error| BadOtlp::Url(format!("{error}")))?;
-        let client = connect::client(url.scheme_str() == Some("https"))?;
-        Ok(OtlpSink { url, encoding, gzip, headers, client, patience: PATIENCE, keys: Keys::default() })
+        let client = access.client(&url)?;
+        let (patience, keys) = (PATIENCE, Keys::default());
+        Ok(OtlpSink { url, encoding, gzip, headers, access, client, patience, keys })
     }
 
     async fn send(&self, request: &Forwarded) -> Fate {
         if Rewind::of(&request.body).is_some() {
             return Fate::Taken; // a receiver knows no ends of series
         }
-        let post = match self.post(request).await {
+        let access = self.access.clone();
+        let more = match blocking(move || access.read_headers()).await {
+            Ok(more) => more,
+            Err(error) => return Fate::again(error.to_string()),
+        };
+        let post = match self.post(request, more).await {
             Ok(post) => post,
             Err(reason) => return Fate::refused(reason),
         };
@@ -93,7 +110,7 @@ impl OtlpSink {
     }
 
     /// The same bytes for the same request, each time.
-    async fn post(&self, request: &Forwarded) -> Result<Request<Body>, String> {
+    async fn post(&self, request: &Forwarded, more: HeaderMap) -> Result<Request<Body>, String> {
         let body = self.encode(&request.body).await?;
         let content = match self.encoding {
             Encoding::Json => "application/json",
@@ -105,6 +122,7 @@ impl OtlpSink {
         let headers = post.headers_mut();
         headers.insert(USER_AGENT, HeaderValue::from_static(concat!("totxegun/", env!("CARGO_PKG_VERSION"))));
         headers.extend(self.headers.clone());
+        headers.extend(more);
         headers.insert(CONTENT_TYPE, HeaderValue::from_static(content));
         if self.gzip {
             headers.insert(CONTENT_ENCODING, HeaderValue::from_static("gzip"));

@@ -8,7 +8,7 @@ fn request(number: u64) -> Forwarded {
 }
 
 fn sink(server: &Server) -> OtlpSink {
-    let mut sink = OtlpSink::open(&server.url, false, false, &[]).expect("a sink");
+    let mut sink = OtlpSink::open(&server.url, false, false, &[], Access::default()).expect("a sink");
     sink.patience = Duration::from_secs(3); // also on a busy machine
     sink
 }
@@ -70,7 +70,7 @@ async fn an_object_of_no_known_kind_is_json() {
     let json = "{\"partialSuccess\":{\"rejectedDataPoints\":\"3\",\"errorMessage\":\"too old\"}}\n";
     for headers in ["", "content-type: text/plain; charset=utf-8\r\n"] {
         let server = Server::start(vec![Act::Write(answer("200 OK", headers, json))]).await;
-        let mut sink = OtlpSink::open(&server.url, true, false, &[]).expect("a sink");
+        let mut sink = OtlpSink::open(&server.url, true, false, &[], Access::default()).expect("a sink");
         sink.patience = Duration::from_secs(3);
         let rejected = Fate::TakenPartly { rejected: 3, reason: "too old".into(), left: None };
         assert_eq!(sink.deliver(&request(1)).await, rejected, "{headers}");
@@ -184,7 +184,8 @@ async fn no_answer_is_tried_again() {
 #[tokio::test]
 async fn nobody_there_is_tried_again() {
     let free = std::net::TcpListener::bind("127.0.0.1:0").expect("a port").local_addr().expect("its address");
-    let sink = OtlpSink::open(&format!("http://{free}/"), false, false, &[]).expect("a sink");
+    let sink =
+        OtlpSink::open(&format!("http://{free}/"), false, false, &[], Access::default()).expect("a sink");
     match sink.deliver(&request(1)).await {
         Fate::Away { reason } => assert!(reason.contains("refused"), "{reason}"),
         other => panic!("{other:?}"),
@@ -222,7 +223,7 @@ async fn a_huge_answer_is_cut_off() {
 async fn requests_share_a_connection_and_say_their_key() {
     let server = Server::start(vec![Act::Write(answer("200 OK", "", "{}"))]).await;
     let headers = [("Authorization".to_string(), "Bearer t".to_string()), ("x-tenant".into(), "a".into())];
-    let sink = OtlpSink::open(&server.url, false, false, &headers).expect("a sink");
+    let sink = OtlpSink::open(&server.url, false, false, &headers, Access::default()).expect("a sink");
     for number in 1..=3 {
         assert_eq!(sink.deliver(&request(number)).await, Fate::Taken);
     }
@@ -247,7 +248,7 @@ async fn a_request_that_is_sent_again_has_the_same_bytes_and_key() {
         Act::Write(answer("200 OK", "", "")),
     ];
     let server = Server::start(acts).await;
-    let sink = OtlpSink::open(&server.url, false, true, &[]).expect("a sink");
+    let sink = OtlpSink::open(&server.url, false, true, &[], Access::default()).expect("a sink");
     let mut fates = Vec::new();
     for _ in 0..3 {
         fates.push(sink.deliver(&request(9)).await);
@@ -269,15 +270,16 @@ async fn a_request_that_is_sent_again_has_the_same_bytes_and_key() {
 /// A key may be written there.
 #[test]
 fn what_an_address_asks_for_is_not_shown() {
-    let name = |url: &str| OtlpSink::open(url, false, false, &[]).expect("a sink").name();
+    let name = |url: &str| OtlpSink::open(url, false, false, &[], Access::default()).expect("a sink").name();
     assert_eq!(name("http://h:1/v1/metrics"), "otlp http://h:1/v1/metrics");
     assert_eq!(name("http://h:1/otlp?api_key=secret"), "otlp http://h:1/otlp?..");
 }
 
 #[test]
 fn bad_headers_are_named() {
-    let open =
-        |name: &str, value: &str| OtlpSink::open("http://h/", false, false, &[(name.into(), value.into())]);
+    let open = |name: &str, value: &str| {
+        OtlpSink::open("http://h/", false, false, &[(name.into(), value.into())], Access::default())
+    };
     for (name, value) in
         [("content-type", "x"), ("Accept-Encoding", "gzip"), ("Idempotency-Key", "x"), ("x-a", "secret\nb")]
     {
@@ -293,12 +295,14 @@ fn bad_headers_are_named() {
 async fn https_with_a_server_that_has_no_certificate_is_tried_again() {
     let server = Server::start(vec![Act::Write(answer("200 OK", "", ""))]).await;
     let url = server.url.replace("http://127.0.0.1", "https://localhost");
-    let Ok(mut sink) = OtlpSink::open(&url, false, false, &[]) else {
+    let Ok(mut sink) = OtlpSink::open(&url, false, false, &[], Access::default()) else {
         return;
     };
     sink.patience = Duration::from_secs(5);
     match sink.deliver(&request(1)).await {
-        Fate::Again { reason, .. } | Fate::Away { reason } => assert!(reason.starts_with("no answer"), "{reason}"),
+        Fate::Again { reason, .. } | Fate::Away { reason } => {
+            assert!(reason.starts_with("no answer"), "{reason}")
+        }
         other => panic!("{other:?}"),
     }
 }

@@ -1,6 +1,7 @@
 //! A sink behind TLS, with a root that the client knows or does not. The certificates are `openssl`'s.
 
 use super::*;
+use crate::sinks::ClientFiles;
 use std::io::Read;
 use std::path::Path;
 use std::process::{Command, Stdio};
@@ -24,6 +25,8 @@ fn certificates(folder: &Path) {
     openssl(folder, &format!("req -x509 {key} -keyout root.key -out root.pem -subj /CN=root -days 2"));
     openssl(folder, &format!("req {key} -keyout key.pem -out request.pem -subj /CN=localhost"));
     openssl(folder, "x509 -req -in request.pem -CA root.pem -CAkey root.key -CAcreateserial -days 2 -extfile names -outform DER -out server.der");
+    openssl(folder, &format!("req {key} -keyout own.key -out own.request -subj /CN=service"));
+    openssl(folder, "x509 -req -in own.request -CA root.pem -CAkey root.key -CAcreateserial -days 2 -extfile names -out own.pem");
     openssl(folder, "x509 -in root.pem -outform DER -out root.der");
     openssl(folder, "pkcs8 -topk8 -nocrypt -in key.pem -outform DER -out key.der");
 }
@@ -32,13 +35,14 @@ fn certificates(folder: &Path) {
 fn serve(
     folder: &Path,
     version: &'static rustls::SupportedProtocolVersion,
+    verifier: Arc<dyn rustls::server::ClientCertVerifier>,
 ) -> (u16, std::thread::JoinHandle<String>) {
     let config = rustls::ServerConfig::builder()
         .with_safe_default_cipher_suites()
         .with_safe_default_kx_groups()
         .with_protocol_versions(&[version])
         .expect("a version")
-        .with_no_client_auth()
+        .with_client_cert_verifier(verifier)
         .with_single_cert(
             vec![rustls::Certificate(bytes(folder, "server.der"))],
             rustls::PrivateKey(bytes(folder, "key.der")),
@@ -63,13 +67,24 @@ fn serve(
     (port, thread)
 }
 
+fn anybody() -> Arc<dyn rustls::server::ClientCertVerifier> {
+    rustls::server::NoClientAuth::new()
+}
+
+fn root_of(folder: &Path) -> rustls::RootCertStore {
+    let mut roots = rustls::RootCertStore::empty();
+    roots.add(&rustls::Certificate(bytes(folder, "root.der"))).expect("a root");
+    roots
+}
+
 fn sink(port: u16, roots: rustls::RootCertStore) -> OtlpSink {
     OtlpSink {
         url: format!("https://localhost:{port}/v1/metrics").parse().expect("a URL"),
         encoding: Encoding::Json,
         gzip: false,
         headers: HeaderMap::new(),
-        client: connect::client_of(roots),
+        access: Access::default(),
+        client: connect::client_of(crate::sinks::roots::client_config(roots)),
         patience: Duration::from_secs(10),
         keys: Keys::default(),
     }
@@ -81,16 +96,35 @@ async fn a_sink_behind_tls_takes_where_its_root_is_known() {
     certificates(folder.path());
     let request = Forwarded { slot: 0, epoch: "e".into(), number: 1, body: b"body".to_vec() };
     for version in [&rustls::version::TLS12, &rustls::version::TLS13] {
-        let mut roots = rustls::RootCertStore::empty();
-        roots.add(&rustls::Certificate(bytes(folder.path(), "root.der"))).expect("a root");
-        let (port, thread) = serve(folder.path(), version);
-        assert_eq!(sink(port, roots).deliver(&request).await, Fate::Taken, "{version:?}");
+        let (port, thread) = serve(folder.path(), version, anybody());
+        assert_eq!(sink(port, root_of(folder.path())).deliver(&request).await, Fate::Taken, "{version:?}");
         assert!(thread.join().expect("it ended").contains("idempotency-key: 0-e-1"));
     }
-    let (port, thread) = serve(folder.path(), &rustls::version::TLS13);
+    let (port, thread) = serve(folder.path(), &rustls::version::TLS13, anybody());
     match sink(port, rustls::RootCertStore::empty()).deliver(&request).await {
         Fate::Away { reason } => assert!(reason.contains("certificate"), "{reason}"),
         other => panic!("{other:?}"),
     }
     assert_eq!(thread.join().expect("it ended"), "", "nothing was sent");
+}
+
+/// As a receiver within a company: a root that no machine has, and nobody without a certificate.
+#[tokio::test]
+async fn a_sink_is_told_by_its_own_root_and_is_shown_a_certificate() {
+    let folder = tempfile::tempdir().expect("a folder");
+    certificates(folder.path());
+    let request = Forwarded { slot: 0, epoch: "e".into(), number: 1, body: b"body".to_vec() };
+    let file = |name: &str| Some(folder.path().join(name));
+    let tls = ClientFiles { roots: file("root.pem"), certificate: file("own.pem"), key: file("own.key") };
+    let without = ClientFiles { certificate: None, key: None, ..tls.clone() };
+    for (tls, is_taken) in [(tls, true), (without, false)] {
+        let verifier = rustls::server::AllowAnyAuthenticatedClient::new(root_of(folder.path()));
+        let (port, thread) = serve(folder.path(), &rustls::version::TLS13, verifier);
+        let url = format!("https://localhost:{port}/v1/metrics");
+        let access = Access { tls, headers: None };
+        let sink = OtlpSink::open(&url, false, false, &[], access).expect("a sink");
+        let fate = sink.deliver(&request).await;
+        assert_eq!(fate == Fate::Taken, is_taken, "{fate:?}");
+        assert_eq!(thread.join().expect("it ended").contains("body"), is_taken);
+    }
 }

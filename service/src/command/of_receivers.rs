@@ -1,0 +1,101 @@
+//! Options of an OTLP sink and of `--pass`: how they are sent to, by what they are told, and told who comes.
+
+use super::serve::absolute;
+use crate::metrics::Metrics;
+use crate::pass::Pass;
+use crate::sinks::{header_of, Access, Address, ClientFiles};
+use anyhow::bail;
+use clap::Args;
+use std::path::PathBuf;
+use std::sync::Arc;
+
+#[derive(Args)]
+#[command(next_help_heading = "Options of an OTLP sink")]
+pub struct OfSink {
+    /// Sends protobuf in the place of JSON
+    #[arg(long, env = "TOTXEGUN_SINK_PROTOBUF")]
+    sink_protobuf: bool,
+    /// Packs what it sends
+    #[arg(long, env = "TOTXEGUN_SINK_GZIP")]
+    sink_gzip: bool,
+    /// A header of each request; may be given again, in the environment a line each
+    #[arg(long = "sink-header", env = "TOTXEGUN_SINK_HEADER", value_name = "NAME: VALUE", hide_env_values = true, value_delimiter = '\n', value_parser = header)]
+    sink_headers: Vec<(String, String)>,
+    /// Headers of each request, a line each, read anew for each: for tokens that are renewed
+    #[arg(long, env = "TOTXEGUN_SINK_HEADER_FILE", value_name = "FILE")]
+    sink_header_file: Option<PathBuf>,
+    /// Roots in PEM by which the sink is told, in the place of the machine's
+    #[arg(long, env = "TOTXEGUN_SINK_CA", value_name = "FILE")]
+    sink_ca: Option<PathBuf>,
+    /// A certificate in PEM, with those between it and a root, that is shown to the sink
+    #[arg(long, env = "TOTXEGUN_SINK_CERT", value_name = "FILE", requires = "sink_key")]
+    sink_cert: Option<PathBuf>,
+    /// Its key in PEM
+    #[arg(long, env = "TOTXEGUN_SINK_KEY", value_name = "FILE", requires = "sink_cert")]
+    sink_key: Option<PathBuf>,
+}
+
+#[derive(Args)]
+#[command(next_help_heading = "Options of --pass")]
+pub struct OfPass {
+    /// Hands points that are outside the profile to another OTLP receiver, http://HOST:PORT or https://HOST, at most once: so they are no fault
+    #[arg(long, env = "TOTXEGUN_PASS", value_name = "ADDRESS")]
+    pass: Option<String>,
+    /// As --sink-header-file, for it
+    #[arg(long, env = "TOTXEGUN_PASS_HEADER_FILE", value_name = "FILE")]
+    pass_header_file: Option<PathBuf>,
+    /// As --sink-ca, for it
+    #[arg(long, env = "TOTXEGUN_PASS_CA", value_name = "FILE")]
+    pass_ca: Option<PathBuf>,
+    /// As --sink-cert, for it
+    #[arg(long, env = "TOTXEGUN_PASS_CERT", value_name = "FILE", requires = "pass_key")]
+    pass_cert: Option<PathBuf>,
+    /// Its key in PEM
+    #[arg(long, env = "TOTXEGUN_PASS_KEY", value_name = "FILE", requires = "pass_cert")]
+    pass_key: Option<PathBuf>,
+}
+
+impl OfSink {
+    /// These options say how an OTLP sink is sent to; for another they are a mistake.
+    pub fn put_into(self, sink: Address) -> anyhow::Result<Address> {
+        let tls = ClientFiles { roots: self.sink_ca, certificate: self.sink_cert, key: self.sink_key };
+        let access = Access { tls, headers: self.sink_header_file };
+        let (protobuf, gzip, headers) = (self.sink_protobuf, self.sink_gzip, self.sink_headers);
+        let is_given = protobuf || gzip || !headers.is_empty() || access != Access::default();
+        match sink {
+            Address::Otlp { url, .. } => Ok(Address::Otlp { url, protobuf, gzip, headers, access }),
+            Address::Sqlite(_) | Address::Postgres(_) if is_given => {
+                bail!("--sink-protobuf, --sink-gzip, --sink-header, --sink-ca and those beside them are for a sink of OTLP: give --sink http://.. too")
+            }
+            Address::Sqlite(path) => Ok(Address::Sqlite(absolute(&path)?)),
+            Address::Postgres(server) => Ok(Address::Postgres(server)),
+        }
+    }
+}
+
+impl OfPass {
+    pub fn pass(self, listen: &str, metrics: &Arc<Metrics>) -> anyhow::Result<Option<Arc<Pass>>> {
+        let tls = ClientFiles { roots: self.pass_ca, certificate: self.pass_cert, key: self.pass_key };
+        let access = Access { tls, headers: self.pass_header_file };
+        let Some(address) = self.pass else {
+            match access == Access::default() {
+                true => return Ok(None),
+                false => {
+                    bail!("--pass-ca and those beside it are for --pass: give that too, or leave them out")
+                }
+            }
+        };
+        let pass = Pass::to(&address, access, metrics.clone())?;
+        if pass.is_to(listen) {
+            bail!("--pass is the address where senders post: points would come again for ever");
+        }
+        Ok(Some(pass))
+    }
+}
+
+fn header(text: &str) -> Result<(String, String), String> {
+    let (name, value) = text.split_once(':').ok_or("write a name, a colon and a value")?;
+    let (name, value) = (name.trim(), value.trim());
+    header_of(name, value).map_err(|why| why.to_string())?;
+    Ok((name.to_string(), value.to_string()))
+}
