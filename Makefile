@@ -1,18 +1,12 @@
 # The commands of the README. Their scripts are in tools/; what they log is in out/logs.
 
-.PHONY: help run serve demo build check quick fmt test edits tried wrong soak several bench install deb image life version release reproduce
+.PHONY: help serve demo build test prove core run check quick fmt edits tried wrong soak several bench install deb image life version release reproduce
 
 # The first one: what there is to make. Each line is the text behind ## at a target.
 help:
 	@sed -n 's/^\([a-z]*\):.*## /  make \1	/p' Makefile | expand -t 19
 
-# Its stored script, in about a minute at most.
-run: ## runs the script program play, unproved
-	@tools/toolchain
-	@cd crates/play && mkdir -p out && rt try < stdin 2> out/run.log || { cat out/run.log; exit 1; }
-	@echo 'This run proved nothing: make build proves what it builds, make test everything.'
-
-# Builds what is missing: the first time, for about as long as the proofs of the book take. Ctrl-C ends it.
+# Compiles what is missing, in two minutes the first time. Ctrl-C ends it.
 serve: ## serves on 127.0.0.1:4318 with a SQLite file as the sink
 	@tools/serve.py
 
@@ -20,12 +14,31 @@ serve: ## serves on 127.0.0.1:4318 with a SQLite file as the sink
 demo: ## two programs on OpenTelemetry's SDK, the service, PostgreSQL and Prometheus
 	@demo/run.py $(or $(SEED),1) $(or $(SECONDS),60)
 
-# Crates side by side. What has not changed is not proved again.
-build: ## proves the core, and builds totxegun, gateway and play into bin/
+build: ## compiles totxegun, release, into bin/
+	@tools/service.py
+
+# The sources, the service, and what runs it, by the steps that tools/gate.py lists.
+test: ## all tests, without the prover
+	@tools/gate.py
+
+# The toolchain first: it is not needed for anything above. A library in book/ that the proofs don't yield is refused; if the crates
+# have changed, book/ is written anew.
+prove: ## proves the core from nothing, and compares the library in book/ with it
+	@tools/toolchain
+	@tools/prove.py
+
+# Crates side by side. What has not changed is not proved again. With TOTXEGUN_BOOK=$PWD/out/book cargo links the library of this.
+core: ## proves the core step by step, with play and gateway in bin/
 	@tools/toolchain
 	@tools/build.py
 
-# Over what make build has kept: make check NAME=delta_book, or NAME="delta_book --allow-holes".
+# Its stored script, in about a minute at most.
+run: ## runs the script program play, unproved
+	@tools/toolchain
+	@cd crates/play && mkdir -p out && rt try < stdin 2> out/run.log || { cat out/run.log; exit 1; }
+	@echo 'This run proved nothing: make core proves what it builds, make prove everything.'
+
+# Over what make core has kept: make check NAME=delta_book, or NAME="delta_book --allow-holes".
 check: ## checks one crate: make check NAME=delta_book
 	@tools/toolchain
 	@tools/check.py $(NAME)
@@ -34,14 +47,9 @@ check: ## checks one crate: make check NAME=delta_book
 quick: ## checks one part, and runs its tests: make quick NAME=sinks
 	@tools/quick.py $(NAME)
 
-fmt: ## lays out the code of the crates and of the service
-	@tools/format.py && tools/cargo fmt
-
-# Every proof from nothing, the must-fail edits, the tests and the programs; and then what the prover can't see, by the
-# steps that tools/gate.py lists, with the programs that the gate has built.
-test: ## the gate: all proofs, wrong code that must be refused, tests
-	@tools/toolchain
-	@tools/gate.py
+fmt: ## lays out the code of the service, and of the crates if the toolchain is there
+	@tools/cargo fmt
+	@! command -v rt > /dev/null || tools/format.py
 
 # Those too that the gate leaves out, many in one check: NAME=delta_book, or NAME=delta_book/EDIT. LIST=1 only prints them.
 edits: ## tries all wrong code: LIST=1 lists it
@@ -74,10 +82,10 @@ several: ## the tests of several machines over a store, in half an hour
 install: ## installs what make build has built: DESTDIR=, PREFIX=/usr/local
 	@DESTDIR='$(DESTDIR)' PREFIX='$(PREFIX)' SYSCONFDIR='$(SYSCONFDIR)' UNITDIR='$(UNITDIR)' tools/install
 
-deb: ## a Debian package of what make build has built
+deb: build ## a Debian package of it
 	@tools/deb.py
 
-image: ## an image for containers of what make build has built
+image: build ## an image of it for containers
 	@tools/image
 
 # As root, after make deb and make image; Debian's base is fetched once, into /var/tmp.

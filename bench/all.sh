@@ -1,6 +1,6 @@
 #!/bin/sh
 # What docs/MEASURED.md has of the service, beside an earlier one and the bare gateway, and of the gateway under load, with what
-# `make build` has built, the most wanted first: about a quarter of an hour on 4 idle cores.
+# `make build` and `make core` have built, the most wanted first: about a quarter of an hour on 4 idle cores.
 # Call: bench/all.sh [GATEWAY [TOTXEGUN [EARLIER]]], where EARLIER is a folder with totxegun and gateway of 1383c49c.
 #
 # Each output goes to out/bench/NAME.txt too. Status 0, also where a part was left out; its lines say why.

@@ -5,7 +5,7 @@
                      [--senders N,..] [--receivers N,..] [--beside NAME,..] [--allocators NAME,..]
                      [--preload FILE] [--environment NAME=VALUE]* [--runs N] [--seconds N] [--kept] [--calls]
 
-FILE is bin/gateway, as `make build` makes it, where none is named. With no option the rows are sums of 1, 20 and 1,000
+FILE is bin/gateway, as `make core` makes it, where none is named. With no option the rows are sums of 1, 20 and 1,000
 points a request and histograms of 20 (11 buckets each), over 800 series, with 8 senders and 2 receivers, beside `plain` and
 with the C library's allocator; else each of the points with each of the kinds, series and so on that are named.
 

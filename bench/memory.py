@@ -3,7 +3,7 @@
 
     bench/memory.py [PROGRAM [POINTS ..]]
 
-PROGRAM is bin/play, as `make build` makes it, where none is named; POINTS are 2000 and 20000.
+PROGRAM is bin/play, as `make core` makes it, where none is named; POINTS are 2000 and 20000.
 
 The requests look like those of a real exporter: 200 points of 200 series each, ten attributes of
 the resource, three of the point. Each series gets one point a request, so after the first request

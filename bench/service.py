@@ -5,7 +5,7 @@
                      [--parties NAME,..] [--connections kept|each] [--runs N] [--seconds N] [--share N] [--data DIR] [--options WORDS]
                      [--set NAME=VALUE]* [--sink sqlite|postgres]
 
-The programs are bin/totxegun and bin/gateway, as `make build` makes them, where none is named. Rows: json-1, json-20,
+The programs are bin/totxegun and bin/gateway, as `make build` and `make core` make them, where none is named. Rows: json-1, json-20,
 protobuf-103, gzip-103, grpc-1, grpc-103, by the encoding and the points of a post, over 800 series, and cumulative-103, which is
 protobuf. Parties: gateway, which is the bare one, process and disk, which are the service with this durability and a SQLite file
 as its sink, or with --sink postgres a database of a server that runs beside, whose processor time is not counted; `--set

@@ -3,7 +3,7 @@
 
     bench/store.py [PROGRAM]
 
-PROGRAM is bin/play, as `make build` makes it, where none is named. Each figure is the processor
+PROGRAM is bin/play, as `make core` makes it, where none is named. Each figure is the processor
 time of a script less that of the same script without the calls that are measured, so it holds the
 reading of their lines and the writing of their replies too. What is printed says what was measured
 here, and asserts nothing.

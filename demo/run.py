@@ -21,7 +21,7 @@ from showing.play import Play, Row
 from showing.scraped import Total, torn
 from tooling.steps import interrupt
 from picture import draw
-from serve import totxegun
+from service import build
 
 OUT = f"{ROOT}/out/demo"
 LIBRARIES = "/usr/share/gocode"
@@ -77,7 +77,7 @@ def report(play: Play, rows: list[Row]) -> int:
 def run(seed: int, seconds: float) -> int:
     if subprocess.run([f"{ROOT}/tools/needs", "demo"], check=False).returncode:
         return 1
-    program = totxegun()
+    program = build("dev")
     sender = program and build_sender()
     if not sender:
         return 1

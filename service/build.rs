@@ -1,14 +1,18 @@
 //! Compares the version that Cargo.toml has with the one that holds for all, the file VERSION at the top; looks for the
-//! allocator, with which `core/book` links; and links the proved book, the library that `tools/build.py` has built.
+//! allocator, with which `core/book` links; and links the proved book, the library in `book/`, if it is the one that
+//! PROVENANCE there names.
 
 use sha2::{Digest, Sha256};
 use std::path::{Path, PathBuf};
 use std::process::Command;
 
-/// Where the library is, beside what was written of it when it was proved. `$TOTXEGUN_BOOK` is another folder.
-const FOLDER: &str = "../crates/book_c/out";
-const LIBRARY: &str = "libbook_c.a";
-const PROVED: &str = "libbook_c.a.proved";
+/// Where the library is, beside what it was built of and what proved it. `$TOTXEGUN_BOOK` is another folder, which may lack
+/// the latter: `tools/build.py book_c` makes one of changed crates.
+const FOLDER: &str = "../book";
+const LIBRARY: &str = "libbook.a";
+const PROVENANCE: &str = "PROVENANCE";
+/// For which the library is.
+const PROCESSOR: &str = "x86_64";
 /// By the name that pkg-config has for it.
 const ALLOCATOR: &str = "libtcmalloc_minimal";
 
@@ -38,35 +42,41 @@ fn look_for_allocator() {
 }
 
 fn link_book() {
-    let folder = std::env::var_os("TOTXEGUN_BOOK").map_or_else(|| FOLDER.into(), PathBuf::from);
-    let folder = std::path::absolute(folder).expect("it has a name");
-    let library = folder.join(LIBRARY);
+    let processor = std::env::var("CARGO_CFG_TARGET_ARCH").expect("cargo tells the processor");
+    if processor != PROCESSOR {
+        panic!("the proved library in book/ is for {PROCESSOR}, and this build is for {processor}: there is no other");
+    }
+    let other = std::env::var_os("TOTXEGUN_BOOK").map(PathBuf::from);
+    let folder = std::path::absolute(other.as_deref().unwrap_or(Path::new(FOLDER))).expect("it has a name");
+    let (library, provenance) = (folder.join(LIBRARY), folder.join(PROVENANCE));
     println!("cargo:rerun-if-changed={}", library.display());
-    println!("cargo:rerun-if-changed={}", folder.join(PROVED).display());
+    println!("cargo:rerun-if-changed={}", provenance.display());
     println!("cargo:rustc-link-search=native={}", folder.display());
-    println!("cargo:rustc-link-lib=static=book_c");
-    match proved(&library, &folder.join(PROVED)) {
-        Some((revision, toolchain)) => {
-            println!("cargo:rustc-env=BOOK_REVISION={revision}");
-            println!("cargo:rustc-env=BOOK_TOOLCHAIN={toolchain}");
+    println!("cargo:rustc-link-lib=static=book");
+    let Ok(bytes) = std::fs::read(&library) else {
+        panic!("there is no {}: `git checkout book` brings it back", library.display());
+    };
+    match std::fs::read_to_string(&provenance) {
+        Ok(text) => tell_version(&text, &bytes, &library),
+        Err(_) if other.is_some() => {}
+        Err(error) => {
+            panic!("{} can't be read ({error}): `git checkout book` brings it back", provenance.display())
         }
-        // What only checks links nothing; what links fails behind this.
-        None if !library.is_file() => {
-            println!("cargo:warning=there is no {}: tools/build.py book_c builds it", library.display());
-        }
-        None => {}
     }
 }
 
-/// Of which revision the library was proved, and by which toolchain: where that was written of this very library.
-fn proved(library: &Path, written: &Path) -> Option<(String, String)> {
-    let text = std::fs::read_to_string(written).ok()?;
+/// Gives the program the revision and the toolchain of its book, whose bytes have the sum that is written down.
+fn tell_version(provenance: &str, bytes: &[u8], library: &Path) {
     let value = |key: &str| {
-        let mut lines = text.lines().filter_map(|line| line.split_once(' '));
-        let (_, value) = lines.find(|(word, _)| *word == key)?;
-        Some(value.trim().to_string())
+        let mut lines = provenance.lines().filter_map(|line| line.split_once(' '));
+        lines.find(|(word, _)| *word == key).map(|(_, value)| value.trim())
     };
-    let digest = Sha256::digest(std::fs::read(library).ok()?);
-    let sum: String = digest.iter().map(|byte| format!("{byte:02x}")).collect();
-    (value("sha256")? == sum).then_some((value("revision")?, value("toolchain")?))
+    let sum: String = Sha256::digest(bytes).iter().map(|byte| format!("{byte:02x}")).collect();
+    if value("sha256") != Some(sum.as_str()) {
+        let wanted = value("sha256").unwrap_or("nothing");
+        panic!("{} has the sha256 {sum}, and {PROVENANCE} says {wanted}: `git checkout book` brings back the proved one", library.display());
+    }
+    for (name, key) in [("BOOK_REVISION", "revision"), ("BOOK_TOOLCHAIN", "toolchain")] {
+        println!("cargo:rustc-env={name}={}", value(key).unwrap_or("unknown"));
+    }
 }

@@ -7,46 +7,19 @@ Each line is one check; the last line counts those that passed and failed, and t
 """
 import os
 import re
-import shutil
 import subprocess
 import sys
 import tempfile
 
-from testing import ROOT
 from testing.checks import Checks
+from testing.clone import Clone
 
 # The same tool, but for what takes long.
 RELEASE = "import sys; sys.path.insert(0, 'tools'); import release; release.make = lambda version: None; release.main([sys.argv[1]])"
 
 
-class Clone:
-    """The repository with what is changed here, committed."""
-
-    def __init__(self, folder: str) -> None:
-        self.folder = folder
-        names = subprocess.run(["git", "ls-files", "-z", "--cached", "--others", "--exclude-standard"], cwd=ROOT,
-                               stdout=subprocess.PIPE, check=True)
-        for name in filter(None, names.stdout.decode().split("\0")):
-            if os.path.isfile(f"{ROOT}/{name}"):
-                os.makedirs(os.path.dirname(f"{folder}/{name}"), exist_ok=True)
-                shutil.copy2(f"{ROOT}/{name}", f"{folder}/{name}")
-        self.git("init", "--quiet")
-        self.git("config", "user.name", "nobody")
-        self.git("config", "user.email", "nobody@localhost")
-        self.git("add", "--all")
-        self.git("commit", "--quiet", "--message", "all")
-
-    def git(self, *words: str) -> str:
-        return subprocess.run(["git", *words], cwd=self.folder, stdout=subprocess.PIPE, text=True, check=True).stdout.strip()
-
-    def read(self, name: str) -> str:
-        with open(f"{self.folder}/{name}", encoding="utf-8") as file:
-            return file.read()
-
-    def write(self, name: str, text: str) -> None:
-        os.makedirs(os.path.dirname(f"{self.folder}/{name}"), exist_ok=True)
-        with open(f"{self.folder}/{name}", "w", encoding="utf-8") as file:
-            file.write(text)
+class Released(Clone):
+    """The repository, to be released."""
 
     def pass_gate(self) -> None:
         self.write("out/passed", self.git("rev-parse", "HEAD") + "\n")
@@ -57,7 +30,7 @@ class Clone:
         return ran.stderr.strip()
 
 
-def refusals(checks: Checks, clone: Clone, last: str, version: str) -> None:
+def refusals(checks: Checks, clone: Released, last: str, version: str) -> None:
     clone.write("new", "")
     checks.true("a change that is not committed is refused", "not committed" in clone.release(version), "taken")
     os.remove(f"{clone.folder}/new")
@@ -70,7 +43,7 @@ def refusals(checks: Checks, clone: Clone, last: str, version: str) -> None:
     clone.pass_gate()
 
 
-def released(checks: Checks, clone: Clone, last: str, version: str) -> None:
+def released(checks: Checks, clone: Released, last: str, version: str) -> None:
     checks.same("it is released", "", clone.release(version))
     checks.same("the commit has the tag", f"v{version}", clone.git("tag", "--points-at", "HEAD"))
     checks.same("nothing is left uncommitted", "", clone.git("status", "--porcelain"))
@@ -90,7 +63,7 @@ def released(checks: Checks, clone: Clone, last: str, version: str) -> None:
 def main() -> int:
     checks = Checks()
     with tempfile.TemporaryDirectory() as folder:
-        clone = Clone(folder)
+        clone = Released(folder)
         if "## Unreleased" not in clone.read("CHANGELOG.md"):
             clone.write("CHANGELOG.md", clone.read("CHANGELOG.md").replace("\n## ", "\n## Unreleased\n\n- A change.\n\n## ", 1))
             clone.git("commit", "--quiet", "--all", "--message", "a change")

@@ -1,13 +1,13 @@
 #!/usr/bin/env python3
-"""Proves programs and all crates below them, and builds them into bin/; and the service, totxegun.
+"""Proves programs and all crates below them, step by step, and builds them into bin/.
 
     tools/build.py [CRATE ..]
 
-The crates are play, gateway and book_c, which the service is linked with, or those that are named; then the service is
-not built. A static library stays in the folder out/ of its crate. Crates that don't use each other are proved side by
-side, as many as processors and memory carry; a crate that is proved and has not changed since, nor one below it, is
-not proved again, also not after an interrupt. Beside a program or a static library is written of which revision it is,
-and that it was proved (tools/tooling/proved.py). The logs are in out/logs.
+The crates are play, gateway and book_c, the library that the service is linked with, or those that are named. Crates that
+don't use each other are proved side by side, as many as processors and memory carry; a crate that is proved and has not
+changed since, nor one below it, is not proved again, also not after an interrupt. Of book_c the library goes to
+out/book/libbook.a: with TOTXEGUN_BOOK=$PWD/out/book the service is built over it. What counts is made by `make prove`. The logs
+are in out/logs.
 """
 import hashlib
 import os
@@ -19,17 +19,14 @@ from collections.abc import Collection, Iterable
 
 from tooling.crates import OUT, ROOT, Crate, Digests, named
 from tooling.files import content
-from tooling.proved import write_proof
 from tooling.prover import Prover, made_by, room_of
-from tooling.steps import GIGABYTE, Failed, Step, Steps, end_of, locked, shown
+from tooling.steps import GIGABYTE, Failed, Step, Steps, locked, shown
+from service import install
 
 PROGRAMS = ["play", "gateway"]
-# What the service is linked with.
+# What the service is linked with, and where what is built of it here is put.
 LIBRARY = "book_c"
-SERVICE = "totxegun"
-SERVICE_MADE = f"{os.environ.get('CARGO_TARGET_DIR', f'{ROOT}/service/target')}/release/{SERVICE}"
-# It takes about as long as a crate of so many lines.
-SERVICE_WEIGHT = 2000
+TRIED = f"{OUT}/book/libbook.a"
 # A check of a crate takes a gigabyte or two for what it loads, and about a megabyte a line.
 LEAST_MEMORY = 3 * GIGABYTE // 2
 LINE_MEMORY = GIGABYTE // 1000
@@ -84,8 +81,6 @@ class Building:
                     raise Failed("not proved")
             with open(mark_of(crate), "wb") as file:
                 file.write(mark)
-            if crate.is_static:
-                write_proof(made_by(crate))  # the service is built with it, and says what is written there
         return "proved"
 
 
@@ -102,39 +97,16 @@ def steps_for(crates: Iterable[Crate], building: Building) -> tuple[list[Step], 
     return [building.step(crate, missing) for crate in missing], len(wanted)
 
 
-def service_step(after: list[str]) -> Step:
-    """The step that builds the service, after these. Nothing of it is proved."""
-
-    def work(step: Step) -> str:
-        for command in (["tools/needs", "service"], ["tools/cargo", "build", "--release"]):
-            if step.run(command) != 0:
-                raise Failed((end_of(step.log) or ["it printed nothing"])[-1])
-        install(SERVICE_MADE, SERVICE)
-        return "built, not proved"
-
-    return Step(
-        SERVICE, work, "tools/cargo build --release", after=after, weight=SERVICE_WEIGHT, memory=GIGABYTE
-    )
-
-
 def hand_over(crate: Crate) -> str | None:
-    """Puts what a crate is for where it belongs, with its proof beside it: its path. A library is for crates alone."""
+    """Puts what a crate is for where it belongs, and returns its path. A library is for crates alone."""
     if crate.is_program:
         install(made_by(crate), crate.name)
-        path = f"bin/{crate.name}"
-        write_proof(f"{ROOT}/{path}")
-    elif crate.is_static:
-        path = os.path.relpath(made_by(crate), ROOT)
-    else:
+        return f"bin/{crate.name}"
+    if not crate.is_static:
         return None
-    return path
-
-
-def install(made: str, name: str) -> None:
-    """Puts a program into bin/, also where the one that lies there is running."""
-    os.makedirs(f"{ROOT}/bin", exist_ok=True)
-    shutil.copy2(made, f"{ROOT}/bin/{name}.new")
-    os.replace(f"{ROOT}/bin/{name}.new", f"{ROOT}/bin/{name}")
+    os.makedirs(os.path.dirname(TRIED), exist_ok=True)
+    shutil.copy2(made_by(crate), TRIED)
+    return os.path.relpath(TRIED, ROOT)
 
 
 def main(names: list[str]) -> int:
@@ -144,11 +116,9 @@ def main(names: list[str]) -> int:
         steps, whole = steps_for(crates, Building())
         if len(steps) < whole:
             print(f"{whole - len(steps)} of {whole} crates are proved and have not changed", flush=True)
-        service = [] if names else [service_step([it.name for it in steps if it.name == LIBRARY])]
-        if not Steps([*steps, *service]).run():
+        if not Steps(steps).run():
             return 1
-    made = [*map(hand_over, crates), *([] if names else [f"bin/{SERVICE}"])]
-    built = " and ".join(shlex.quote(it) for it in made if it)
+    built = " and ".join(shlex.quote(it) for it in map(hand_over, crates) if it)
     print(f"{built or 'the libraries'}: built in {shown(time.monotonic() - begun)}")
     return 0
 

@@ -1,11 +1,11 @@
 #!/usr/bin/env python3
-"""Checks one crate over the libraries that `make build` has kept, and over what its last check kept.
+"""Checks one crate over the libraries that `make core` has kept, and over what its last check kept.
 
     tools/check.py CRATE [FLAG ..]
 
 What the crate uses and is not built yet is proved and built first. The flags go to the prover: `--allow-holes`
 goes past open goals and prints each, `--only PATH` checks one function. A check where nothing changed takes
-seconds. It is not the gate: `make test` proves from nothing.
+seconds. It is not the gate: `make prove` proves from nothing.
 """
 import os
 import subprocess

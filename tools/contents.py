@@ -17,7 +17,7 @@ from typing import Any
 
 from tooling.crates import ROOT
 from tooling.files import text_of
-from tooling.proved import said
+from book import provenance
 
 MANIFEST = f"{ROOT}/service/Cargo.toml"
 SYSTEM = "x86_64-unknown-linux-gnu"
@@ -82,7 +82,7 @@ def crate(package: dict[str, Any]) -> Part:
 
 def book() -> list[Part]:
     """The toolchain of the proved book. The book itself is the program's own."""
-    toolchain = (said(["rt", "version"]) or "unknown").split()[0]
+    toolchain = provenance()["toolchain"].split()[0]
     comment = "the toolchain that compiled the book, whose libraries are in it"
     return [Part("rattle", toolchain, NOT_SAID, comment=comment)]
 

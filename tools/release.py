@@ -1,7 +1,7 @@
 #!/usr/bin/env python3
 """Makes a release of what is committed: tools/release.py VERSION
 
-The tree has to be clean, and the gate to have passed on it here. CHANGELOG.md's `Unreleased` becomes the version, each
+The tree has to be clean, and `make test` to have passed on it here. CHANGELOG.md's `Unreleased` becomes the version, each
 file that names the last one names this one; that is committed and tagged. Then all is built, and out/release has the package,
 the image, what both are made of, and SHA256SUMS. Nothing is pushed. Where the tag is there already only the files are made.
 """
@@ -80,7 +80,7 @@ def make(version: str) -> None:
     """Builds what is released."""
     shutil.rmtree(MADE, ignore_errors=True)
     os.makedirs(MADE)
-    for command in (["tools/build.py"], ["tools/deb.py"], ["tools/image"], ["tools/contents.py", "bin/totxegun", MADE]):
+    for command in (["tools/service.py"], ["tools/deb.py"], ["tools/image"], ["tools/contents.py", "bin/totxegun", MADE]):
         subprocess.run(command, cwd=ROOT, check=True)
     for file in (f"totxegun_{version}_amd64.deb", f"totxegun_{version}_image.tar"):
         shutil.copy(f"{OUT}/{file}", MADE)

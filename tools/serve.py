@@ -1,13 +1,11 @@
 #!/usr/bin/env python3
-"""Serves: builds what is missing, and runs `totxegun serve` with a SQLite file as its sink.
+"""Serves: compiles what is missing, and runs `totxegun serve` with a SQLite file as its sink.
 
     tools/serve.py [PORT]
 
 Senders post to 127.0.0.1, port 4318 or PORT; operators read at the port after it. What was taken is kept in
-out/serve/data over runs. An interrupt ends the service.
-
-The book inside is proved and built by tools/build.py, which shows what it does and what is left; what is built and has not
-changed is not built again. With $TOTXEGUN_BOOK, the folder of a library, that one is taken as it is.
+out/serve/data over runs. An interrupt ends the service. tools/service.py compiles it, by the quicker profile, with the proved
+library in book/.
 """
 import os
 import signal
@@ -15,14 +13,13 @@ import socket
 import subprocess
 import sys
 import time
-from typing import Any
 
-from tooling.crates import OUT, ROOT
+from tooling.crates import OUT
 from tooling.steps import interrupt
+from service import build
 
 PORT = 4318
 FOLDER = f"{OUT}/serve"
-LIBRARY = f"{ROOT}/crates/book_c/out/libbook_c.a"
 TRY = """
 Senders post to 127.0.0.1:{port}, a browser reads at 127.0.0.1:{operate}. Post a point, flush, and see the totals:
 
@@ -59,37 +56,7 @@ def listens(port: int) -> bool:
         return f"0100007F:{port:04X} 00000000:0000 0A" in table.read()
 
 
-def is_done(*words: str, **how: Any) -> bool:
-    """Whether a command of tools/ ends well; what is wrong it says itself."""
-    return subprocess.run([f"{ROOT}/tools/{words[0]}", *words[1:]], check=False, **how).returncode == 0
-
-
-def has_book() -> bool:
-    """Whether the library is there, proved and built anew where its crates changed."""
-    if os.environ.get("TOTXEGUN_BOOK"):
-        return True
-    if not is_done("toolchain"):
-        return False
-    if not os.path.exists(LIBRARY):
-        print("proving and building the book: this takes 6 to 8 minutes on 4 idle cores, and once", flush=True)
-    return is_done("build.py", "book_c")
-
-
-def totxegun() -> str | None:
-    """The path of the program, built anew where its sources changed; nothing where that fails."""
-    # What is missing is said before the proofs are begun.
-    if not is_done("needs", "service") or not is_done("cargo", "--version", stdout=subprocess.DEVNULL) or not has_book():
-        return None
-    target = os.environ.get("CARGO_TARGET_DIR") or f"{ROOT}/service/target"
-    kind = "release" if os.path.exists(f"{target}/release/totxegun") else "debug"
-    print(f"building totxegun ({kind})", flush=True)
-    if not is_done("cargo", "build", "--quiet", *(["--release"] if kind == "release" else [])):
-        print("totxegun could not be built")
-        return None
-    return f"{target}/{kind}/totxegun"
-
-
-def serve(program: str | None, port: int) -> int:
+def serve(program: str, port: int) -> int:
     """Runs the service until it ends, or is interrupted, and returns its status."""
     words = ["--data", f"{FOLDER}/data", "--flush-every", "10s"]
     words += ["--listen", f"127.0.0.1:{port}", "--operate", f"127.0.0.1:{port + 1}"]
@@ -116,7 +83,7 @@ def main(words: list[str]) -> int:
     for it in (signal.SIGINT, signal.SIGTERM, signal.SIGHUP):
         signal.signal(it, interrupt)
     try:
-        program = totxegun()
+        program = build("dev")
     except KeyboardInterrupt:
         print("\nended")
         return 0

@@ -8,7 +8,7 @@
 Each file service/wrong/NAME.edit breaks one rule. It names the test that has to find this: a script of tests/ with the
 words after its program, or the words of `cargo test`. The rest has the form of an edit of a crate: lines `file:`, `old:`,
 `new:`, where the old text is in that file exactly once. All edits, or those that are named, are tried one after another: the
-copy is built in out/wrong, over the library in crates/book_c/out or $TOTXEGUN_BOOK, and the test is run on it, up to three
+copy is built in out/wrong, over the library in book/ or in $TOTXEGUN_BOOK, and the test is run on it, up to three
 times, until a check of what was taken, sent or refused fails; that ends the run. A copy that can't be built, or that does
 not start, was not found.
 
@@ -42,7 +42,7 @@ CARGO = f"{FOLDER}/tools/cargo"
 PARTS = ("Cargo.toml", "Cargo.lock", "build.rs", "rustfmt.toml", "clippy.toml", "src", "tests")
 BESIDE = ("VERSION",)
 # The library that a copy is linked with.
-BOOK = os.path.abspath(os.environ.get("TOTXEGUN_BOOK") or f"{ROOT}/crates/book_c/out")
+BOOK = os.path.abspath(os.environ.get("TOTXEGUN_BOOK") or f"{ROOT}/book")
 # How often a test is run at most. The load has another seed each time, after its seconds.
 RUNS = 3
 LOAD = "service_load.py"

@@ -1,7 +1,7 @@
 //! `totxegun version`: this program's version, and what is known of the book that is linked into it.
 //!
-//! `tools/build.py` writes a file beside the library of a book that it has proved: the library's sha256, the revision of
-//! its sources and the toolchain. `build.rs` looks whether it is that library's, and so this program has it for ever.
+//! `book/PROVENANCE` has the sum of the proved library, the revision of its sources and the toolchain. `build.rs` links no
+//! library with another sum, and gives the program what the file says.
 
 use std::fmt::{Display, Formatter};
 
