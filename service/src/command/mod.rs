@@ -28,7 +28,7 @@ mod totals;
 pub(crate) mod values;
 mod version;
 
-use crate::service::{init, Ended};
+use crate::service::Ended;
 use crate::sinks::periods::Period;
 use anyhow::Context;
 use clap::error::{ContextKind, ContextValue};
@@ -123,12 +123,6 @@ pub fn run() -> ExitCode {
     crate::log::end_by_panics();
     // A faulty one ends here, with status 2.
     let line = Line::try_parse().unwrap_or_else(|error| without_secrets(error).exit());
-    if init::is_process_1() {
-        return init::run().unwrap_or_else(|error| {
-            crate::complain(format_args!("as process 1: {error}"));
-            ExitCode::from(REFUSED)
-        });
-    }
     match line.command.run().and_then(|answer| Ok(show(&answer)?)) {
         Ok(()) => ExitCode::SUCCESS,
         Err(failure) => {

@@ -6,7 +6,7 @@ use super::of_senders::OfSenders;
 use super::of_store::OfStore;
 use super::reading::OfReading;
 use super::retention::OfRetention;
-use super::settings::Names;
+use super::settings::unknown_setting;
 use super::values::{operator, orders_at, place, size, time, time_or, MayBeNone, SOCKET};
 use super::version::Versions;
 use super::Ended;
@@ -18,11 +18,12 @@ use crate::metrics::Metrics;
 use crate::otlp::Reason;
 use crate::post_reports::ReportOptions;
 use crate::runs;
-use crate::service::{self, init, Operate, Settings};
+use crate::service::{self, Operate, Settings};
 use crate::sinks::Address;
 use anyhow::{anyhow, bail, Context};
 use clap::builder::{PossibleValuesParser, TypedValueParser};
 use clap::{value_parser, Args, CommandFactory};
+use nix::sys::signal::SigSet;
 use std::path::{Path, PathBuf};
 use std::sync::Arc;
 use std::time::Duration;
@@ -136,14 +137,10 @@ fn most_bytes(text: &str) -> Result<u64, String> {
     }
 }
 
-/// Refuses a setting that no option reads, and warns of those whose options are gone.
-fn look_at_names() -> Result<(), Ended> {
+/// Refuses a setting that no option reads.
+fn look_at_settings() -> Result<(), Ended> {
     let set = std::env::vars_os().map(|(name, _)| name.to_string_lossy().into_owned());
-    let names = Names::of(&super::Line::command(), set);
-    for name in names.gone {
-        tracing::warn!(name, "{name} is set, and is no setting any more: it changes nothing");
-    }
-    match names.unknown {
+    match unknown_setting(&super::Line::command(), set) {
         Some(unknown) => Err(Ended::Line(anyhow!(unknown))),
         None => Ok(()),
     }
@@ -156,14 +153,15 @@ fn told() -> Targets {
 
 impl Options {
     pub fn run(self) -> Result<(), Ended> {
-        init::take_signals().context("signals can't be received")?; // before there are threads
+        // Whoever started this process may have blocked some. There are no threads yet, and each inherits this.
+        SigSet::all().thread_unblock().context("signals can't be received")?;
         let metrics = Arc::new(Metrics::new().context("metrics")?);
         let log = log::start(metrics.log_lines_lost.clone(), log::Form::new(self.log_json))
             .context("no thread could be started for the log")?;
         tracing_subscriber::registry().with(log::Events(log).with_filter(told())).init();
         let most_files = raise_open_files();
         tracing::info!("{Versions}");
-        look_at_names()?;
+        look_at_settings()?;
         let mut building = tokio::runtime::Builder::new_multi_thread();
         building
             .worker_threads(BACKGROUND)

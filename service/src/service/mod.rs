@@ -3,7 +3,6 @@
 //! Any part that ends ends all, with its cause: what is on disk is whole at any time, and the next start reads it.
 
 mod adopt;
-pub mod init;
 mod instance;
 mod left;
 mod operators;
