@@ -64,11 +64,15 @@ tried: ## lists each test with what it tries: NAME=word; or the commands of NAME
 wrong: ## tries wrong copies of the service
 	@tools/wrong.py $(NAME)
 
-# With what make build has built, while it is killed; as root with STALLS=1 also while its disk stands still now and then, and
-# with STORE=1 three instances over a store, each on a machine of its own: make soak STORE=1, or make soak STORE=1 SEED=7,8.
-soak: ## the service under load for an hour: STALLS=1, STORE=1
+# With what make build has built, while it is killed; as root with STALLS=1 also while its disk stands still now and then. With
+# STORE=1 three instances over a store, each on a machine of its own: make soak STORE=1, or make soak STORE=1 SEED=7,8. With
+# ATTACK=1 honest senders beside attackers, for two hours. With WHOLE=1 all runs of the tests of which make test makes a sample.
+soak: ## longer tests, an hour under load: STALLS=1, STORE=1, ATTACK=1, WHOLE=1
 	@[ -x bin/totxegun ] || { echo "there is no bin/totxegun: make build makes it" >&2; exit 1; }
-	@$(if $(STORE),tests/several_machines.py bin/totxegun 3600 $(SEED) --long,tests/service_load.py bin/totxegun 3600 $(if $(STALLS),--stalls))
+	@$(if $(STORE),tests/several_machines.py bin/totxegun 3600 $(SEED) --long,\
+	   $(if $(ATTACK),tests/mixed_attack.py bin/totxegun 7200 $(or $(SEED),1) $(if $(STALLS),--stalls),\
+	   $(if $(WHOLE),TOTXEGUN_TESTS=whole tools/cargo test && tests/service_interrupted.py bin/totxegun,\
+	   tests/service_load.py bin/totxegun 3600 $(if $(STALLS),--stalls))))
 
 # With what make build has built. The gate tries most of them for a shorter time.
 SEVERAL = orders_anywhere.py store_peers.py several_machines.py:90 under_patroni.py store_move.py store_databases.py

@@ -168,10 +168,9 @@ class Client(Sender):
 
 
 def owners(service: Service) -> dict[str, str]:
-    """The senders of all series, by the service's report."""
-    with contextlib.closing(http.client.HTTPConnection("127.0.0.1", service.operate, timeout=SECONDS)) as client:
-        client.request("GET", "/report")
-        return dict(re.findall(r"^series (\S+) .* owner (\S+) ", client.getresponse().read().decode(), re.MULTILINE))
+    """The senders of all series, by the service's report, which is at its socket."""
+    _, report = ask(service.socket, "GET", "/report")
+    return dict(re.findall(r"^series (\S+) .* owner (\S+) ", report.decode(), re.MULTILINE))
 
 
 def names(checks: Checks, proxy: Proxy, service: Service, post: Poster) -> None:

@@ -226,7 +226,7 @@ def run(checks: Checks, totxegun: str, seconds: float, folder: str, stack: conte
     owners = dict(re.findall(r"^series (\S+) .* owner (\S+) ", report, re.MULTILINE))
     taken = int(python.stdout or 0)
     checks.true("Python posted by its token", taken > 20, python.stderr[-800:])
-    totals = {row["name"]: int(row["total"]) for row in map(json.loads, said("totals", "--json").splitlines())}
+    totals = {row["name"]: int(row["total"]) for row in map(json.loads, filter(None, said("totals", "--json").split("\n")))}
     checks.same("what Python was told is in the sink", taken, totals.get("python"))
     checks.same("and it is shop-2's", "shop-2", owners.get("python"))
     checks.same("so is Java's, each its own", {"java-1": "shop-1", "java-2": "shop-2"} if java else {},
