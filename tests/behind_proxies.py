@@ -28,7 +28,7 @@ from typing import Any
 from testing import ROOT
 from testing.checks import Checks
 from testing.loopback import SECONDS, free_port
-from testing.service import (Value, JSON, PROTOBUF, Bursts, Sender, Service, SqliteSink, add_points, differences, in_json, in_protobuf,
+from testing.service import (Value, JSON, PROTOBUF, Bursts, Sender, Service, SqliteSink, add_points, ask, differences, in_json, in_protobuf,
                      overlaps, told_to_all,
                              wait_until)
 from testing.shipped import end_group, folder, listens, missing, run_script, shipped, started, with_replaced

@@ -54,7 +54,7 @@ mod tests {
         let folder = tempfile::tempdir().expect("a folder");
         let file = folder.path().join("headers");
         let access = Access { headers: Some(file.clone()), ..Access::default() };
-        let error = access.read_headers().err().expect("no file").to_string();
+        let error = access.read_headers().expect_err("no file").to_string();
         assert!(error.contains("headers can't be read as headers: No such file"), "{error}");
         std::fs::write(&file, "# of the tenant\nAuthorization: Bearer a:b\n\nx-tenant: t\n")
             .expect("written");
@@ -69,7 +69,7 @@ mod tests {
             ("a b: c", "no name of a header"),
         ] {
             std::fs::write(&file, text).expect("written");
-            let error = access.read_headers().err().expect(text).to_string();
+            let error = access.read_headers().expect_err(text).to_string();
             assert!(error.contains(part) && !error.contains("secret"), "{error}");
         }
     }
@@ -78,7 +78,7 @@ mod tests {
     fn files_of_tls_are_for_tls() {
         let tls = ClientFiles { roots: Some("/nowhere".into()), ..ClientFiles::default() };
         let access = Access { tls, headers: None };
-        let error = |url: &str| access.client(&url.parse().expect("a URL")).err().expect(url).to_string();
+        let error = |url: &str| access.client(&url.parse().expect("a URL")).expect_err(url).to_string();
         assert!(error("http://h/").contains("https://"), "{}", error("http://h/"));
         assert!(error("https://h/").contains("/nowhere can't be used for TLS"), "{}", error("https://h/"));
     }
