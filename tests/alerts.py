@@ -243,8 +243,9 @@ class Causes:
         self.post("A")
         self.sees_repeated("PostsRefused", "another sender of a series", lambda: self.post("B"))
         self.sees_repeated("PostsRefused", "a clock that went back", lambda: self.post("A", start=10**9))
-        self.sees_repeated("PostsTurnedAway", "more series than there may be", self.post_too_many)
         self.sees_repeated("SenderOverShare", "a sender that posts more than it may", self.post_much)
+        # Last: no sender may have a new series after it.
+        self.sees_repeated("PostsTurnedAway", "more series than there may be", self.post_too_many)
 
     # Those of a store
 
