@@ -8,7 +8,7 @@ are drawn by chance: sums and histograms of many identities, points in and out o
 points of each kind, containers of another type, what is no JSON, deep nesting, names that are none; and now and then a
 sender is quarantined or released, and all are flushed. Each answer has to have the same status, the gateway's text, and the
 same count of foreign points; what each flush forwards has to have the same points, of a single book in the same bytes; at the
-end the reports have the same series, owners, frontiers and pending sums. A last part has more series than a book takes.
+end the reports have the same series, owners, frontiers and pending sums. A last part has more series than the service may have.
 
 The service's texts may go on where the gateway's end: with the causes of foreign points, with a series, with a limit. Where it
 reads JSON by the protobuf mapping, its text is another (`wrong shape`, `not JSON`): of these the status alone is compared.
@@ -36,7 +36,7 @@ SECONDS, PATIENCE = 3600, 120
 SENDERS = [f"sender-{number}" for number in range(5)]
 # Of each sender; in all fewer than a book takes.
 SERIES = 60
-TAKES = 10_000
+MOST_SERIES = 8_000
 # One post in so many.
 FLUSH, ORDER, STRANGE, FOREIGN = 400, 20, 12, 6
 DELTA = 1
@@ -326,7 +326,9 @@ class Run:
             if found != wanted:
                 self.wrong.append((name, "forwards", len(wanted), len(found), sorted(set(found) ^ set(wanted))[:2]))
         if bodies["one book"] != bodies["gateway"]:
-            self.wrong.append(("one book", "forwards other bytes", [(a[:200], b[:200]) for a, b in zip(*bodies.values()) if a != b][:1]))
+            pairs = zip(bodies["gateway"], bodies["one book"])
+            self.wrong.append(("one book", "forwards other bytes", len(bodies["gateway"]), len(bodies["one book"]),
+                               [(a[:200], b[:200]) for a, b in pairs if a != b][:1]))
 
     def go(self, posts: int) -> None:
         for number in range(1, posts + 1):
@@ -345,14 +347,22 @@ class Run:
         return {name: series_of(ask(party.orders, "GET", "/report")[1]) for name, party in self.parties().items()}
 
     def past_the_limit(self) -> None:
-        """More series than one book takes: those that fit, and none of a request that does not fit."""
-        self.services = {"one book": self.services["one book"]}
-        for first in range(0, TAKES + 2000, 900):
+        """More series than the service may have: until then it answers as the gateway does, and then it takes no new ones."""
+        service = self.services["one book"]
+        self.services = {"one book": service}
+
+        def body(first: int) -> bytes:
             made = [Series(self.chance, f"many.{number}") for number in range(first, first + 900)]
-            self.post(json.dumps(request(random.Random(1), made)).encode(), "many")
-        for number in range(200):
-            self.post(json.dumps(request(random.Random(1), [Series(self.chance, f"more.{number}")])).encode(), "more")
+            return json.dumps(request(random.Random(1), made)).encode()
+
+        for first in range(0, MOST_SERIES // 2, 900):
+            self.post(body(first), "many")
         self.flush()
+        headers = {"Content-Type": JSON, "x-sender": "many"}
+        answers = [service.post(body(first), headers) for first in range(MOST_SERIES, 3 * MOST_SERIES, 900)]
+        statuses = [status for status, _ in answers]
+        self.checks.true("over --most-series the service takes no post with new series", {503} == set(statuses[-5:]) and 200 in statuses
+                         and all(b"too many series" in text for status, text in answers if status != 200), answers[-5:])
 
     def look(self, what: str) -> None:
         self.checks.same(f"{what}: each answer and each flush is that of the gateway", [], self.wrong[:3])
@@ -361,7 +371,7 @@ class Run:
 
 def work(totxegun: str, gateway: str, checks: Checks, stack: contextlib.ExitStack) -> None:
     posts, seed = int((sys.argv[3:4] or [str(POSTS)])[0]), (sys.argv[4:5] or ["1"])[0]
-    services = {"one book": Served(stack, totxegun, 8000), "many books": Served(stack, totxegun, 100_000)}
+    services = {"one book": Served(stack, totxegun, MOST_SERIES), "many books": Served(stack, totxegun, 100_000)}
     run = Run(checks, Bare(stack, gateway), services, seed)
     run.go(posts)
     run.look(f"{posts} posts, seed {seed}")
@@ -372,10 +382,10 @@ def work(totxegun: str, gateway: str, checks: Checks, stack: contextlib.ExitStac
     run.flush()
     run.look("a last flush")
     run.past_the_limit()
-    run.look("past a book's series")
+    run.look("until the service has as many series as it may")
     checks.same("the services found nothing that must not be", [], [it for one in services.values() for it in one.service.faults()])
     expected = ["200 taken", "400 out of order: point N, frontier N", "400 other writer: point N", "403 quarantined", "400 wrong shape",
-                "400 not JSON", "400 bad sender", "503 too many series", "foreign", "forwarded points"]
+                "400 not JSON", "400 bad sender", "foreign", "forwarded points"]
     checks.same("each kind of answer was there", [], [it for it in expected if not run.answers[it]])
     print(f"note: {dict(run.answers)}", flush=True)
 

@@ -220,7 +220,7 @@ impl Service {
         let mut stream = TcpStream::connect(&self.listen).unwrap();
         let length = body.len();
         let head = format!(
-            "POST /v1/metrics HTTP/1.1\r\nHost: a\r\nx-sender: {sender}\r\nContent-Type: application/x-protobuf\r\n\
+            "POST /v1/metrics HTTP/1.1\r\nHost: 127.0.0.1\r\nx-sender: {sender}\r\nContent-Type: application/x-protobuf\r\n\
              Content-Length: {length}\r\nConnection: close\r\n\r\n"
         );
         stream.write_all(&[head.as_bytes(), body].concat()).unwrap();
