@@ -12,6 +12,7 @@ Each line is one check; the last line counts those that passed and failed, and t
 import contextlib
 import os
 import platform
+import re
 import shutil
 import socket
 import subprocess
@@ -32,6 +33,8 @@ CI = [".ci/run"]
 # What a command leaves if it began to compile or to install.
 LEFT = ("out", "bin", "service/target")
 NOBODY = "65534"
+# What make adds, also below another make.
+MAKE = re.compile(r"make(\[\d+\])?: ")
 
 
 class Tried:
@@ -48,7 +51,7 @@ class Tried:
         environment.pop("TOTXEGUN_BOOK", None)
         ran = subprocess.run(command, cwd=self.clone.folder, env=environment, stdin=subprocess.DEVNULL, stdout=subprocess.PIPE,
                              stderr=subprocess.STDOUT, text=True, check=False)
-        lines = [line for line in ran.stdout.splitlines() if not line.startswith("make: ***")]
+        lines = [line for line in ran.stdout.splitlines() if not MAKE.match(line)]
         said = len(lines) == 1 and all(word in lines[0] for word in wanted)
         left = [name for name in LEFT if os.path.exists(f"{self.clone.folder}/{name}")]
         self.checks.true(what, ran.returncode and said and not left, f"status {ran.returncode}, left {left}, said {ran.stdout[-2000:]!r}")

@@ -455,10 +455,9 @@ class Bill:
         self.exported: list[tuple[str, str]] = []
 
     def of_today(self, text: str) -> str:
-        """The months of the page are those before this one."""
-        for page_month, month in zip(PAGE_MONTHS, self.months):
-            text = text.replace(page_month, month)
-        return text
+        """The text with the last month and this one in place of the page's, of which one may be the other's."""
+        months = dict(zip(PAGE_MONTHS, self.months))
+        return re.sub("|".join(PAGE_MONTHS), lambda found: months[found[0]], text)
 
     def post(self, shop: str, day: int, hour: int, cents: int, minute: int = 0) -> None:
         start = int(self.last.replace(day=day, hour=hour, minute=minute).timestamp()) * 10**9
