@@ -20,7 +20,7 @@ mod told;
 
 use load::Load;
 use std::time::Duration;
-use support::{points, Place, NO_SINK};
+use support::{points, until, Place, NO_SINK};
 
 fn refused(why: &str) -> (u16, String) {
     (400, format!("{{\"code\":3,\"message\":\"{why}\"}}"))
@@ -127,8 +127,7 @@ fn there_are_no_more_series_than_may_be() {
     }
     let refused = post(&names[1_990..2_010], 110);
     assert!(refused.0 == 503 && refused.1.contains("too many series"), "{refused:?}");
-    let log = place.log();
-    assert!(log.contains("--most-series is 2000"), "{log}");
+    until("the log says that it is met", || place.log().contains("--most-series is 2000"));
     for end in [110, 120] {
         assert_eq!(post(&names[..2_000], end).0, 200, "what is there goes on");
         service.drain();
