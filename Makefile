@@ -75,7 +75,7 @@ soak: ## longer tests, an hour under load: STALLS=1, STORE=1, ATTACK=1, WHOLE=1
 	   tests/service_load.py bin/totxegun 3600 $(if $(STALLS),--stalls))))
 
 # With what make build has built. The gate tries most of them for a shorter time.
-SEVERAL = orders_anywhere.py store_peers.py several_machines.py:90 under_patroni.py store_move.py store_databases.py
+SEVERAL = orders_anywhere.py store_peers.py several_machines.py:90 under_patroni.py store_move.py
 several: ## the tests of several machines over a store, in half an hour
 	@[ -x bin/totxegun ] || { echo "there is no bin/totxegun: make build makes it" >&2; exit 1; }
 	@tools/needs several

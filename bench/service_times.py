@@ -119,12 +119,12 @@ def first_answer(one: Measured, number: int) -> None:
 
 
 def killed(one: Measured, number: int) -> tuple[float, float]:
-    """Kills it: the seconds until a start has all, as the service counts them, and until an answer."""
+    """Kills it: the seconds until a start has all, as the service counts them, by either name, and until an answer."""
     one.kill()
     begun = time.monotonic()
     one.start(one.environment)
     first_answer(one, number)
-    return metric(one, "recovery_seconds_sum"), time.monotonic() - begun
+    return metric(one, "(?:last_recovery_duration_seconds|recovery_seconds_sum)"), time.monotonic() - begun
 
 
 def kill(arguments: argparse.Namespace) -> None:

@@ -8,8 +8,7 @@ The program is bin/totxegun, as `make build` makes it, where none is named; in a
 
   - posts: posts a second, the median and the 99th percentile of a post, and the WAL that the primary writes for one, with 64 and 512
     senders, by rows json-1, json-20 and protobuf-103. Parties: disk, a folder with --durable disk; store, an instance over a store
-    of SLOTS slots (12); store-2 and store-4, over one of two or of four databases, each with its standby. A ratio is to disk's run
-    beside it.
+    of SLOTS slots (12). A ratio is to disk's run beside it.
   - wal: of a post of 1 point (or of the first of ROWS), with each number of senders, the records of that WAL by kind, and posts and
     rows a commit: the same whatever else the machine does, but for how many posts come to a commit.
   - takeover: two instances that have 10,000 series, while 32 senders post to one of them. The other is killed: seconds from the kill
@@ -43,7 +42,7 @@ from testing.servers import Pair
 from testing.service import JSON, OtlpSink, Point, Post, Sender, Service, by_resource, wait_until
 
 ROWS = {"json-1": ("json", 1), "json-20": ("json", 20), "protobuf-103": ("protobuf", 103)}
-PARTIES = {"disk": 0, "store": 1, "store-2": 2, "store-4": 4}
+PARTIES = ("disk", "store")
 PARTS = ("posts", "wal", "takeover", "size")
 # As one would set a server of this load; the standby has them from it.
 SETTINGS = ("shared_buffers = 256MB", "max_wal_size = 4GB", "max_connections = 200")
@@ -65,39 +64,36 @@ BETWEEN = 5
 
 
 class Stores:
-    """Databases with a standby each, made when they are needed: a store over the first of them, new each time."""
+    """A database with a standby, made when it is needed: a store in it, new each time."""
 
     def __init__(self, stack: contextlib.ExitStack, program: str, slots: int) -> None:
         self.stack, self.program, self.slots = stack, program, slots
-        self.pairs: list[Pair] = []
+        self.pair: Pair | None = None
 
-    def new(self, count: int) -> list[Pair]:
-        while len(self.pairs) < count:
-            self.pairs.append(Pair(settings=SETTINGS))
-            self.stack.callback(self.pairs[-1].close)
-            self.pairs[-1].make_standby()
-        these = self.pairs[:count]
-        for pair in these:
-            pair.ask("drop schema if exists totxegun_store cascade")
-        subprocess.run([self.program, "store", "init", *(pair.address for pair in these), "--slots", str(self.slots)], check=True,
+    def new(self) -> Pair:
+        if self.pair is None:
+            self.pair = Pair(settings=SETTINGS)
+            self.stack.callback(self.pair.close)
+            self.pair.make_standby()
+        self.pair.ask("drop schema if exists totxegun_store cascade")
+        subprocess.run([self.program, "store", "init", self.pair.address, "--slots", str(self.slots)], check=True,
                        stdout=subprocess.DEVNULL)
-        return these
+        return self.pair
 
 
-def wal(pairs: list[Pair]) -> int:
-    return sum(int(float(pair.ask(WAL))) for pair in pairs)
+def wal(pair: Pair | None) -> int:
+    return int(float(pair.ask(WAL))) if pair else 0
 
 
 @contextlib.contextmanager
-def instances(arguments: argparse.Namespace, sink: OtlpSink, names: str, pairs: list[Pair]) -> Iterator[list[Measured]]:
-    """As many as there are names, over these databases; with none of these, one over a folder."""
+def instances(arguments: argparse.Namespace, sink: OtlpSink, names: str, pair: Pair | None) -> Iterator[list[Measured]]:
+    """As many as there are names, over a store in this database; without one, one over a folder."""
     with tempfile.TemporaryDirectory(prefix="machines-", dir=arguments.data) as folder:
         all_of_them: list[Measured] = []
         for name in names:
             words = ["--durable", "disk"]
-            if pairs:
-                words = [word for pair in pairs for word in ("--store", pair.address)]
-                words += ["--instance", name, "--peer", f"127.0.0.1:{free_port()}"]
+            if pair:
+                words = ["--store", pair.address, "--instance", name, "--peer", f"127.0.0.1:{free_port()}"]
             all_of_them.append(Measured(arguments.totxegun, f"{folder}/{name}", sink.address, *words, *arguments.options))
             all_of_them[-1].environment = dict(arguments.set)
         try:
@@ -117,15 +113,15 @@ def run(arguments: argparse.Namespace, stores: Stores, sink: OtlpSink, party: st
         clients: int) -> tuple[Loaded, float]:
     """Of one run: what was loaded, and bytes of WAL a post."""
     encoding, points = ROWS[row]
-    pairs = stores.new(PARTIES[party]) if PARTIES[party] else []
-    with instances(arguments, sink, "a", pairs) as (one,):
+    pair = stores.new() if party == "store" else None
+    with instances(arguments, sink, "a", pair) as (one,):
         senders = Senders(one.listen, clients, Posts("sum", points, max(arguments.series, clients), encoding, "kept"))
         senders.make_series()
         tried = senders.load(LEAST_POSTS * clients)
         count = max(tried.requests / tried.seconds * arguments.seconds, LEAST_POSTS * clients)
-        before = wal(pairs)
+        before = wal(pair)
         loaded = senders.load(rounded(int(count), clients))
-        return loaded, (wal(pairs) - before) / loaded.requests
+        return loaded, (wal(pair) - before) / loaded.requests
 
 
 def measure_posts(arguments: argparse.Namespace, stores: Stores, sink: OtlpSink) -> None:
@@ -148,7 +144,7 @@ def print_party(party: str, runs: list[tuple[Loaded, float]], beside: list[tuple
         line += f", {spread(ratios, '.2f')} of disk's"
     line += f"; ms of a post: median {spread([loaded.median / 1e3 for loaded, _ in runs], '.2f')}"
     line += f", 99th {spread([loaded.last / 1e3 for loaded, _ in runs], '.2f')}"
-    if PARTIES[party]:
+    if party == "store":
         line += f"; WAL {spread([written for _, written in runs], ',.0f')} bytes a post"
     failed = sum(loaded.failed for loaded, _ in runs)
     print(line + (f"; {failed} FAILED" if failed else ""), flush=True)
@@ -167,8 +163,8 @@ def records(pair: Pair, begin: str, end: str) -> dict[str, tuple[int, int]]:
 def measure_wal(arguments: argparse.Namespace, stores: Stores, sink: OtlpSink) -> None:
     encoding, points = ROWS[arguments.rows[0]]
     for clients in arguments.senders:
-        (pair,) = stores.new(1)
-        with instances(arguments, sink, "a", [pair]) as (one,):
+        pair = stores.new()
+        with instances(arguments, sink, "a", pair) as (one,):
             senders = Senders(one.listen, clients, Posts("sum", points, max(arguments.series, clients), encoding, "kept"))
             senders.make_series()
             senders.load(LEAST_POSTS * clients)
@@ -235,11 +231,11 @@ def settled(pair: Pair, slots: int) -> None:
 
 
 def measure_takeover(arguments: argparse.Namespace, stores: Stores, sink: OtlpSink) -> None:
-    (pair,) = stores.new(1)
+    pair = stores.new()
     firsts: list[float] = []
     lasts: list[float] = []
     waits: list[float] = []
-    with instances(arguments, sink, "ab", [pair]) as (lost, stays):
+    with instances(arguments, sink, "ab", pair) as (lost, stays):
         Senders(stays.listen, PROBES, Posts("sum", 100, SERIES, "protobuf", "kept")).make_series()
         with probing(stays) as probes:
             for _ in range(arguments.times):
@@ -265,10 +261,10 @@ def measure_takeover(arguments: argparse.Namespace, stores: Stores, sink: OtlpSi
 
 
 def measure_size(arguments: argparse.Namespace, stores: Stores, sink: OtlpSink) -> None:
-    (pair,) = stores.new(1)
+    pair = stores.new()
     sizes: list[float] = []
     posts, until = 0, time.monotonic() + arguments.size
-    with instances(arguments, sink, "a", [pair]) as (one,):
+    with instances(arguments, sink, "a", pair) as (one,):
         senders = Senders(one.listen, 64, Posts("sum", 20, arguments.series, "json", "kept"))
         senders.make_series()
         loaded = senders.load(64 * LEAST_POSTS)

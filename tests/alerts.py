@@ -12,6 +12,7 @@ left out, with status 77, and what is of a store without PostgreSQL.
 Each line is one check; the last line counts those that passed and failed, and the status is 0 where none failed.
 """
 import contextlib
+import http.client
 import json
 import os
 import re
@@ -221,7 +222,7 @@ class Causes:
 
     def of_senders(self, fill: str) -> None:
         self.sees("NotFlushed", "nothing that flushes", self.post, lambda: self.service.order("/flush"))
-        self.sees("ForeignPoints", "a value that is not whole", self.post_foreign, lambda: None)
+        self.sees("PointsRejected", "a value that is not whole", self.post_foreign, lambda: None)
         self.sees("Quarantine", "a quarantine", lambda: self.service.order("/quarantine/A"),
                   lambda: self.service.order("/lift/A"))
         self.sees("SeriesNearLimit", "many series", self.post_many, self.forget)
@@ -238,12 +239,27 @@ class Causes:
         body = in_json([("ahead", now := time.time_ns() + 86_400 * 10**9, now + 10, 1)])
         ask(self.service.listen, "POST", "/v1/metrics", body, {"Content-Type": JSON, "x-sender": "A"})
 
+    def post_slowly(self) -> None:
+        """Its body comes two seconds after its head."""
+        self.time += 10
+        body = in_json([("slow", self.time - 10, self.time, 1)])
+        connection = http.client.HTTPConnection("127.0.0.1", self.service.listen, timeout=20)
+        connection.putrequest("POST", "/v1/metrics")
+        for name, value in {"Content-Type": JSON, "x-sender": "E", "Content-Length": str(len(body))}.items():
+            connection.putheader(name, value)
+        connection.endheaders()
+        time.sleep(2)
+        connection.send(body)
+        connection.getresponse().read()
+        connection.close()
+
     def of_refusals(self) -> None:
         self.sees_repeated("ClockOff", "a clock that is ahead", self.post_ahead)
         self.post("A")
         self.sees_repeated("PostsRefused", "another sender of a series", lambda: self.post("B"))
         self.sees_repeated("PostsRefused", "a clock that went back", lambda: self.post("A", start=10**9))
         self.sees_repeated("SenderOverShare", "a sender that posts more than it may", self.post_much)
+        self.sees_repeated("SlowAnswers", "a sender that is slow to send", self.post_slowly)
         # Last: no sender may have a new series after it.
         self.sees_repeated("PostsTurnedAway", "more series than there may be", self.post_too_many)
 
@@ -353,7 +369,7 @@ def run(checks: Checks, program: str, folder: str) -> None:
         for thread in threads:
             thread.join()
         pages = [ask(service.operate, "GET", "/metrics")[1] for service in services]
-        for page in (pages[1], *pages[3:]):
+        for page in pages:
             promtool(checks, "the page of metrics", "check", "metrics", given=page)
         look_at_dashboard(checks, prometheus, pages[1] + b"".join(pages[3:]), store is not None)
 

@@ -100,7 +100,7 @@ class File:
     """A SQLite file, and what is asked of it."""
 
     words = {"hour": "unixepoch(hour || ':00') / 3600", "by_hour": "by_hour", "month": "substr(month, 1, 7)", "by_month": "by_month",
-             "span": "span"}
+             "span": "intervals"}
 
     def __init__(self, folder: str) -> None:
         self.path = f"{folder}/hours.db"
@@ -118,7 +118,7 @@ class Server(Database):
     """A PostgreSQL, and the same."""
 
     words = {"hour": "extract(epoch from hour)::bigint / 3600", "by_hour": "totxegun.by_hour",
-             "month": "to_char(month at time zone 'UTC', 'YYYY-MM')", "by_month": "totxegun.by_month", "span": "totxegun.span"}
+             "month": "to_char(month at time zone 'UTC', 'YYYY-MM')", "by_month": "totxegun.by_month", "span": "totxegun.intervals"}
 
     def __init__(self, _: object) -> None:
         super().__init__()

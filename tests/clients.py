@@ -57,7 +57,7 @@ def metrics(service: Service) -> dict[str, float]:
 
 def accepted(service: Service) -> float:
     """How many posts it has answered 200."""
-    return metrics(service)['totxegun_posts_total{reason="",status="200"}']
+    return metrics(service)['totxegun_requests_total{code="200",reason=""}']
 
 
 def is_settled(service: Service) -> bool:
@@ -104,7 +104,7 @@ def alone(checks: Checks, service: Service, sink: SqliteSink, folder: str, stack
 
 
 def turned_away(service: Service) -> float:
-    return sum(count for name, count in metrics(service).items() if re.match(r'totxegun_posts_total.*status="503"', name))
+    return sum(count for name, count in metrics(service).items() if re.match(r'totxegun_requests_total.*code="503"', name))
 
 
 def read(ways: list[Any]) -> list[Any]:
@@ -162,7 +162,7 @@ def compare_rounding(checks: Checks, totxegun: str, service: Service, ways: list
                 [(way.series, way.exact, way.rounded_by, found[way.series]) for way in ways])
     text = subprocess.run([totxegun, "status", "--data", service.data], stdout=subprocess.PIPE, text=True,
                           check=False).stdout
-    checks.true("totxegun status shows them", all(re.search(rf"(?m)^\d+\.\d{{3}} us +\d+ +{way.series}\b", text) for way in ways), text)
+    checks.true("totxegun status shows them", all(re.search(rf"(?m)^\d+\.\d{{3}} us +[\d,]+ +{way.series}\b", text) for way in ways), text)
 
 
 def run(checks: Checks, totxegun: str, folder: str, stack: contextlib.ExitStack) -> list[str]:
@@ -204,7 +204,7 @@ def compare(checks: Checks, totxegun: str, service: Service, sink: SqliteSink, w
     checks.same("the sink has what each way has counted", [], differences({way.series: way.sum for way in ways}, of_ways))
     compare_wrk(checks, "wrk", of_wrk, found, accepted(service) - sum(way.taken for way in ways))
     checks.same("kept connections are kept", {}, {way.series: way.connections for way in ways if way.connections > 1})
-    others = {name: count for name, count in metrics(service).items() if re.match(r'totxegun_posts_total.*status="(?!200|503)', name)}
+    others = {name: count for name, count in metrics(service).items() if re.match(r'totxegun_requests_total.*code="(?!200|503)', name)}
     checks.same("no post was answered otherwise than 200 and 503", {}, others)
     checks.same("the service found nothing that must not be", [], service.faults())
     compare_rounding(checks, totxegun, service, [way for way in ways if isinstance(way, InSeconds)], found)

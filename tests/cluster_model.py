@@ -159,7 +159,8 @@ COPIES = {
     # Their statements would still be sent one behind the other, by the writer's lock, but in any order, and be taken for done.
     "one_sync_at_a_time": ("syncs_are_under_way_at_once",),
     "a_doubt_is_repeated": ("write_in_doubt_is_taken_for_done",),
-    "a_repeat_is_a_write": ("repeat_that_finds_all_done_is_no_write",),
+    # A repeat writes in two ways: it raises the link, and locks the slot's row. The copy is without the second.
+    "a_repeat_is_a_write": ("sync_of_nothing_is_no_write",),
     "a_late_copy_changes_nothing": ("late_write_of_an_own_connection_counts", "numbers_of_an_earlier_owner_are_used_again"),
     "a_commit_waits_for_the_standby": ("commit_without_its_standby_is_answered",),
     "who_is_lost_answers_nothing": ("who_has_lost_the_slot_answers",),

@@ -56,8 +56,8 @@ def look(checks: Checks, play: Play, folder: str) -> None:
     for path in ("/metrics", "/totals"):
         status, page = ask(play.service.operate, "GET", path)
         told = subprocess.run(["promtool", "check", "metrics"], input=page, capture_output=True, check=False)
-        lines = [line for line in (told.stdout + told.stderr).splitlines() if not line.endswith(BASE_UNIT)]
-        checks.same(f"promtool says nothing of {path} but to count in base units", (200, []), (status, lines))
+        lines = [line for line in (told.stdout + told.stderr).splitlines() if path == "/metrics" or not line.endswith(BASE_UNIT)]
+        checks.same(f"promtool says nothing of {path}, but to count in base units what senders do not", (200, []), (status, lines))
     checks.same("the service found nothing that must not be", [], play.service.faults())
     play.write_samples(f"{folder}/samples.json")
     draw(f"{folder}/samples.json", f"{folder}/picture.svg")
@@ -73,7 +73,7 @@ def look_at_others(checks: Checks, play: Play) -> None:
     checks.same("no alert fired", [], play.prometheus.alerts("firing"))
     checks.same("none but those of kills is about to", [], sorted({*play.prometheus.alerts("pending")} - OF_KILLS))
     page = play.service.asked("GET", "/metrics")[1].decode()
-    foreign = [line for line in page.splitlines() if line.startswith("totxegun_foreign_points_total{") and not line.endswith(" 0")]
+    foreign = [line for line in page.splitlines() if line.startswith("totxegun_rejected_points_total{") and not line.endswith(" 0")]
     checks.same("no point was left out", [], foreign)
 
 

@@ -375,7 +375,7 @@ def hands_on(checks: Checks, totxegun: str, chance: random.Random, folder: str) 
         checks.true("the receiver has each post's points as they came, each once", found == (binary, texts),
                     (len(found[0]), len(binary), len(found[1]), len(texts)))
         for one in (service, second):
-            checks.same("none of them is called foreign", 0, count_of(one, "totxegun_foreign_points_total{"))
+            checks.same("none of them is called rejected", 0, count_of(one, "totxegun_rejected_points_total{"))
         checks.same("nothing of it is lost", 0, sum(count_of(service, f'totxegun_passed_points_total{{outcome="{outcome}"}}')
                                                     for outcome in ("refused", "lost", "dropped")))
         service.order("/flush")

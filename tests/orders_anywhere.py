@@ -1,17 +1,20 @@
 #!/usr/bin/env python3
-"""Commands at any of two instances that share a store reach the slots of both.
+"""Commands at any of two instances that share a store reach the slots of both, or say where to ask.
 
     tests/orders_anywhere.py TOTXEGUN
 
 Two instances share the eight slots of a store, and deliver to another database of the same server. At the one and at the
-other it is flushed, quarantined, lifted, asked, closed, repaired and forgotten: all of it is of all slots. One is stopped
-while the other is asked, and killed. Skipped without PostgreSQL.
+other it is flushed, quarantined, lifted, asked and closed: all of it is of all slots. Series are forgotten by the instance that
+has them, to which the other one sends, also over TCP with a token. One is stopped while the other is asked, and killed. Skipped
+without PostgreSQL.
 
 Each line is one check; the last line counts those that passed and failed, and the status is 0 where none failed.
 """
 import datetime
+import hashlib
 import json
 import os
+import re
 import signal
 import subprocess
 import sys
@@ -31,6 +34,9 @@ from testing.service import DELTA, JSON, Service, ask, wait_until  # noqa: E402
 from testing.slots import IN_THE_END, come_to_rest, owners  # noqa: E402
 
 SLOTS, PROCESSES = 8, 24
+TOKEN = "a-token-of-an-operator"
+# Commands that an instance may send on to another, over TCP.
+BY_TOKEN = ("forget",)
 METRICS = ("slots_owned", "slot_term", "slots_without_owner", "longest_without_owner_seconds", "instances", "beat_age_seconds",
            "store_copies", "store_copies_asked", "store_doubt_seconds", "forwarded_posts_total", "store_writes_total",
            "takeovers_total", "hand_overs_total", "slots_lost_total")
@@ -47,17 +53,22 @@ class Both:
         at = f"postgres://postgres@127.0.0.1:{self.server.port}"
         self.sink = f"{at}/metrics"
         self.store = f"{at}/postgres"
+        self.token, self.tokens = f"{folder}/token", f"{folder}/tokens"
+        with open(self.token, "w", encoding="utf-8") as file:
+            file.write(TOKEN)
+        with open(self.tokens, "w", encoding="utf-8") as file:
+            file.write(f"ann sha256:{hashlib.sha256(TOKEN.encode()).hexdigest()}\n")
         self.made = self.run("store", "init", self.store, "--slots", str(SLOTS))
         self.all = [self.instance(folder, name) for name in "ab"]
 
     def instance(self, folder: str, name: str) -> Service:
         peer = f"127.0.0.1:{free_port()}"
         return Service(self.program, f"{folder}/{name}", self.sink, "--store", self.store, "--store-copies", "1", "--instance",
-                       name, "--peer", peer, "--flush-every", "1h")
+                       name, "--peer", peer, "--flush-every", "1h", "--operate-tokens", self.tokens)
 
     def run(self, *words: str, at: Service | None = None) -> tuple[int, str]:
         """The status of a command, and what it prints; at an instance."""
-        place = [] if at is None else ["--data", at.data]
+        place = [] if at is None else ["--data", at.data, *(["--token", self.token] if words[0] in BY_TOKEN else [])]
         done = subprocess.run([self.program, *words, *place], capture_output=True, text=True, check=False, timeout=180)
         return done.returncode, done.stdout + done.stderr
 
@@ -67,7 +78,7 @@ class Both:
 
     def at_rest(self) -> bool:
         """Whether each slot has come to its place."""
-        return come_to_rest([self.server], SLOTS, "ab")
+        return come_to_rest(self.server, SLOTS, "ab")
 
     def in_the_end(self, *words: str, at: Service, is_said: Callable[[int, str], object] = lambda code, text: code == 0) -> tuple[int, str]:
         """The same of a command that is given again until it says so: a slot may be on its way to another."""
@@ -138,23 +149,24 @@ def quarantines(checks: Checks, both: Both, first: Service, second: Service) -> 
 
 
 def shows(checks: Checks, both: Both, first: Service, second: Service) -> None:
-    def seen() -> tuple[set[str], int, list[int]]:
+    def seen() -> tuple[set[str], int, int]:
         cluster = both.status(second)["cluster"]
         instances = cluster["instances"]
         return ({one["name"] for one in instances}, sum(one["slots"] for one in instances),
-                [one["copies"] for one in cluster.get("databases", ())])
+                cluster["database"]["copies"])
 
     checks.true("the status has both instances, whose slots are all, and the database",
-                wait_until(lambda: seen() == ({"a", "b"}, SLOTS, [1])), seen())
+                wait_until(lambda: seen() == ({"a", "b"}, SLOTS, 1)), seen())
     code, text = both.run("status", at=first)
-    checks.true("it is printed", code == 0 and "last beat" in text and "database of the store" in text, text)
+    checks.true("it is printed", code == 0 and "last beat" in text and "Database of the store" in text, text)
     _, page = ask(first.operate, "GET", "/")
     checks.true("the page has it", b"<h2>Instances</h2>" in page and b"<h2>Slots</h2>" in page, page[-2000:])
 
     def reported() -> int:
-        return sum(line.startswith("series") for line in second.asked("GET", "/report")[1].decode().splitlines())
+        reports = [one.asked("GET", "/report")[1].decode().splitlines() for one in both.all]
+        return sum(line.startswith("series") for report in reports for line in report)
 
-    checks.true("a report is of all slots", wait_until(lambda: reported() == PROCESSES), reported())
+    checks.true("the reports of both are of all slots", wait_until(lambda: reported() == PROCESSES), reported())
     _, metrics = ask(first.operate, "GET", "/metrics")
     missing = [name for name in METRICS if f"\ntotxegun_{name}" not in metrics.decode()]
     checks.same("the metrics of the cluster are there", [], missing)
@@ -177,7 +189,8 @@ def forgets(checks: Checks, both: Both, first: Service, second: Service) -> None
         code, text = both.run("forget", f"m{{service.instance.id=p{process}}}", at=(first, second)[process % 2])
         checks.true("one is forgotten where it is", code == 0 and "1 series is forgotten" in text, text)
     code, text = both.run("forget", "m", "--all", at=second)
-    checks.true("all others are", code == 0 and f"{PROCESSES - 4} series are forgotten" in text, text)
+    forgotten = sum(int(count) for count in re.findall(r"(\d+) series (?:is|are) forgotten", text))
+    checks.true("all others are, by the one and the other", code == 0 and forgotten == PROCESSES - 4, text)
     checks.same("another sender has them", [200] * PROCESSES, both.post(first, 20, "B"))
 
 
@@ -190,7 +203,7 @@ def stops(checks: Checks, both: Both, first: Service, second: Service) -> None:
     second.kill()
     text = both.run("status", at=first)[1]
     are_moved = set(owners(both.server).values()) == {"a"}
-    checks.true("who does not answer is named, until all slots have moved", "nothing is known of slot" in text or are_moved, text)
+    checks.true("who does not answer is named, until all slots have moved", "nothing is known of it" in text or are_moved, text)
     code, text = both.run("close", "2020-01", at=first)
     checks.true("so nothing is closed, or all is known again", code != 0 or "done" in text, text)
     code, text = both.in_the_end("flush", at=first)

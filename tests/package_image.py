@@ -73,7 +73,7 @@ class Container:
 
     def start(self) -> bool:
         # There is no env inside: variables are set before the root is changed. What the senders post is of 1970.
-        variables = [*self.settings["Env"], "TOTXEGUN_KEEP_SPANS=forever"]
+        variables = [*self.settings["Env"], "TOTXEGUN_KEEP_INTERVALS=forever"]
         inner = ["env", "-i", *variables, "/usr/sbin/chroot", f"--userspec={self.settings['User']}", self.root,
                  *self.settings["Entrypoint"], *self.settings["Cmd"]]
         script = MOUNTS.format(root=self.root)

@@ -1,5 +1,6 @@
 #!/usr/bin/env python3
-"""The operator's pages in a browser, headless Chromium: what they show is what was posted and what the sink has.
+"""The operator's pages in a browser, headless Chromium: what they show is what was posted and what the sink has, and what
+`totxegun status` prints.
 
     tests/pages.py TOTXEGUN [FOLDER]
 
@@ -167,7 +168,7 @@ def look_at_answers(checks: Checks, answer: Any, other: Any) -> None:
 
 
 def look_at_overview(checks: Checks, page: Page, how: str) -> None:
-    refused = {(row[0], row[1], row[3]) for row in page.rows_of("Refused posts")}
+    refused = {(row[0], row[1], row[2]) for row in page.rows_of("Refused posts")}
     wanted = {("shop-1", "400", "1"), ("thief", "400", "1"), ("- (who names none)", "400", "1"), ("- (who names none)", "404", "1")}
     checks.same(f"{how}: refusals are by sender and status, with their counts", wanted, refused)
     checks.true(f"{how}: each says what to do", all(row[-1] for row in page.rows_of("Refused posts")), page.rows_of("Refused posts"))
@@ -176,6 +177,17 @@ def look_at_overview(checks: Checks, page: Page, how: str) -> None:
     senders = {row[0]: row[2:] for row in page.rows_of("Senders, by their last post")}
     checks.same(f"{how}: senders have their posts", {"shop-1": ["10", "1"], "shop-2": ["3", "0"], "thief": ["0", "1"],
                 "- (who names none)": ["0", "2"]}, senders)
+
+
+def look_at_words(checks: Checks, program: str, service: Service, page: Page) -> None:
+    """The command and the page have their words from the same status."""
+    text = subprocess.run([program, "status", "--data", service.data], capture_output=True, text=True, check=False).stdout
+    lines = [" ".join(line.split()) for line in text.splitlines()]
+    missing = [title for title in page.tables if title not in lines]
+    checks.same("the command has the page's tables", [], missing)
+    of_page = [" ".join(cell or "-" for cell in row[:3]) for title in page.tables for row in page.rows_of(title)
+               if title in ("Refused posts", "Points not taken")]
+    checks.same("with the same rows", [], [row for row in of_page if not any(line.startswith(row) for line in lines)])
 
 
 def look_at_series(checks: Checks, browser: Browser, database: str) -> Any:
@@ -379,6 +391,7 @@ def run(checks: Checks, program: str, folder: str, pictures: str | None) -> None
         look_at_overview(checks, with_script, "with the script")
         without = sent(service, "/")
         look_at_overview(checks, without, "without it")
+        look_at_words(checks, program, service, without)
         pages, link = look_at_series(checks, browser, database)
         look_at_safety(checks, service, browser, [with_script, without, *pages])
         look_at_rules(checks, service)

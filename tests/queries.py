@@ -36,7 +36,7 @@ BOUNDS = (5, 10, 25, 50, 100, 250, 500, 1000, 2500, 5000)
 UTC = datetime.timezone.utc
 DAYS = int(sys.argv[3]) if len(sys.argv) > 3 else 35
 FIRST = datetime.datetime(2026, 12, 1, tzinfo=UTC) - datetime.timedelta(DAYS)
-# Of spans there are no more days.
+# Of intervals there are no more days.
 DAYS_OF_SPANS = 35
 LATE = 3
 SERIES = 250
@@ -217,7 +217,7 @@ class Lite:
             )
             for one in map(Series, range(1, count + 1))
         ]
-        self.file.executemany("insert into series values (?, ?, ?, ?, ?, ?, ?, ?, ?, ?)", rows)
+        self.file.executemany("insert into series values (?, ?, ?, ?, ?, ?, ?, ?, ?, ?, null)", rows)
         metrics = [(place + 1, name, "histogram" if place == WAIT else "monotonic") for place, name in enumerate(NAMES)]
         self.file.executemany("insert into metric values (?, ?, ?, '1')", metrics)
 
@@ -249,21 +249,21 @@ class Lite:
 
     def totals(self) -> None:
         self.file.execute(
-            """insert into series_total select series, sum(points), 1, ?, 0, sum(total_low), 0, sum(count_low), 0, added(buckets), 0
+            """insert into series_total select series, sum(points), 1, ?, 0, sum(total_low), 0, sum(count_low), 0, added(buckets), 1, 0
             from month group by series""",
             (HOURS[-1] * 3_600_000_000_000,),
         )
 
     def late(self) -> None:
-        """A flush each ten seconds, with a span; some came hours later."""
+        """A flush each ten seconds, with an interval; some came hours later."""
         first = max(HOURS[0], HOURS[-1] + 1 - DAYS_OF_SPANS * 24)
         seconds = range(first * 3600, HOURS[-1] * 3600, 10)
         rows = [
             (number, number, second + (LATE * 3600 if number % 100_000 == 7 else 1), (second - 10) * 10**9, second * 10**9)
             for number, second in enumerate(seconds, 1)
         ]
-        self.file.executemany("insert into request values (?, 0, 'e', ?, ?, 1, ?, ?, 1)", rows)
-        self.file.executemany("insert into span_row values (?, 1, 0, 10000000000, 5, null, null, null)", [(row[0],) for row in rows])
+        self.file.executemany("insert into request values (?, 0, 'e', ?, ?, 1, zeroblob(32), null, ?, ?)", rows)
+        self.file.executemany("insert into interval_row values (?, 1, 0, 10000000000, 5, null, null, null)", [(row[0],) for row in rows])
         self.taken_late = [row for row in rows if row[0] % 100_000 == 7]
 
     def late_rows(self) -> list[tuple[str, str, str, int]]:
@@ -316,7 +316,7 @@ from generate_series(1::bigint, :count) as numbers(n);
 insert into metric select distinct on (metric) metric, name, kind, unit from series;
 alter table past_hour disable trigger add_to_day;
 insert into past_hour
-select n, 360, 0, h, h * 3600000000000, (h + 1) * 3600000000000, {VALUE}, case n % 5 when {WAIT} then {COUNT} else 0 end,
+select n, 360, 0, h, {VALUE}, case n % 5 when {WAIT} then {COUNT} else 0 end,
     case n % 5 when {WAIT} then array[{", ".join(BUCKETS)}]::numeric[] end
 from generate_series({HOURS[0]}::bigint, {HOURS[-1]}) as hours(h), generate_series(1::bigint, :count) as numbers(n);
 alter table past_hour enable trigger add_to_day;
@@ -330,8 +330,9 @@ insert into past_day select series, points, 0, day, total, sums.count, (
     from past_hour group by series, hour / 24
 ) as sums;
 insert into series_total (series, points, first_start_ns, last_end_ns, total, count, buckets, hour, before_points, before_total,
-    before_count, before_buckets)
-select series, points, 1, {HOURS[-1] + 1} * 3600000000000, total, sums.count, buckets, {HOURS[-1]}, points, total, sums.count, buckets
+    before_count, before_buckets, life, floor_ns)
+select series, points, 1, {HOURS[-1] + 1} * 3600000000000, total, sums.count, buckets, {HOURS[-1]}, points, total, sums.count,
+    buckets, 1, 0
 from (
     select series, sum(points) as points, sum(total) as total, sum(past_day.count) as count, (
         select array_agg(one.count order by place)
@@ -390,7 +391,7 @@ def try_lite(checks: Checks, program: str, folder: str, count: int, wanted: dict
         rows, seconds = lite.ask(sqls["SQLite"])
         compare(checks, "SQLite", number, wanted[number], rows)
         print(f"note: it took {seconds:.2f} s of processor time", flush=True)
-    say_sizes("hour", "span_row", of=lite)
+    say_sizes("hour", "interval_row", of=lite)
 
 
 def try_postgres(checks: Checks, program: str, folder: str, count: int, wanted: dict[int, list[Any]]) -> None:

@@ -20,9 +20,7 @@ Then the service is started without the library, and the run goes on where it wa
 answered, each order is given again. At the end the sink, a SQLite file, has each point once that a sender was told is
 taken, and refused none that it has already; late repeats are refused, and the service has found nothing that must not be.
 
-Others, of each sixth of such calls, are on the folder of a service of version 0.5.0 that had three slots when it was killed
-(folders/three_slots.tar.gz): the start that is interrupted adopts it, and goes on. Where no power is lost, posts are only
-written there.
+Others, of each sixth of such calls and in the ways in which no power is lost, are with `--durable process`.
 A last run forgets what was synced, and has to fail: so a loss of power is seen.
 
 A line for each run that failed; the last line counts those that passed and failed, and the status is 0 where none failed.
@@ -32,7 +30,6 @@ import os
 import shutil
 import subprocess
 import sys
-import tarfile
 import tempfile
 import threading
 import time
@@ -53,9 +50,6 @@ SENDERS = "ABCD"
 # A letter is a post of this sender. What comes after it is ordered once the post is answered or interrupted.
 SCRIPT = ("A", "B", "A", "D/flush", "B", "C", "/quarantine/sender-B", "A", "/flush", "C", "A", "/flush", "C",
           "/lift/sender-B", "B", "/flush", "A", "B", "C")
-# A folder with three slots, of which this made it: each sender posted, all was flushed and nothing delivered, each posted again,
-# and the service was killed.
-THREE_SLOTS = os.path.join(TESTS, "folders", "three_slots.tar.gz")
 # Of memory, where nothing else is said: what is durable is what the library has seen synced.
 FOLDERS = "/dev/shm" if os.access("/dev/shm", os.W_OK) and not os.environ.get("TMPDIR") else None
 
@@ -109,18 +103,6 @@ def synced_names(folder: str, shadow: str) -> dict[str, int]:
     return {name: int(inode) for inode, name in lines}
 
 
-def keep_all(folder: str, shadow: str) -> None:
-    """Notes that all of a folder is durable, as the library notes it."""
-    names = {name: os.stat(f"{folder}/{name}").st_ino for name in os.listdir(folder)}
-    with open(f"{shadow}/folder-{os.stat(folder).st_ino}", "w", encoding="utf-8") as file:
-        file.writelines(f"{inode} {name}\n" for name, inode in names.items())
-    for name, inode in names.items():
-        if os.path.isdir(f"{folder}/{name}"):
-            keep_all(f"{folder}/{name}", shadow)
-        else:
-            shutil.copyfile(f"{folder}/{name}", f"{shadow}/file-{inode}")
-
-
 def left_bytes(path: str | None, kept: str) -> bytes:
     """What was synced of a file; where it is torn, also the first half of what has changed since."""
     synced = content(kept)
@@ -143,13 +125,12 @@ def left_bytes(path: str | None, kept: str) -> bytes:
 class Run:
     """One run of the script, in a folder of its own."""
 
-    def __init__(self, program: str, library: str, folder: str, at: int, way: str, adopts: bool) -> None:
-        self.folder, self.at, self.way, self.adopts = folder, at, way, adopts
+    def __init__(self, program: str, library: str, folder: str, at: int, way: str, durable: str) -> None:
+        self.folder, self.at, self.way = folder, at, way
         self.data, self.shadow, self.log = f"{folder}/data", f"{folder}/shadow", f"{folder}/calls"
         os.mkdir(self.data)
         os.mkdir(self.shadow)
         self.sink = SqliteSink(f"{folder}/sink.db")
-        durable = "process" if adopts and way not in POWER else "disk"
         self.service = Service(program, self.data, self.sink.address, "--durable", durable, "--flush-every", "1h",
                                "--operate", f"unix:{folder}/operate")
         self.senders = {name: Sender(self.service, name, seconds=5) for name in SENDERS}
@@ -159,16 +140,6 @@ class Run:
         self.stages = [at, second[way]] if way in second else [at]
         self.until = time.monotonic() + SECONDS
         self.reviving = threading.Lock()
-
-    def fill(self) -> None:
-        """Three slots, each with a group and posts that only the journal has; the senders were told of all."""
-        with tarfile.open(THREE_SLOTS) as archive:
-            archive.extractall(self.data, filter="data")  # type: ignore[call-arg]
-        for _ in range(2):
-            for sender in self.senders.values():
-                points = sender.next_points()
-                sender.note(points, sender.encoded(points))
-        keep_all(self.data, self.shadow)
 
     def start(self) -> None:
         environment = {"LD_PRELOAD": self.library, "INTERRUPT_FOLDER": self.data, "INTERRUPT_LOG": self.log}
@@ -230,8 +201,6 @@ class Run:
 
     def make(self) -> None:
         """The whole run. Raises Failed."""
-        if self.adopts:
-            self.fill()
         self.start()
         self.service.wait_ready(SECONDS)
         for step in SCRIPT:
@@ -280,16 +249,16 @@ class Runs:
         self.lock = threading.Lock()
         self.passed = self.failed = self.interrupted = 0
 
-    def one(self, at: int, way: str, adopts: bool) -> list[str]:
+    def one(self, at: int, way: str, durable: str) -> list[str]:
         """Makes a run and counts it. Returns its calls."""
-        calls, fault = self.made(at, way, adopts)
-        self.count(at, f"{way}, of a folder of three slots," if adopts else way, calls, fault)
+        calls, fault = self.made(at, way, durable)
+        self.count(at, f"{way}, {durable},", calls, fault)
         return calls
 
-    def made(self, at: int, way: str, adopts: bool = False) -> tuple[list[str], str | None]:
+    def made(self, at: int, way: str, durable: str = "disk") -> tuple[list[str], str | None]:
         """Makes a run: its calls, and what is wrong with it."""
         folder = tempfile.mkdtemp(dir=self.folder)
-        run = Run(self.program, self.library, folder, at, way, adopts)
+        run = Run(self.program, self.library, folder, at, way, durable)
         fault = None
         try:
             run.make()
@@ -334,10 +303,10 @@ def places_of(calls: list[str], every: int, ways: Sequence[str]) -> Iterator[tup
 def main(program: str, every: int = 1, ways: Sequence[str] = WAYS) -> int:
     with tempfile.TemporaryDirectory(dir=FOLDERS, prefix="interrupted-") as folder:
         runs = Runs(program, build(folder), folder)
-        calls, of_three = (runs.one(0, "before", adopts) for adopts in (False, True))
-        print(f"note: {len(calls)} calls in a run without interruption, {len(of_three)} where a folder is adopted", flush=True)
-        places = [(*place, False) for place in places_of(calls, every, ways)]
-        places += [(*place, True) for place in places_of(of_three, every * 6, ways)]
+        calls, written = (runs.one(0, "before", durable) for durable in ("disk", "process"))
+        print(f"note: {len(calls)} calls in a run without interruption, {len(written)} with --durable process", flush=True)
+        places = [(*place, "disk") for place in places_of(calls, every, ways)]
+        places += [(*place, "process") for place in places_of(written, every * 6, [way for way in ways if way not in POWER])]
         with concurrent.futures.ThreadPoolExecutor(os.cpu_count()) as pool:
             list(pool.map(lambda place: runs.one(*place), places))
         runs.forgetful(len(calls) * 3 // 4)

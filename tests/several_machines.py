@@ -189,7 +189,7 @@ class PostgresSink:
     """The database that the store is in, at the address that is led to whatever server writes."""
 
     SPANS = """select coalesce(json_agg(json_build_array(name, start_ns::text, end_ns::text, value::text, sum, buckets::bigint[])), '[]')
-        from totxegun.span join totxegun.series on series.id = span.series"""
+        from totxegun.intervals join totxegun.series on series.id = intervals.series"""
 
     def __init__(self, store: Pair) -> None:
         self.store = store

@@ -1,17 +1,15 @@
 #!/usr/bin/env python3
-"""A folder is moved into a store and back, and killed at each step.
+"""A folder is moved into a store, and killed at each step.
 
     tests/store_move.py PROGRAM [KILLS [SEED]]
 
 A folder has all that there can be: series whose senders go on, cumulative ones among them, posts that are in no group, requests
 that wait, of which the sink has one already, a request that was refused for good, a quarantined sender with posts, and the sink
-that it was told. `totxegun store move` brings it into a store of PostgreSQL and from there into another folder. Each way KILLS (60) times
-it is killed, drawn by SEED (1) of all calls on the folder's files (by the library interrupt_files.c, which needs gcc) and all
-requests to the server, before it or after it, and such a call may fail: then exactly one of both counts by `check` and `store check`,
-no service starts on the other, and the same command again brings all of it there. Services go on over the store, and over the folder
-that it was moved back to: each series has in the sink what its sender was told.
-
-The same of a folder that totxegun 0.5.0 has left with three slots. Skipped without PostgreSQL.
+that it was told. `totxegun store move` brings it into a store of PostgreSQL, and services go on over the store. KILLS (60) times
+a move of a copy is killed, drawn by SEED (1) of all calls on the folder's files (by the library interrupt_files.c, which needs
+gcc) and all requests to the server, before it or after it, and such a call may fail: then services start on the folder, or on
+the store, or on neither, and the same command again brings all of it there: each series has in the sink what its sender was told,
+once. Skipped without PostgreSQL.
 
 Each line is one check; the last line counts those that passed and failed, and the status is 0 where none failed.
 """
@@ -26,11 +24,10 @@ import signal
 import socket
 import subprocess
 import sys
-import tarfile
 import tempfile
 import threading
 import time
-from collections.abc import Iterable, Iterator, Mapping, Sequence
+from collections.abc import Iterable, Mapping, Sequence
 from typing import Any
 
 ROOT = os.path.dirname(os.path.dirname(os.path.abspath(__file__)))
@@ -41,7 +38,7 @@ from testing.loopback import free_port  # noqa: E402
 from testing.database import initdb  # noqa: E402
 from testing.service import (JSON, PROTOBUF, OtlpSink, Point, Post, Sender, Service, Value, add_points, differences, field,  # noqa: E402
                              fixed, in_json, in_protobuf, overlaps, told_to_all, wait_until)
-from service_interrupted import THREE_SLOTS, build  # noqa: E402
+from service_interrupted import build  # noqa: E402
 from testing.servers import Server  # noqa: E402
 
 SLOTS = "4"
@@ -56,8 +53,6 @@ LEFT = shutil.ignore_patterns("lock", "operate")
 Kill = tuple[int, str]
 # The name of a way to kill a move, and the way: at a request, or, by what is added to its environment, at a call.
 Way = tuple[str, Kill | None, dict[str, str] | None]
-# Who sent a point, its series' name, its span, what it says, and of which run it is.
-Said = tuple[str, str, int, int, str, str]
 
 
 class OfSlots(Sender):
@@ -158,6 +153,8 @@ class Filled:
         post_all(others, 2)
         service.kill()
         self.sink.mood(["well"])
+        # What is copied is as it is now.
+        self.told, self.taken = told_to_all(self.senders), dict(self.sink.taken)
 
     def go_on(self, checks: Checks, what: str, instance: Service) -> None:
         """A service over what was moved: nothing is missing, and nothing twice."""
@@ -198,32 +195,6 @@ def run(program: str, *words: str, environment: Mapping[str, str] | None = None,
     done = subprocess.run([program, *words], capture_output=True, text=True, check=False, timeout=seconds,
                           env=dict(os.environ, **environment or {}))
     return done.returncode, done.stdout + done.stderr
-
-
-def content(program: str, data: str) -> Any:
-    """What `check` says of a folder, less what hangs on how it is kept."""
-    status, text = run(program, "check", data, "--json")
-    if status:
-        return text
-    found = json.loads(text)
-    posts = subprocess.run([program, "check", data, "--posts"], capture_output=True, text=True, check=False).stdout
-    points = sorted(point for line in posts.splitlines() for point in points_of(json.loads(line)))
-    return {**{name: found[name] for name in ("sink", "waiting", "series", "series_without_owner", "quarantined", "dead", "faults")},
-            "points": points}
-
-
-def points_of(line: Any) -> Iterator[Said]:
-    """Of each point of a post who sent it, its series' name, its span and what it says."""
-    for resource in line.get("body", {}).get("resourceMetrics", ()):
-        for scope in resource["scopeMetrics"]:
-            for metric in scope["metrics"]:
-                for kind in ("sum", "histogram"):
-                    for one in metric.get(kind, {}).get("dataPoints", ()):
-                        yield (line["sender"], metric["name"], int(one["startTimeUnixNano"]), int(one["timeUnixNano"]),
-                               str(one.get("asInt", one.get("count"))), "")
-    for one in line.get("points", ()):
-        yield (line["sender"], one["series"][4], one["start"], one["end"], str(one.get("value", one.get("count"))),
-               json.dumps(one.get("run")))
 
 
 # --------------------------------------------------------------------------------------------------------------------
@@ -318,10 +289,9 @@ class Failed(Exception):
 class Moves:
     """Moves of copies of a folder, each with a database of its own."""
 
-    def __init__(self, program: str, server: Server, folder: str, base: str, checks: Checks) -> None:
-        self.program, self.server, self.folder, self.base, self.checks = program, server, folder, base, checks
+    def __init__(self, program: str, server: Server, folder: str, filled: Filled, checks: Checks) -> None:
+        self.program, self.server, self.folder, self.filled, self.checks = program, server, folder, filled, checks
         self.library = build(folder)
-        self.wanted = content(program, base)
 
     def address(self, name: str, port: int | None = None) -> str:
         return f"postgres://postgres@127.0.0.1:{port or self.server.port}/{name}"
@@ -348,20 +318,20 @@ class Moves:
         return process.returncode, text, proxy.end() if proxy else 0
 
     def look(self, address: str, folder: str) -> None:
-        """Exactly one counts of those that are told of a move; and no service starts on the other."""
+        """Services start on the folder, on the store, or on neither, as both say."""
         status, text = run(self.program, "store", "check", address)
         if status:
             raise Failed(f"store check: {text}")
-        is_told, starts = "folder" in text, text.startswith("the store")
-        store = starts or "the store counts" in text
-        status, said = run(self.program, "check", folder, "--json")
-        found = json.loads(said) if status == 0 else {"counts": False, "moved": None}
-        if found["moved"] is None:
-            return  # nothing was done to it
-        if is_told and store == found["counts"] or found["counts"] is None:
-            raise Failed(f"which of both counts? {text} {found['counts']} {found['moved']}")
-        if self.starts_on("--data", folder) or self.starts_on("--data", f"{folder}.x", "--store", address) != starts:
-            raise Failed(f"a service starts on the wrong one: {text} {found['counts']} {found['moved']}")
+        is_filling, has_all = "is on its way into this store" in text, "it has all of the folder" in text
+        status, said = run(self.program, "check", folder)
+        if status and "was moved into the store" not in said:
+            raise Failed(f"check: {said}")
+        if has_all and status == 0 or status and not is_filling and not has_all:
+            raise Failed(f"which of both counts? {text} {said}")
+        if self.starts_on("--data", folder) != (status == 0):
+            raise Failed(f"a service starts on the folder, or does not: {text} {said}")
+        if (is_filling or has_all) and self.starts_on("--data", f"{folder}.x", "--store", address) != has_all:
+            raise Failed(f"a service starts on the store, or does not: {text} {said}")
 
     def starts_on(self, *place: str) -> bool:
         """Whether a service would start there."""
@@ -384,37 +354,25 @@ class Moves:
             return "deliver" in text
         raise Failed(f"it did not start, and did not say why: {text}")
 
-    def one(self, direction: str, kill: Kill | None = None, calls: Mapping[str, str] | None = None) -> tuple[int, int]:
+    def one(self, kill: Kill | None = None, calls: Mapping[str, str] | None = None) -> tuple[int, int]:
         """A move that is killed and called again; how many requests and calls it made."""
         place, proxy = tempfile.mkdtemp(dir=self.folder), Counting(self.server.port)
-        folder, other, log = (f"{place}/{name}" for name in ("data", "other", "calls"))
+        folder, log = f"{place}/data", f"{place}/calls"
         name = self.database()
         address = self.address(name, proxy.port)
-        shutil.copytree(self.base, folder, ignore=LEFT)
-        into, back = ["--from", folder, address], ["--to", other, address]
-        if direction == "back" and self.move(into)[0]:
-            raise Failed("the first move")
-        words, at = (into, folder) if direction == "into" else (back, other)
-        os.makedirs(at, exist_ok=True)
-        environment = {"LD_PRELOAD": self.library, "INTERRUPT_FOLDER": at, "INTERRUPT_LOG": log, "INTERRUPT_AT": "0", **(calls or {})}
+        shutil.copytree(self.filled.data, folder, ignore=LEFT)
+        words = ["--from", folder, address]
+        environment = {"LD_PRELOAD": self.library, "INTERRUPT_FOLDER": folder, "INTERRUPT_LOG": log, "INTERRUPT_AT": "0", **(calls or {})}
         status, text, requests = self.move(words, proxy, kill or (0, "before"), environment)
         if status and not kill and not calls:
             raise Failed(text)
         if status:
-            self.look(address, at)
+            self.look(address, folder)
             status, text, _ = self.move(words)
             if status:
                 raise Failed(f"called again: {text}")
-        self.look(address, at)
-        if direction == "into":
-            status, text, _ = self.move(back)
-            if status:
-                raise Failed(f"back: {text}")
-        found = content(self.program, other)
-        if self.wanted["sink"] is None:  # the service that was tried over the store has told it one
-            found["sink"] = None
-        if found != self.wanted:
-            raise Failed(f"{difference(self.wanted, found)}")
+        self.look(address, folder)
+        self.deliver(address, f"{place}/instance")
         proxy.close()
         self.server.ask(f"drop database {name} with (force)")
         made = 0
@@ -423,12 +381,42 @@ class Moves:
         shutil.rmtree(place)
         return requests, made
 
-    def kills(self, direction: str, kills: int, chance: random.Random) -> None:
+    def deliver(self, address: str, data: str) -> None:
+        """All of the folder is in the store: an instance delivers what senders were told, also what was refused or held."""
+        sink = OtlpSink()
+        sink.taken = dict(self.filled.taken)
+        over = Service(self.program, data, sink.address, "--store", address, "--instance", "a", "--peer",
+                       f"127.0.0.1:{free_port()}", "--cumulative", "on", "--flush-every", "1h", "--new-sink", *ONE_COPY)
+        over.start()
         try:
-            requests, calls = self.one(direction)
+            held = self.filled.held.name
+            if not over.wait_ready() or not wait_until(lambda: over.order(f"/lift/{held}") == 200):
+                raise Failed(f"an instance: {over.last_lines()}")
+            letters = json.loads(over.asked("GET", "/dead")[1])
+            if len(letters) != len(os.listdir(f"{self.filled.data}/dead")):
+                raise Failed(f"letters: {letters}")
+            for letter in letters:
+                over.asked("POST", f"/dead/{letter['key']}/resend")
+            over.order("/flush")
+
+            def missing() -> list[str]:
+                found: dict[str, Value] = {}
+                add_points(found, sink.points())
+                return differences(self.filled.told, found)
+
+            wait_until(lambda: not missing(), 30)
+            if faults := [*missing(), *overlaps(sink.points()), *sink.wrong(), *over.faults()]:
+                raise Failed(f"the sink: {faults[:3]}")
+        finally:
+            over.kill()
+            sink.close()
+
+    def kills(self, kills: int, chance: random.Random) -> None:
+        try:
+            requests, calls = self.one()
         except Failed as failed:
-            return self.checks.true(f"{direction}: it is moved", False, failed)
-        self.checks.true(f"{direction}: it is moved, by {requests} requests and {calls} calls on files", True, "")
+            return self.checks.true("it is moved", False, failed)
+        self.checks.true(f"it is moved, by {requests} requests and {calls} calls on files", True, "")
         ways: list[Way] = [(f"{way} request {at}", (at, way), None) for at in range(1, requests + 1) for way in ("before", "after")]
         ways += [(f"{way} call {at}", None, {"INTERRUPT_AT": str(at), "INTERRUPT_HOW": way}) for at in range(1, calls + 1)
                  for way in ("before", "middle", "behind", "ENOSPC")]
@@ -436,7 +424,7 @@ class Moves:
 
         def try_one(way: Way) -> str | None:
             try:
-                self.one(direction, *way[1:])
+                self.one(*way[1:])
                 return None
             except Failed as failed:
                 return f"{way[0]}: {failed}"
@@ -445,21 +433,15 @@ class Moves:
 
         with concurrent.futures.ThreadPoolExecutor(4) as pool:
             faults = [fault for fault in pool.map(try_one, ways) if fault]
-        return self.checks.same(f"{direction}: {len(ways)} times it was killed, and then went on", [], faults[:5])
-
-
-def difference(wanted: Any, found: Any) -> str | dict[str, Any]:
-    if not isinstance(found, dict) or not isinstance(wanted, dict):
-        return f"{wanted} {found}"
-    return {name: (wanted[name], found[name]) for name in wanted if wanted[name] != found[name]}
+        return self.checks.same(f"{len(ways)} times it was killed, and then went on", [], faults[:5])
 
 
 # --------------------------------------------------------------------------------------------------------------------
 
 
-def go_there_and_back(checks: Checks, program: str, moves: Moves, filled: Filled, folder: str) -> None:
-    """Services go on over the store, and then over the folder that it was moved back to."""
-    data, other = f"{folder}/data", f"{folder}/other"
+def go_there(checks: Checks, program: str, moves: Moves, filled: Filled, folder: str) -> None:
+    """Services go on over the store."""
+    data = f"{folder}/data"
     shutil.copytree(filled.data, data, ignore=LEFT)
     name = moves.database()
     address = moves.address(name)
@@ -488,53 +470,17 @@ def go_there_and_back(checks: Checks, program: str, moves: Moves, filled: Filled
     for letter in letters:
         over.asked("POST", f"/dead/{letter['key']}/resend")
     checks.true("a request that was refused is sent again", letters, letters)
-    checks.true("an instance that runs is named", "in use by a" in moves.move(["--to", other, address])[1], "")
     filled.compare(checks, "over the store", over, False)
-    post_all([sender for sender in filled.senders if sender is not filled.held])
-    over.kill()
-    status, text, _ = moves.move(["--to", other, address])
-    checks.true("it is moved back", status == 0 and "counts in its place" in text, text)
-    status, text = run(program, "serve", "--data", f"{folder}/x", "--sink", filled.sink.address, *options, "--listen",
-                       f"127.0.0.1:{free_port()}", "--operate", f"127.0.0.1:{free_port()}")
-    checks.true("no instance starts on the store any more", status == 1 and "was moved into the folder" in text, text)
-    again = Service(program, other, filled.sink.address, "--cumulative", "on", "--flush-every", "1h")
-    filled.go_on(checks, "over the folder", again)
-    filled.compare(checks, "over the folder", again, False)
-    again.order(f"/lift/{filled.held.name}")
+    over.order(f"/lift/{filled.held.name}")
     post_all([filled.held])
-    filled.compare(checks, "with what was held", again, True)
-    checks.same("it ends", 0, again.end()[0])
-
-
-def try_giving_up(checks: Checks, program: str, moves: Moves) -> None:
-    place = tempfile.mkdtemp(dir=moves.folder)
-    folder, name = f"{place}/data", moves.database()
-    shutil.copytree(moves.base, folder, ignore=LEFT)
-    proxy = Counting(moves.server.port)
-    requests = moves.move(["--from", folder, moves.address(name, proxy.port)], proxy, (60, "after"))[2]
-    checks.true("a move is killed half-way", requests >= 60, requests)
-    status, text, _ = moves.move(["--give-up", "--from", folder, moves.address(name)])
-    checks.true("it is given up", status == 0, text)
-    checks.same("the folder has what it had", moves.wanted, content(program, folder))
-    used = Service(program, f"{place}/x", "http://127.0.0.1:1/", "--store", moves.address(name), "--instance", "x", "--peer",
-                   f"127.0.0.1:{free_port()}", *ONE_COPY)
-    used.start()
-    query = f"postgresql://postgres@127.0.0.1:{moves.server.port}/{name}"
-    checks.true("the store is used, and begins with nothing",
-                wait_until(lambda: moves.server.run("psql", query, "-XAtqc", "select count(*) from totxegun_store.file") != "0")
-                and moves.server.run("psql", query, "-XAtqc", "select move from totxegun_store.cluster") == "", used.last_lines())
-    used.kill()
-    status, text, _ = moves.move(["--from", folder, moves.address(name)])
-    checks.true("it is used: no folder is moved into it", status == 1 and "something already" in text, text)
-
-
-def old_folder(checks: Checks, moves: Moves) -> None:
-    """What the three slots of 0.5.0 had is there, whichever way it went."""
-    try:
-        moves.one("into")
-        checks.true("a folder of 0.5.0 with three slots is moved, and back", True, "")
-    except Failed as failed:
-        checks.true("a folder of 0.5.0 with three slots is moved, and back", False, failed)
+    filled.compare(checks, "with what was held", over, True)
+    checks.same("it ends", 0, over.end()[0])
+    status, text, _ = moves.move(["--from", data, address])
+    checks.true("what was moved is known", status == 0 and "before, and" in text, text)
+    shutil.rmtree(data)
+    shutil.copytree(filled.data, data, ignore=LEFT)
+    status, text, _ = moves.move(["--from", data, address])
+    checks.true("nothing is moved into a store that is used", status == 1 and "something already" in text, text)
 
 
 def main(words: list[str]) -> int:
@@ -550,14 +496,9 @@ def main(words: list[str]) -> int:
             server.make()
             server.start()
             filled = Filled(program, folder, checks)
-            moves = Moves(program, server, folder, filled.data, checks)
-            go_there_and_back(checks, program, moves, filled, folder)
-            try_giving_up(checks, program, moves)
-            with tarfile.open(THREE_SLOTS) as archive:
-                archive.extractall(f"{folder}/three", filter="data")  # type: ignore[call-arg]
-            old_folder(checks, Moves(program, server, folder, f"{folder}/three", checks))
-            for direction in ("into", "back"):
-                moves.kills(direction, int(kills), chance)
+            moves = Moves(program, server, folder, filled, checks)
+            go_there(checks, program, moves, filled, folder)
+            moves.kills(int(kills), chance)
             filled.sink.close()
         finally:
             server.close()

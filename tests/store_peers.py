@@ -133,7 +133,7 @@ def of_tls(folder: str, name: str, by: str = "ca") -> list[str]:
 
 def settled(store: Store, *names: str) -> bool:
     """Each slot is at its place among these."""
-    return come_to_rest([store.server], SLOTS, names)
+    return come_to_rest(store.server, SLOTS, names)
 
 
 def ended(checks: Checks, what: str, *instances: Instance) -> None:
@@ -229,35 +229,46 @@ def try_broken_slot(checks: Checks, program: str, folder: str, store: Store, sin
     slot = max(one.slots(), key=lambda slot: int(store.ask(
         f"select coalesce(sum(length), 0) from totxegun_store.piece where slot = {slot}")))
     ended(checks, "before a slot is broken", one)
-    # A byte of its journal is another, whoever reads it.
-    saved = store.ask("select string_agg(format('(%s,%s,%s,%s,%s,%L)', slot, file, number, place, length, bytes), ',')"
-                      f" from totxegun_store.piece where slot = {slot}")
-    store.ask(f"update totxegun_store.piece set length = octet_length(bytes) where slot = {slot};"
-              f" update totxegun_store.piece set bytes = set_byte(bytes, 0, 255 - get_byte(bytes, 0)) where slot = {slot}")
-    one, other = (Instance(program, folder, name, store, sink.address) for name in "ab")
+    of_slot = f"totxegun_store.piece where slot = {slot}"
+    for what, broken in (("a byte is another", f"update totxegun_store.piece set length = octet_length(bytes) where slot = {slot};"
+                          " update totxegun_store.piece set bytes = set_byte(bytes, 0, 255 - get_byte(bytes, 0))"
+                          f" where slot = {slot}"),
+                         ("a row is gone", f"delete from {of_slot} and number = (select min(number) from {of_slot})")):
+        saved = store.ask(f"select string_agg(format('(%s,%s,%s,%s,%s,%L)', slot, file, number, place, length, bytes), ',') from {of_slot}")
+        store.ask(broken)
+        one, other = (Instance(program, folder, name, store, sink.address) for name in "ab")
+        nobody_opens(checks, what, store, slot, one, other)
+        store.ask(f"delete from {of_slot};"
+                  f" insert into totxegun_store.piece (slot, file, number, place, length, bytes) values {saved}")
+        serve_again(checks, what, store, one, other)
+
+
+def nobody_opens(checks: Checks, what: str, store: Store, slot: int, one: Instance, other: Instance) -> None:
+    """All but this slot are served, and why is shown."""
     for instance in (one, other):
         instance.start()
     refused = "select count(*) from totxegun_store.instance where refused like '%" + f'"{slot}":' + "%'"
-    checks.true("both refuse a slot that nobody can open", wait_until(lambda: store.ask(refused) == "2", IN_THE_END),
+    checks.true(f"{what}: both refuse a slot that nobody can open", wait_until(lambda: store.ask(refused) == "2", IN_THE_END),
                 [store.ask("select * from totxegun_store.instance"), one.last_lines(), other.last_lines()])
-    checks.true("the others are served", wait_until(lambda: store.owners().count("") == 1
-                                                    and {"a", "b"} <= set(store.owners()), IN_THE_END), store.owners())
+    checks.true(f"{what}: the others are served", wait_until(lambda: store.owners().count("") == 1
+                                                             and {"a", "b"} <= set(store.owners()), IN_THE_END), store.owners())
 
     def shows(instance: Instance) -> bool:
         return wait_until(lambda: refusing(instance, slot) == {"a", "b"}, IN_THE_END)
 
     for instance in (one, other):
-        checks.true(f"{instance.name} shows that both can't open it", shows(instance), instance.status())
+        checks.true(f"{what}: {instance.name} shows that both can't open it", shows(instance), instance.status())
     term, begun = store.term(slot), time.monotonic()
     time.sleep(5)
     most = 3 + (time.monotonic() - begun) / 5
-    checks.true("it is not thrown to and fro", store.term(slot) - term <= most, (term, store.term(slot)))
-    checks.true("both go on", one.is_running() and other.is_running(), [one.last_lines(), other.last_lines()])
-    store.ask(f"delete from totxegun_store.piece where slot = {slot};"
-              f" insert into totxegun_store.piece (slot, file, number, place, length, bytes) values {saved}")
-    checks.true("once it is mended it is opened", wait_until(lambda: "" not in store.owners(), IN_THE_END), store.owners())
-    checks.true("and serves", wait_until(lambda: one.post("r2", 1)[0] == 200, IN_THE_END), one.last_lines())
-    ended(checks, "after a slot was mended", one, other)
+    checks.true(f"{what}: it is not thrown to and fro", store.term(slot) - term <= most, (term, store.term(slot)))
+    checks.true(f"{what}: both go on", one.is_running() and other.is_running(), [one.last_lines(), other.last_lines()])
+
+
+def serve_again(checks: Checks, what: str, store: Store, one: Instance, other: Instance) -> None:
+    checks.true(f"{what}: once it is mended it is opened", wait_until(lambda: "" not in store.owners(), IN_THE_END), store.owners())
+    checks.true(f"{what}: and serves", wait_until(lambda: one.post("r2", 1)[0] == 200, IN_THE_END), one.last_lines())
+    ended(checks, f"{what}, and mended", one, other)
 
 
 def series(instance: Instance) -> dict[int, int]:

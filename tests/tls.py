@@ -41,6 +41,7 @@ from testing.checks import Checks
 from testing.loopback import free_port
 from testing.service import JSON, PROTOBUF, Point, Service, in_json, in_protobuf, wait_until
 from tooling.files import text_of
+import alerts
 import sdk_go
 
 try:
@@ -404,7 +405,9 @@ def run(checks: Checks, program: str, seconds: float, folder: str) -> None:
         what_stops(checks, clients, at)
         under_load(checks, folder, at, service, callers, seconds, go)
         page = service.asked("GET", "/metrics")[1].decode()
-        left = [int(line.split()[1]) for line in page.splitlines() if line.startswith("totxegun_certificate_expires_seconds ")]
+        left = [int(line.split()[1]) - time.time() for line in page.splitlines()
+                if line.startswith("totxegun_certificate_not_after_timestamp_seconds ")]
+        alerts.promtool(checks, "the page of metrics", "check", "metrics", given=page.encode())
         checks.true("the page says when the certificate ends", left and 9 * 86_400 < left[0] < 30 * 86_400, left)
         log = text_of(service.log)
         secret = [word for word in (token, clients.collector, clients.fleeting, go, "t0ken") if word in log]

@@ -202,7 +202,7 @@ def run(checks: Checks, totxegun: str, seconds: float, folder: str, stack: conte
     checks.true("one of them shows a token", token, made.stderr[-800:])
     with open(f"{folder}/log", "wb") as log:
         words = on(gateway, totxegun, "serve", "--data", data, "--listen-grpc", f"0.0.0.0:{GRPC}", "--flush-every", "1s",
-                   "--keep-spans", "forever")
+                   "--keep-intervals", "forever")
         service = subprocess.Popen(words, env={**os.environ, **settings(folder)}, stdout=log, stderr=log)
     stack.callback(service.kill)
 

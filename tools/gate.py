@@ -52,7 +52,6 @@ SERVICE_STEPS: tuple[tuple[str, list[str], int], ...] = (
     ("store.py", ["60"], 120),
     # Of several machines, shortly: `make several` tries more, store_peers.py among it, which waits for instances for minutes, and
     # under_patroni.py, for which etcd and Patroni are installed. Without network namespaces several_machines.py is left out.
-    ("store_databases.py", [], 70),
     ("orders_anywhere.py", [], 60),
     ("several_machines.py", ["60", "59", "--sink", "otlp"], 100),
     ("store_move.py", ["2"], 60),
@@ -75,7 +74,7 @@ SERVICE_STEPS: tuple[tuple[str, list[str], int], ...] = (
 # These compile a program in Go: the second one takes from the first what both use.
 IN_GO = ("sdk_go.py", "demo.py")
 # These run no program.
-WITHOUT_PROGRAM = ("service_model.py", "runs_model.py", "cluster_model.py", "releases.py", "library.py", "drawn.py")
+WITHOUT_PROGRAM = ("service_model.py", "runs_model.py", "sink_model.py", "cluster_model.py", "releases.py", "library.py", "drawn.py")
 # Of cargo's: they compile, and have all tests of the service in one step.
 CARGO_LIMIT = 1800
 # Which revision has passed here, wholly: tools/release.py asks.

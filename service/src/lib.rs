@@ -10,7 +10,7 @@
 
 // What may be missing is handled; in a test these two are the check. `print!` and `eprint!` panic where nobody reads: see
 // `command` and `log`.
-// What may is `core/book` alone.
+// What may: `core/book`, which calls the proved book, and `intake/zstd`, which calls libzstd.
 #![deny(unsafe_code)]
 #![cfg_attr(
     not(test),

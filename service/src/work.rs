@@ -4,6 +4,7 @@
 //! look for.
 
 mod in_order;
+pub mod own_call;
 
 pub use in_order::{in_order, made_in_order, WorkQueue};
 

@@ -85,8 +85,10 @@ class Server:
         return self.ask("select count(*) from pg_stat_replication where sync_state in ('sync', 'quorum')") == "1"
 
     def begin(self) -> None:
-        if os.path.exists(f"{self.folder}/data/postmaster.pid"):
-            os.unlink(f"{self.folder}/data/postmaster.pid")
+        # Files of a server that was killed: another process may have its number by now.
+        for left in ("data/postmaster.pid", f".s.PGSQL.{self.port}.lock"):
+            with contextlib.suppress(FileNotFoundError):
+                os.unlink(f"{self.folder}/{left}")
         hosts = "*" if self.machine else self.host
         words = [*self.before, f"{self.programs}/postgres", "-D", f"{self.folder}/data", "-k", self.folder, "-h", hosts, "-p",
                  str(self.port)]

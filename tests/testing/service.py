@@ -99,7 +99,7 @@ class Service:
         places += [] if host.startswith("127.") else ["--behind-proxy"]
         self.words = [*before, program, "serve", "--data", data, "--sink", sink, *places, *options]
         # Points of these tests end in 1970. An earlier version knows no such setting.
-        self.settings = {} if sink.startswith("http") else {"TOTXEGUN_KEEP_SPANS": "forever"}
+        self.settings = {} if sink.startswith("http") else {"TOTXEGUN_KEEP_INTERVALS": "forever"}
         self.log = f"{data}.log"
         elsewhere = [word.removeprefix("unix:") for word in options if word.startswith("unix:")]
         self.data, self.socket = data, [*elsewhere, f"{data}/operate"][0]
@@ -114,7 +114,7 @@ class Service:
         return self.process is not None and self.process.poll() is None
 
     def asked(self, method: str, path: str, seconds: float = 20) -> Answer:
-        """What the operators' addresses answer, of which the socket takes orders. 0.5.0 has none."""
+        """What the operators' addresses answer, of which the socket takes orders."""
         is_order = method == "POST" or path.startswith(("/dead", "/report"))
         at: int | str = self.socket if is_order and os.path.exists(self.socket) else self.operate
         return ask(at, method, path, seconds=seconds, host=self.host)
@@ -461,8 +461,8 @@ class SqliteSink:
         if not os.path.exists(self.path):
             return []
         database = sqlite3.connect(f"file:{self.path}?mode=ro", uri=True)
-        rows = database.execute("select name, start_ns, end_ns, value, sum, buckets from span"
-                                " join series on series.id = span.series").fetchall()
+        rows = database.execute("select name, start_ns, end_ns, value, sum, buckets from intervals"
+                                " join series on series.id = intervals.series").fetchall()
         database.close()
         return [(name, int(start), int(end), value if buckets is None else (tuple(map(int, json.loads(buckets))), total))
                 for name, start, end, value, total, buckets in rows]

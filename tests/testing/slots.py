@@ -1,4 +1,4 @@
-"""Who has which slot of a store, asked of its databases."""
+"""Who has which slot of a store, asked of its database."""
 import hashlib
 import json
 import time
@@ -13,7 +13,7 @@ OWNERS = "select json_object_agg(slot, owner) from totxegun_store.slot"
 
 
 def places(slots: Sequence[int], names: Iterable[str]) -> dict[int, str]:
-    """The instance at which each slot of a database belongs, of those of these names: as service/src/cluster/places.rs says."""
+    """The instance at which each of these slots belongs, of those of these names: as service/src/cluster/places.rs says."""
     counts = dict.fromkeys(names, 0)
     each, more = divmod(len(slots), len(counts))
     places: dict[int, str] = {}
@@ -26,20 +26,18 @@ def places(slots: Sequence[int], names: Iterable[str]) -> dict[int, str]:
     return places
 
 
-def owners(*databases: Server) -> dict[int, str]:
-    """Of each slot the instance that has it, or nothing; of a database that does not answer it is not known."""
-    said = [json.loads(database.ask(OWNERS) or "{}") for database in databases]
-    return {int(slot): owner for each in said for slot, owner in each.items()}
+def owners(database: Server) -> dict[int, str]:
+    """Of each slot the instance that has it, or nothing; where the database does not answer none is known."""
+    said = json.loads(database.ask(OWNERS) or "{}")
+    return {int(slot): owner for slot, owner in said.items()}
 
 
-def come_to_rest(databases: Sequence[Server], slots: int, names: Iterable[str], seconds: float = IN_THE_END) -> bool:
+def come_to_rest(database: Server, slots: int, names: Iterable[str], seconds: float = IN_THE_END) -> bool:
     """Waits until each slot is where it belongs, so that none moves by itself any more: whether that came."""
-    wanted: dict[int, str] = {}
-    for number in range(len(databases)):
-        wanted |= places(range(number, slots, len(databases)), names)
+    wanted = places(range(slots), names)
 
     def is_so() -> bool:
         time.sleep(0.5)
-        return owners(*databases) == wanted
+        return owners(database) == wanted
 
     return wait_until(is_so, seconds)

@@ -1,7 +1,6 @@
-//! The loop of an instance in a database of the store: it beats there, takes the slots of it and hands them over as `owners`
-//! says, and tells who has which. Of several databases each has its own loop, and what becomes of one moves no slot of another.
+//! The loop of an instance: it beats in the store, takes slots and hands them over as `owners` says, and tells who has which.
 
-use super::local_view::{Cluster, Database, STALL};
+use super::local_view::{Cluster, STALL};
 use super::owners::{Act, Step};
 use super::terms::{Silence, Terms, Units, Unopened};
 use crate::latch::Latch;
@@ -10,7 +9,7 @@ use std::collections::HashMap;
 use std::sync::Arc;
 use std::time::Duration;
 use tokio::sync::{mpsc, watch};
-use tokio::task::{JoinHandle, JoinSet};
+use tokio::task::JoinHandle;
 use tokio::time::{sleep, Instant, MissedTickBehavior};
 
 /// One row is written so often, however many slots there are.
@@ -25,7 +24,6 @@ const FOLLOWING: usize = 16;
 static SILENT: RateLimit = RateLimit::every(Duration::from_secs(10));
 static NAMESAKE: RateLimit = RateLimit::every(Duration::from_secs(10));
 
-/// What beats in a database.
 pub struct Beats<T, U> {
     work: Arc<Work<T, U>>,
     /// Of each slot the last step: the next one begins behind it.
@@ -38,18 +36,15 @@ pub struct Beats<T, U> {
 
 struct Work<T, U> {
     cluster: Arc<Cluster>,
-    /// Of its database.
-    number: usize,
     terms: Arc<T>,
     units: Arc<U>,
     follow: mpsc::Sender<Step>,
 }
 
 impl<T: Terms + 'static, U: Units + 'static> Beats<T, U> {
-    /// In the database of this number, of which `terms` are.
-    pub fn new(cluster: Arc<Cluster>, number: usize, terms: Arc<T>, units: Arc<U>) -> Beats<T, U> {
+    pub fn new(cluster: Arc<Cluster>, terms: Arc<T>, units: Arc<U>) -> Beats<T, U> {
         let (follow, following) = mpsc::channel(FOLLOWING);
-        let work = Work { cluster, number, terms, units, follow };
+        let work = Work { cluster, terms, units, follow };
         Beats { work: Arc::new(work), last: HashMap::new(), following, forgetting: None, between: BEAT }
     }
 
@@ -82,11 +77,11 @@ impl<T: Terms + 'static, U: Units + 'static> Beats<T, U> {
             tokio::select! {
                 _ = stop.wait_true(), if !leaves => {
                     leaves = true;
-                    work.database().owners().leave();
+                    work.cluster.owners().leave();
                 }
                 _ = ticks.tick() => self.beat().await,
                 Some(step) = self.following.recv() => self.begin(step),
-                _ = work.database().look.notified() => self.look().await,
+                _ = work.cluster.wants_look.notified() => self.look().await,
             }
         }
         if let Err(silence) = work.terms.leave().await {
@@ -95,27 +90,27 @@ impl<T: Terms + 'static, U: Units + 'static> Beats<T, U> {
     }
 
     fn is_done(&self) -> bool {
-        let owners = self.work.database().owners();
+        let owners = self.work.cluster.owners();
         owners.is_rid_of_all() && self.last.values().all(JoinHandle::is_finished)
     }
 
     async fn beat(&mut self) {
         let (work, began) = (self.work.clone(), Instant::now());
-        let database = work.database();
-        let (stay, refused) = database.owners().told();
+        let cluster = &work.cluster;
+        let (stay, refused) = cluster.owners().told();
         let seen = match work.terms.beat(stay, refused).await {
             Ok(seen) => seen,
             Err(silence) => {
-                database.is_silent(&silence);
+                cluster.owners().unanswered();
                 return tell(&silence);
             }
         };
         if began.elapsed() > STALL {
-            database.owners().late();
+            cluster.owners().late();
         }
-        let steps = database.owners().beat(seen);
-        database.has_beaten(began);
-        if database.owners().has_namesake() && NAMESAKE.is_due() {
+        let steps = cluster.owners().beat(seen);
+        cluster.has_beaten(began);
+        if cluster.owners().has_namesake() && NAMESAKE.is_due() {
             tracing::error!("another process beats under this instance's name: give each its own --instance");
         }
         steps.into_iter().for_each(|step| self.begin(step));
@@ -128,7 +123,7 @@ impl<T: Terms + 'static, U: Units + 'static> Beats<T, U> {
         if self.forgetting.as_ref().is_some_and(|before| !before.is_finished()) {
             return;
         }
-        self.forgetting = self.work.database().owners().forgotten().map(|(name, beat)| {
+        self.forgetting = self.work.cluster.owners().forgotten().map(|(name, beat)| {
             let work = self.work.clone();
             tokio::spawn(async move { work.forget(&name, beat).await })
         });
@@ -136,7 +131,7 @@ impl<T: Terms + 'static, U: Units + 'static> Beats<T, U> {
 
     async fn look(&mut self) {
         match self.work.terms.slots().await {
-            Ok(rows) => self.work.database().owners().look(rows),
+            Ok(rows) => self.work.cluster.owners().look(rows),
             Err(silence) => tell(&silence),
         }
         self.work.publish();
@@ -159,23 +154,6 @@ impl<T: Terms + 'static, U: Units + 'static> Beats<T, U> {
     }
 }
 
-/// Beats in each database at once.
-pub async fn run_all<T, U>(all: Vec<Beats<T, U>>, stop: watch::Receiver<bool>)
-where
-    T: Terms + 'static,
-    U: Units + 'static,
-{
-    let mut running = JoinSet::new();
-    for one in all {
-        running.spawn(one.run(stop.clone()));
-    }
-    while let Some(ended) = running.join_next().await {
-        if let Err(error) = ended {
-            std::panic::resume_unwind(error.into_panic()); // nobody has stopped it
-        }
-    }
-}
-
 fn tell(silence: &Silence) {
     if SILENT.is_due() {
         let reason = silence.to_string();
@@ -183,15 +161,9 @@ fn tell(silence: &Silence) {
     }
 }
 
-impl<T, U> Work<T, U> {
-    fn database(&self) -> &Database {
-        self.cluster.database(self.number)
-    }
-}
-
 impl<T: Terms, U: Units> Work<T, U> {
     fn publish(&self) {
-        self.database().fill(self.units.filling());
+        self.cluster.fill(self.units.filling());
         self.cluster.publish();
     }
 
@@ -215,13 +187,13 @@ impl<T: Terms, U: Units> Work<T, U> {
             tell(&silence);
             None
         });
-        self.database().owners().taken(slot, taken);
+        self.cluster.owners().taken(slot, taken);
         let Some(term) = taken else { return };
         self.cluster.counted().takeovers += 1;
         tracing::info!(slot, term, "slot {slot} is taken, under term {term}");
         match self.units.open(slot, term).await {
             Ok(()) => {
-                if !self.database().owners().opened(slot, term) {
+                if !self.cluster.owners().opened(slot, term) {
                     self.units.drop_lost(slot, term).await;
                 }
             }
@@ -237,7 +209,7 @@ impl<T: Terms, U: Units> Work<T, U> {
         self.release(slot, term).await;
         self.cluster.counted().hand_overs += 1;
         tracing::info!(slot, term, "slot {slot} is handed over, behind term {term}");
-        self.database().owners().released(slot, term)
+        self.cluster.owners().released(slot, term)
     }
 
     /// Each that is there tries it. In doubt a later beat sees whether it is still there.

@@ -120,9 +120,9 @@ impl<H: Here> Forward<H> {
     }
 
     /// Has its slot's owner take a part of a request: that owner's answer, or 503. Nobody is asked, or looked for, while the
-    /// database that has the slot does not answer.
+    /// store does not answer.
     pub async fn post(&self, slot: u16, sender: &str, part: Original) -> Outcome {
-        if self.cluster.is_stalled_for(slot) {
+        if self.cluster.is_stalled() {
             return Reason::StoreSilent.into();
         }
         let (began, mut asked, mut pause) = (Instant::now(), 0, SHORTEST);
@@ -220,10 +220,6 @@ impl<H: Here> Forward<H> {
 impl<H: Here> Elsewhere for Forward<H> {
     fn unavailable(&self) -> Option<Reason> {
         self.cluster.is_stalled().then_some(Reason::StoreSilent)
-    }
-
-    fn is_silent(&self, slot: u16) -> bool {
-        self.cluster.is_stalled_for(slot)
     }
 
     fn post<'a>(&'a self, slot: u16, sender: &'a str, part: Original) -> Doing<'a, Outcome> {

@@ -19,10 +19,8 @@ pub struct Status {
     pub longest_without_owner: Duration,
     /// Of each slot of this instance.
     pub terms: BTreeMap<u16, u64>,
-    /// By database, since the last own beat there that is committed was sent; none before the first.
-    pub beat_ages: Vec<Option<Duration>>,
-    /// And why it does not answer, where it does not.
-    pub silent: Vec<Option<String>>,
+    /// Since the last own beat that is committed was sent; none before the first.
+    pub beat_age: Option<Duration>,
     /// Another process beats under this name.
     pub has_namesake: bool,
     /// Slots that instances could not open: another has them, or nobody.
@@ -35,20 +33,6 @@ impl Status {
     pub fn instances(&self) -> usize {
         1 + self.others.iter().filter(|other| !other.is_gone).count()
     }
-
-    /// Of the database where it is longest.
-    pub fn beat_age(&self) -> Option<Duration> {
-        self.beat_ages.iter().flatten().max().copied()
-    }
-
-    /// As it is in one more database. One that does not answer says nothing of those that are known.
-    pub(super) fn add_other(&mut self, other: OtherInstance, answers: bool) {
-        match self.others.binary_search_by(|one| one.name.cmp(&other.name)) {
-            Ok(place) if answers => self.others[place].add(other),
-            Ok(_) => {}
-            Err(place) => self.others.insert(place, other),
-        }
-    }
 }
 
 /// Another instance, as this one's beats have seen it.
@@ -57,24 +41,15 @@ pub struct OtherInstance {
     pub name: String,
     /// The last one that it had.
     pub address: String,
+    /// Where operators of other machines ask it; empty if they can't.
+    pub operate: String,
     pub version: String,
     /// So many own beats has its own stood still.
     pub still: u32,
-    /// That is so many that its slots are taken, in each database that answers.
+    /// That is so many that its slots are taken.
     pub is_gone: bool,
     /// It hands over what it has.
     pub leaves: bool,
-}
-
-impl OtherInstance {
-    fn add(&mut self, there: OtherInstance) {
-        self.still = self.still.max(there.still);
-        self.is_gone &= there.is_gone;
-        self.leaves |= there.leaves;
-        if self.address.is_empty() {
-            (self.address, self.version) = (there.address, there.version);
-        }
-    }
 }
 
 /// A slot, as the store has it.

@@ -15,6 +15,8 @@ pub struct Instance {
     pub name: String,
     /// Where others forward posts to; empty where it leaves.
     pub address: String,
+    /// Where operators of other machines ask it, HOST:PORT; empty if they can't.
+    pub operate: String,
     /// Of its program.
     pub version: String,
     pub beat: u64,

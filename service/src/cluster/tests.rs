@@ -169,7 +169,7 @@ struct Node {
 async fn start(ledger: &Arc<Ledger>, name: &'static str) -> Node {
     let listener = TcpListener::bind("127.0.0.1:0").await.unwrap();
     let address = listener.local_addr().unwrap().to_string();
-    let (cluster, secret) = (Cluster::new(name, 1), Secret::new("of these").unwrap());
+    let (cluster, secret) = (Cluster::new(name), Secret::new("of these").unwrap());
     let slots = Arc::new(Slots { cluster: cluster.clone(), ledger: ledger.clone(), open: Mutex::default() });
     let here = Arc::new(Open(slots.clone()));
     let forward = Arc::new(Forward::new(cluster.clone(), secret.clone(), None));
@@ -179,7 +179,7 @@ async fn start(ledger: &Arc<Ledger>, name: &'static str) -> Node {
     let internal = Internal::new(cluster.clone(), here.clone(), secret, here);
     tokio::spawn(serve(Arc::new(listener), limits, internal, served));
     let terms = Of(ledger.store.clone(), name, address);
-    let beats = Beats::new(cluster.clone(), 0, Arc::new(terms), slots).each(BEAT);
+    let beats = Beats::new(cluster.clone(), Arc::new(terms), slots).each(BEAT);
     let (stop, stopped) = watch::channel(false);
     Node { forward, cluster, beats: tokio::spawn(beats.run(stopped)), stop, _serves: serves }
 }

@@ -7,11 +7,10 @@ mod posts;
 
 use super::table::Table;
 use super::{json, values, Ended, Form};
-use crate::files::{Dropped, Durability, Fault, Folder, Journal, Mark, Outbox, Replayed, UnitOfMetric};
+use crate::files::{Dropped, Durability, Fault, Folder, Journal, Outbox, Replayed, UnitOfMetric};
 use crate::log::shown;
 use crate::post_reports::SERIES_SHOWN;
-use crate::service::{is_made, move_held, slot_of};
-use crate::store::moving::said_by_store;
+use crate::service::is_made;
 use anyhow::{bail, Context};
 use clap::Args;
 use copy::{interrupts, remove_at, Copy};
@@ -46,11 +45,6 @@ pub struct Options {
 /// What a start would find.
 #[derive(Debug, Default, PartialEq, Eq, Serialize)]
 struct CheckReport {
-    slots: u16,
-    /// Whether it counts, and no store does in its place; none where the store that decides can't be asked.
-    counts: Option<bool>,
-    /// Why no service starts on it.
-    moved: Option<String>,
     /// Where it delivers to, as the last start has met it.
     sink: Option<String>,
     segments: u64,
@@ -77,13 +71,12 @@ struct CheckReport {
     dropped: Vec<String>,
     /// Of each request that was changed: the delivery of its slot stops there, and all else goes on.
     faults: Vec<String>,
-    #[serde(skip)]
-    mark: Option<Mark>,
 }
 
 impl Options {
     pub fn run(self) -> Result<Vec<u8>, Ended> {
         let _kept_still = lock(&self.data)?;
+        Folder::check_usable(&self.data)?;
         let temporary = self.temporary.clone().unwrap_or_else(std::env::temp_dir);
         let interrupts = interrupts().context("signals can't be received")?;
         let copy = Copy::made(&temporary)?;
@@ -101,9 +94,6 @@ impl Options {
 /// What is printed. Where a request was changed, that is, and the first fault ends the command.
 fn show_found(mut found: CheckReport, copy: &Path, data: &Path, form: Form) -> Result<Vec<u8>, Ended> {
     found.new_epoch = Folder::is_moved(data);
-    if let Some(mark) = &found.mark {
-        (found.counts, found.moved) = (said_by_store(mark), Some(mark.refusal(data)));
-    }
     let (inner, outer) = (copy.display().to_string(), data.display().to_string());
     for text in found.dropped.iter_mut().chain(&mut found.faults) {
         *text = text.replace(&inner, &outer);
@@ -182,66 +172,47 @@ fn in_store(data: &Path) -> Option<String> {
 fn found(copy: &Path) -> Result<CheckReport, Ended> {
     let folder = Folder::open(copy, Durability::Process)?;
     let mut found = CheckReport {
-        slots: folder.slots(),
-        counts: Some(true),
-        mark: folder.mark(),
         sink: folder.sink().map(|sink| sink.to_string()),
         dead: folder.dead()?.count(),
         ..CheckReport::default()
     };
-    let mut senders = HashSet::new();
-    for number in 0..found.slots {
-        found.segments += segments(&copy.join(format!("slot-{number}/journal")));
-        let (journal, outbox) = folder.slot(number)?;
-        found.journal_bytes += journal.size().0;
-        let held = journal.held();
-        found.held_posts += held.posts;
-        found.held_bytes += held.bytes;
-        found.dropped.extend(journal.dropped().iter().map(Dropped::to_string));
-        found.add(number, &outbox)?;
-        count_posts(&journal, &outbox, &mut found, &mut senders)?;
-    }
-    let former = folder.slots_with_files()?.into_iter();
-    for number in former.filter(|number| *number >= folder.slots()) {
-        found.add(number, &folder.outbox(number)?)?;
-    }
-    move_held(&folder)?; // last, as a start does it: all else is counted as it is
-    found.senders = senders.len();
+    found.segments = segments(&copy.join("slot-0/journal"));
+    let (journal, outbox) = folder.slot()?;
+    found.journal_bytes = journal.size().0;
+    let held = journal.held();
+    (found.held_posts, found.held_bytes) = (held.posts, held.bytes);
+    found.dropped.extend(journal.dropped().iter().map(Dropped::to_string));
+    found.add(&outbox)?;
+    count_posts(&journal, &outbox, &mut found)?;
     Ok(found)
 }
 
 impl CheckReport {
     /// What an outbox has, as a start finds it.
-    fn add(&mut self, number: u16, outbox: &Outbox) -> Result<(), Fault> {
-        outbox.leave(|owner| slot_of(owner, self.slots) != number)?;
-        let (waiting, bytes, _) = outbox.waiting();
-        self.waiting += waiting;
-        self.outbox_bytes += bytes;
+    fn add(&mut self, outbox: &Outbox) -> Result<(), Fault> {
+        (self.waiting, self.outbox_bytes, _) = outbox.waiting();
         let series = outbox.series();
-        self.series += series.len();
-        self.series_without_owner += series.values().filter(|series| series.owner.is_none()).count();
+        self.series = series.len();
+        self.series_without_owner = series.values().filter(|series| series.owner.is_none()).count();
         self.quarantined.extend(outbox.quarantined());
-        self.beside.extend(outbox.beside());
+        self.beside = outbox.beside();
         self.dropped.extend(outbox.dropped().iter().map(Dropped::to_string));
-        let changed = outbox.find_changed()?.into_iter();
-        self.faults.extend(changed.map(|fault| format!("slot {number}: {fault}")));
+        self.faults.extend(outbox.find_changed()?.iter().map(Fault::to_string));
         Ok(())
     }
 }
 
-fn count_posts(
-    journal: &Journal,
-    outbox: &Outbox,
-    found: &mut CheckReport,
-    senders: &mut HashSet<String>,
-) -> Result<(), Fault> {
+fn count_posts(journal: &Journal, outbox: &Outbox, found: &mut CheckReport) -> Result<(), Fault> {
     let (end, _) = journal.turn();
+    let mut senders = HashSet::new();
     journal.posts(outbox.journal(), end, |Replayed { post, .. }| {
         found.posts += 1;
         found.post_bytes += post.body.bytes();
         senders.insert(post.sender);
         true
-    })
+    })?;
+    found.senders = senders.len();
+    Ok(())
 }
 
 fn segments(folder: &Path) -> u64 {
@@ -266,16 +237,6 @@ fn text(found: &CheckReport, data: &Path) -> String {
     let mut table = Table::new(&["folder".to_string(), data.display().to_string()]);
     let mut row = |name: &str, text: String| table.row(&[name, text.as_str()]);
     let (bytes, counted) = (values::bytes_shown, values::counted);
-    if let Some(moved) = &found.moved {
-        let counts = match found.counts {
-            Some(true) => "yes, as yet",
-            Some(false) => "no",
-            None => "as the store says, which does not answer",
-        };
-        row("counts", counts.into());
-        row("no service starts", format!("it {moved}"));
-    }
-    row("slots", found.slots.to_string());
     row("sink", found.sink.clone().unwrap_or_else(|| "none yet".into()));
     row("journal", format!("{}, {}", counted(found.segments, "segment"), bytes(found.journal_bytes)));
     row(

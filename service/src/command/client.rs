@@ -7,8 +7,8 @@ use crate::operate::{Status, OPERATOR};
 use anyhow::{anyhow, bail, Context, Result};
 use hyper::body::HttpBody;
 use hyper::client::conn;
-use hyper::header::{HeaderValue, AUTHORIZATION, CONTENT_TYPE, HOST};
-use hyper::{Body, Method, Request, Response};
+use hyper::header::{HeaderValue, AUTHORIZATION, CONTENT_TYPE, HOST, LOCATION};
+use hyper::{Body, Method, Request, Response, StatusCode};
 use serde::de::DeserializeOwned;
 use std::future::Future;
 use std::io;
@@ -30,6 +30,9 @@ const NO_PATH: &str = "no such path";
 /// Of an answer that is not as this program reads it.
 pub const OTHER_VERSION: &str = "the running service is of another version: ask it by its own totxegun";
 
+/// So many instances are asked, one after the other, where each says that the next one has it.
+const MOST_ASKED: usize = 32;
+
 /// What is read of an answer at most.
 const MOST: usize = 256 << 20;
 
@@ -46,24 +49,35 @@ pub struct Refused {
 struct Reply {
     status: u16,
     is_json: bool,
+    /// Which instance has what was asked for, HOST:PORT.
+    location: Option<String>,
     body: Vec<u8>,
 }
 
-/// Asks, and returns the answer's body where its status is 200, else its message. All that is asked for is JSON.
+/// Asks, and returns the answer's body where its status is 200, else its message. All that is asked for is JSON. An instance that
+/// says where to ask is left for that one.
 pub fn ask(at: &Address, method: Method, path: &str) -> Result<Vec<u8>> {
-    let place = at.place();
-    let token = at.token()?;
-    let has_token = token.is_some();
-    let reply = reply(&place, token, method, path, ANSWER)?;
+    let (mut place, token) = (at.place(), at.token()?);
+    let mut reply = reply(&place, token.as_deref(), &method, path, ANSWER)?;
+    for _ in 0..MOST_ASKED {
+        let Some(next) = reply.location.take() else { break };
+        crate::complain(format_args!("{}", message(&reply.body)));
+        place = next;
+        reply = self::reply(&place, token.as_deref(), &method, path, ANSWER)?;
+    }
+    read_reply(reply, &place, token.is_some())
+}
+
+fn read_reply(reply: Reply, place: &str, has_token: bool) -> Result<Vec<u8>> {
     match reply.status {
-        _ if !reply.is_json => bail!(another(&place)),
+        _ if !reply.is_json => bail!(another(place)),
         200 => Ok(reply.body),
         401 if !has_token => bail!(
             "the service at {place} takes this with an operator's token: give the file that has it by --token FILE"
         ),
         status => match message(&reply.body) {
-            said if said == NO_PATH => bail!(another(&place)),
-            said => bail!(Refused { place, status, said }),
+            said if said == NO_PATH => bail!(another(place)),
+            said => bail!(Refused { place: place.into(), status, said }),
         },
     }
 }
@@ -90,14 +104,8 @@ pub fn status(at: &Address) -> Result<Status> {
     read(at, Method::GET, "/status")
 }
 
-fn reply(
-    place: &str,
-    token: Option<String>,
-    method: Method,
-    path: &str,
-    patience: Duration,
-) -> Result<Reply> {
-    let mut request = Request::builder().method(&method).uri(path);
+fn reply(place: &str, token: Option<&str>, method: &Method, path: &str, patience: Duration) -> Result<Reply> {
+    let mut request = Request::builder().method(method).uri(path);
     if let Some(token) = token {
         request = request.header(AUTHORIZATION, format!("Bearer {token}"));
     }
@@ -107,7 +115,7 @@ fn reply(
     let request = request.body(Body::empty()).context("no request can be made")?;
     let asking = async {
         let answered = within(patience, place, asked(place, request)).await;
-        answered.unwrap_or_else(|| Err(late(place, &method, patience)))
+        answered.unwrap_or_else(|| Err(late(place, method, patience)))
     };
     let runtime = tokio::runtime::Builder::new_current_thread().enable_all().build();
     runtime.context("no connection can be made")?.block_on(asking)
@@ -183,7 +191,10 @@ where
 
 async fn body(place: &str, response: Response<Body>) -> Result<Reply> {
     let (head, mut body) = response.into_parts();
-    let kind = head.headers.get(CONTENT_TYPE).and_then(|kind| kind.to_str().ok());
+    let text = |name| head.headers.get(name).and_then(|value| value.to_str().ok());
+    let is_json = text(CONTENT_TYPE).is_some_and(|kind| kind.starts_with("application/json"));
+    let there = text(LOCATION).and_then(|at| at.strip_prefix("http://")?.split('/').next());
+    let location = there.filter(|_| is_json && head.status == StatusCode::TEMPORARY_REDIRECT);
     let mut bytes = Vec::new();
     while let Some(more) = body.data().await {
         bytes.extend_from_slice(&more.map_err(|error| part(place, error))?);
@@ -191,11 +202,7 @@ async fn body(place: &str, response: Response<Body>) -> Result<Reply> {
             bail!(another(place));
         }
     }
-    Ok(Reply {
-        status: head.status.as_u16(),
-        is_json: kind.is_some_and(|kind| kind.starts_with("application/json")),
-        body: bytes,
-    })
+    Ok(Reply { status: head.status.as_u16(), is_json, location: location.map(String::from), body: bytes })
 }
 
 fn part(place: &str, error: hyper::Error) -> anyhow::Error {
@@ -236,7 +243,7 @@ mod tests {
     use std::time::Instant;
 
     fn get(place: &str, patience: Duration) -> Result<Reply> {
-        reply(place, None, Method::GET, "/status", patience)
+        reply(place, None, &Method::GET, "/status", patience)
     }
 
     /// The address of somebody who answers one request so.
@@ -282,7 +289,7 @@ mod tests {
         let listener = TcpListener::bind("127.0.0.1:0").unwrap();
         let place = listener.local_addr().unwrap().to_string();
         let said = |method| {
-            let tried = reply(&place, None, method, "/flush", Duration::from_secs(1));
+            let tried = reply(&place, None, &method, "/flush", Duration::from_secs(1));
             format!("{:#}", tried.unwrap_err())
         };
         let order = said(Method::POST);
@@ -321,6 +328,23 @@ mod tests {
             at: Address,
         }
         <Line as clap::Parser>::parse_from(["totxegun", "--operate", place]).at
+    }
+
+    #[test]
+    fn who_says_where_to_ask_is_left_for_that_one() {
+        let last =
+            writes(b"HTTP/1.1 200 OK\r\ncontent-type: application/json\r\ncontent-length: 2\r\n\r\n{}");
+        let body = r#"{"message":"slot 1 is at instance b"}"#;
+        let head = "HTTP/1.1 307 Temporary Redirect\r\ncontent-type: application/json\r\n";
+        let sends = |location: &str| {
+            let answer = format!("{head}{location}content-length: {}\r\n\r\n{body}", body.len());
+            answers(move |stream| stream.write_all(answer.as_bytes()).unwrap())
+        };
+        let first = sends(&format!("location: http://{last}/dead/1-a-7/drop\r\n"));
+        assert_eq!(ask(&at(&first), Method::POST, "/dead/1-a-7/drop").unwrap(), b"{}");
+        let nowhere = sends("");
+        let said = format!("{:#}", ask(&at(&nowhere), Method::POST, "/dead/1-a-7/drop").unwrap_err());
+        assert!(said.contains("answered 307: slot 1 is at instance b"), "{said}");
     }
 
     /// Whatever its status is: else an order would be said to be done.

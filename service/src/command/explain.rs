@@ -127,7 +127,7 @@ fn unpacked(body: Vec<u8>) -> anyhow::Result<(bool, Vec<u8>)> {
     flate2::read::MultiGzDecoder::new(&body[..])
         .take(MOST + 1)
         .read_to_end(&mut plain)
-        .context("refused with 400: bad gzip")?;
+        .context("refused with 400: bad compression: no gzip")?;
     Ok((true, plain))
 }
 

@@ -2,9 +2,9 @@
 
 use super::ask::Address as Operate;
 use super::{client, series, values};
-use crate::sinks::export::Line;
 use crate::sinks::periods::{Closed, Period};
-use crate::sinks::{postgres, sqlite, Address};
+use crate::sinks::sql::export::{self, Line, What};
+use crate::sinks::Address;
 use anyhow::{bail, Context, Result};
 use clap::Args;
 use sha2::{Digest, Sha256};
@@ -66,36 +66,32 @@ impl Options {
         };
         let mut each = |line: Line| match self.csv {
             true => out.row(csv(&line).as_bytes()),
-            false => out.row(&series::object(&line, None)?),
+            false => out.row(&series::object(&line)?),
         };
-        let closed = match self.sink()? {
-            Address::Sqlite(path) => sqlite::export::read(&path, period, &mut each)?,
-            Address::Postgres(server) => postgres::export::read(&server, period, &mut each)?,
-            Address::Otlp { .. } => {
-                bail!("only a SQLite or PostgreSQL sink can be exported: ask the sink itself")
-            }
-        };
+        let sink = sink(self.sink.as_ref(), &self.at)?;
+        let closed = export::read(&sink, &What::Of(period.clone()), &mut each)?;
         out.end(period, &closed)
     }
+}
 
-    fn sink(&self) -> Result<Address> {
-        if let Some(sink) = &self.sink {
-            return Ok(sink.clone());
-        }
-        let status = client::status(&self.at).context(
-            "give the sink by --sink sqlite:PATH or --sink postgres://USER@HOST:PORT/DB: without it the running service is \
-             asked where it is",
-        )?;
-        if let Some(path) = status.sink.strip_prefix("sqlite ") {
-            return Ok(Address::Sqlite(path.into()));
-        }
-        match status.sink.strip_prefix("postgres ") {
-            Some(place) => bail!(
-                "the service delivers to PostgreSQL, {place}: give --sink postgres://USER@HOST:PORT/DB and PGPASSWORD, \
-                 of any role that may read it"
-            ),
-            None => bail!("the service delivers to {}, which can't be exported: ask it", status.sink),
-        }
+/// The sink that is read: the one that was given, or else the service's.
+pub(super) fn sink(given: Option<&Address>, at: &Operate) -> Result<Address> {
+    if let Some(sink) = given {
+        return Ok(sink.clone());
+    }
+    let status = client::status(at).context(
+        "give the sink by --sink sqlite:PATH or --sink postgres://USER@HOST:PORT/DB: without it the running service is \
+         asked where it is",
+    )?;
+    if let Some(path) = status.sink.strip_prefix("sqlite ") {
+        return Ok(Address::Sqlite(path.into()));
+    }
+    match status.sink.strip_prefix("postgres ") {
+        Some(place) => bail!(
+            "the service delivers to PostgreSQL, {place}: give --sink postgres://USER@HOST:PORT/DB and PGPASSWORD, \
+             of any role that may read it"
+        ),
+        None => bail!("the service delivers to {}, which can't be read here: ask it", status.sink),
     }
 }
 

@@ -11,7 +11,7 @@ use hyper::Method;
 
 #[derive(Subcommand)]
 pub enum Command {
-    /// Shows which there are, and why
+    /// Shows which there are, and why; of several instances, those of the one that is asked
     List(Shown),
     /// Prints the body of one, in JSON
     Show(OfKey),
@@ -43,7 +43,14 @@ const NONE: &str = "the sink has refused nothing for good";
 impl Command {
     pub fn run(self) -> Result<Vec<u8>> {
         match self {
-            Command::List(of) => client::shown(&of, "/dead", list),
+            Command::List(of) => {
+                let letters: Vec<Letter> = client::read(&of.at, Method::GET, "/dead")?;
+                tell_of_others(&of.at, letters.len());
+                match of.form.json {
+                    true => Ok(with_end(serde_json::to_vec(&letters)?)),
+                    false => Ok(list(letters).into()),
+                }
+            }
             Command::Show(OfKey { key, at }) => {
                 let body = client::ask(&at, Method::GET, &format!("/dead/{}", checked(&key)?))?;
                 Ok(with_end(body))
@@ -55,6 +62,18 @@ impl Command {
                 Ok(line(format_args!("done: {key} is thrown away")))
             }
         }
+    }
+}
+
+/// An instance lists the letters of its own slots: which other ones have more.
+fn tell_of_others(at: &Address, listed: usize) {
+    let Ok(status) = client::status(at) else { return };
+    let (more, cluster) = (status.dead.saturating_sub(listed as u64), status.cluster.unwrap_or_default());
+    let others = cluster.instances.iter().filter(|one| one.name != cluster.instance && one.slots > 0);
+    let others: Vec<&str> = others.map(|one| one.name.as_str()).collect();
+    if more > 0 && !others.is_empty() {
+        let (count, others) = (values::counted(more, "request"), others.join(" or "));
+        crate::complain(format_args!("{count} more at other instances: ask {others}, by --operate"));
     }
 }
 
@@ -88,6 +107,7 @@ struct All {
 /// behind it from the sink; but where the sink or the service does not answer each would be waited for.
 fn resend_all(at: &Address) -> Result<Vec<u8>> {
     let letters: Vec<Letter> = client::read(at, Method::GET, "/dead")?;
+    tell_of_others(at, letters.len());
     if letters.is_empty() {
         return Ok(line(NONE));
     }

@@ -13,9 +13,9 @@ use std::path::PathBuf;
 #[derive(Args)]
 #[command(next_help_heading = "Options of a store that several machines share")]
 pub(super) struct OfStore {
-    /// Keeps all in PostgreSQL, postgres://USER@HOST:PORT/DB, made by `store init`, and shares it with other instances: --data has this machine's socket and record of acts alone. Given again where the store has several databases
-    #[arg(long = "store", id = "store", env = "TOTXEGUN_STORE", value_name = "ADDRESS", hide_env_values = true, value_delimiter = '\n', value_parser = address, requires_all = ["instance", "peer"])]
-    databases: Vec<Server>,
+    /// Keeps all in PostgreSQL, postgres://USER@HOST:PORT/DB, made by `store init`, and shares it with other instances: --data has this machine's socket and record of acts alone
+    #[arg(long, env = "TOTXEGUN_STORE", value_name = "ADDRESS", hide_env_values = true, value_parser = address, requires_all = ["instance", "peer"])]
+    store: Option<Server>,
     /// This instance's name, which no other has
     #[arg(long, env = "TOTXEGUN_INSTANCE", value_name = "NAME", value_parser = name, requires = "store")]
     instance: Option<String>,
@@ -48,7 +48,7 @@ fn name(text: &str) -> Result<String, String> {
 
 impl OfStore {
     pub fn is_given(&self) -> bool {
-        !self.databases.is_empty()
+        self.store.is_some()
     }
 
     /// None where a folder has all. `pair` is what senders are shown.
@@ -60,14 +60,14 @@ impl OfStore {
     ) -> anyhow::Result<Option<Settings>> {
         self.check_plain()?;
         let peer_tls = self.peer_tls(pair)?;
-        let (Some(instance), Some(peer)) = (self.instance, self.peer) else {
+        let (Some(store), Some(instance), Some(peer)) = (self.store, self.instance, self.peer) else {
             return Ok(None);
         };
         if matches!(sink, Address::Sqlite(_)) {
             bail!("a SQLite file is one machine's: give --sink postgres://.. or http://.. beside --store");
         }
         Ok(Some(Settings {
-            databases: self.databases,
+            database: store,
             copies: copies(self.store_copies),
             instance,
             peer,

@@ -6,36 +6,29 @@ use anyhow::{bail, Result};
 use clap::Args;
 use std::time::Duration;
 
-/// Of spans, unless it is said: a month and its bill.
-const SPANS: MayBeNone = MayBeNone(Some(Duration::from_secs(35 * 86_400)));
+/// Of intervals, unless it is said: they are for plots alone.
+const INTERVALS: MayBeNone = MayBeNone(Some(Duration::from_secs(2 * 86_400)));
 
 #[derive(Args)]
 #[command(next_help_heading = "Options of a SQLite or PostgreSQL sink")]
 pub(super) struct OfRetention {
-    /// How long the sink keeps spans (a row a flush and series), or `forever` [default: 35d]
-    #[arg(long, env = "TOTXEGUN_KEEP_SPANS", value_name = "TIME", value_parser = time_or("forever"))]
-    keep_spans: Option<MayBeNone>,
+    /// How long the sink keeps intervals (a row a flush and series), or `forever` [default: 2d]
+    #[arg(long, env = "TOTXEGUN_KEEP_INTERVALS", value_name = "TIME", value_parser = time_or("forever"))]
+    keep_intervals: Option<MayBeNone>,
     /// How long the sink keeps hours (a row an hour and series), or `forever` [default: forever]
     #[arg(long, env = "TOTXEGUN_KEEP_HOURS", value_name = "TIME", value_parser = time_or("forever"))]
     keep_hours: Option<MayBeNone>,
-    /// Deletes the spans of a series none of which ended within so long, or `forever` [default: forever]
-    #[arg(long, env = "TOTXEGUN_KEEP_SERIES", value_name = "TIME", value_parser = time_or("forever"))]
-    keep_series: Option<MayBeNone>,
 }
 
 impl OfRetention {
     /// What an OTLP sink keeps is its own matter: for it these options are a mistake.
     pub fn retention(self, sink: &Address) -> Result<Retention> {
-        let all = [self.keep_spans, self.keep_hours, self.keep_series];
+        let all = [self.keep_intervals, self.keep_hours];
         if matches!(sink, Address::Otlp { .. }) && all.iter().any(Option::is_some) {
-            bail!("--keep-spans, --keep-hours and --keep-series are for a sink of SQLite or PostgreSQL: leave them out");
+            bail!("--keep-intervals and --keep-hours are for a sink of SQLite or PostgreSQL: leave them out");
         }
-        let [spans, hours, series] = all;
-        Ok(Retention {
-            spans: spans.unwrap_or(SPANS).0,
-            hours: hours.and_then(|hours| hours.0),
-            series: series.and_then(|series| series.0),
-        })
+        let [intervals, hours] = all;
+        Ok(Retention { intervals: intervals.unwrap_or(INTERVALS).0, hours: hours.and_then(|hours| hours.0) })
     }
 }
 
@@ -55,14 +48,14 @@ mod tests {
     const DAY: u64 = 86_400;
 
     #[test]
-    fn spans_go_after_35_days_and_the_rest_stays() {
+    fn intervals_go_after_two_days_and_the_rest_stays() {
         let days = |days| Some(Duration::from_secs(days * DAY));
         let found = keep("sqlite:a", &[]).unwrap();
-        let wanted = Retention { spans: days(35), ..Retention::default() };
+        let wanted = Retention { intervals: days(2), ..Retention::default() };
         assert_eq!(found, wanted);
-        let options = ["--keep-spans", "forever", "--keep-hours", "730d", "--keep-series", "48h"];
+        let options = ["--keep-intervals", "forever", "--keep-hours", "730d"];
         let found = keep("postgres://u@h/d", &options).unwrap();
-        let wanted = Retention { spans: None, hours: days(730), series: days(2) };
+        let wanted = Retention { intervals: None, hours: days(730) };
         assert_eq!(found, wanted);
     }
 

@@ -1,8 +1,8 @@
 //! A series and what it counted, as `totals --json` and `export --json` print it: an object on a line.
 
 use super::with_end;
-use crate::sinks::export::Line;
-use crate::sinks::sqlite::totals::Kind;
+use crate::sinks::sql::export::{Line, Times};
+use crate::sinks::sql::totals::Kind;
 use anyhow::{Context, Result};
 use serde::Serialize;
 use serde_json::value::RawValue;
@@ -30,15 +30,8 @@ struct Object<'a> {
     times: Option<&'a Times>,
 }
 
-/// When the first of its points began and the last one ended: `2026-11-05T13:30:15Z`.
-#[derive(Debug, PartialEq, Eq, Serialize)]
-pub struct Times {
-    pub since: String,
-    pub until: String,
-}
-
 /// With its line's end. An export is of one period, and has no times.
-pub fn object(line: &Line, times: Option<&Times>) -> Result<Vec<u8>> {
+pub fn object(line: &Line) -> Result<Vec<u8>> {
     let object = Object {
         series: line.series.to_string(),
         name: &line.name,
@@ -56,7 +49,7 @@ pub fn object(line: &Line, times: Option<&Times>) -> Result<Vec<u8>> {
         count: line.count.as_deref(),
         bounds: texts(line.bounds.as_deref())?,
         buckets: texts(line.buckets.as_deref())?,
-        times,
+        times: line.times.as_ref(),
     };
     serde_json::to_vec(&object).map(with_end).context("a series can't be written")
 }
@@ -95,18 +88,19 @@ mod tests {
             count: Some("9007199254740993".into()),
             bounds: Some(raw("[-1, 5]")),
             buckets: Some(raw("[0,9007199254740993,0]")),
+            times: None,
         }
     }
 
     #[test]
     fn numbers_are_texts_and_attributes_are_objects() {
         let written = r#"{"series":"7","name":"wait","kind":"histogram","unit":"us","attributes":{"code":200,"route":"/"},"resource":{},"scope_name":"lib","scope_version":"","scope_attributes":{},"points":"3","total":"9223372036854775810","corrections":"-5","billed":"9223372036854775805","count":"9007199254740993","bounds":["-1","5"],"buckets":["0","9007199254740993","0"]"#;
-        assert_eq!(object(&line(), None).unwrap(), format!("{written}}}\n").into_bytes());
+        assert_eq!(object(&line()).unwrap(), format!("{written}}}\n").into_bytes());
         let times = Times { since: "2026-11-05T13:30:15Z".into(), until: "2026-11-05T14:00:00Z".into() };
         let with_times = format!("{written},\"since\":\"{}\",\"until\":\"{}\"}}\n", times.since, times.until);
-        assert_eq!(object(&line(), Some(&times)).unwrap(), with_times.into_bytes());
+        assert_eq!(object(&Line { times: Some(times), ..line() }).unwrap(), with_times.into_bytes());
         let sum = Line { kind: Kind::Sum, count: None, bounds: None, buckets: None, ..line() };
-        let written = String::from_utf8(object(&sum, None).unwrap()).unwrap();
+        let written = String::from_utf8(object(&sum).unwrap()).unwrap();
         assert!(written.ends_with("\"count\":null,\"bounds\":null,\"buckets\":null}\n"), "{written}");
     }
 }

@@ -197,7 +197,7 @@ impl Options {
     fn settings(self, most_files: u64, metrics: Arc<Metrics>) -> Result<Settings, Ended> {
         let most_connections = self.connections(most_files);
         core::bound_memory(self.of_book.memory());
-        metrics.most_series(self.of_book.most_series);
+        metrics.limit_series(self.of_book.most_series);
         let data = absolute(&self.data)?;
         let sink = match self.sink {
             Some(sink) => sink,

@@ -1,6 +1,7 @@
 //! Values of options: times and sizes as people write them.
 
 use crate::otlp::NO_NAME;
+use std::fmt::Display;
 use std::path::{Path, PathBuf};
 use std::time::Duration;
 
@@ -75,6 +76,23 @@ fn scaled(text: &str, units: &[(&str, u64)]) -> Option<u64> {
     let (number, unit) = text.split_at(digits);
     let (_, scale) = units.iter().find(|(name, _)| name.eq_ignore_ascii_case(unit))?;
     number.parse::<u64>().ok()?.checked_mul(*scale)
+}
+
+/// A whole number in groups of three digits.
+pub fn grouped(number: impl Display) -> String {
+    let text = number.to_string();
+    let (sign, digits) = match text.strip_prefix('-') {
+        Some(digits) => ("-", digits),
+        None => ("", &text[..]),
+    };
+    let mut grouped = sign.to_string();
+    for (place, digit) in digits.chars().enumerate() {
+        if place > 0 && (digits.len() - place) % 3 == 0 {
+            grouped.push(',');
+        }
+        grouped.push(digit);
+    }
+    grouped
 }
 
 /// `1 request`, `2 requests`.
@@ -169,6 +187,12 @@ mod tests {
         assert_eq!(shown(&["-"]), "1 sender: - (who names none)");
         assert_eq!(shown(&["none"]), "1 sender: none");
         assert_eq!(shown(&["-", "shop-1"]), "2 senders: - (who names none), shop-1");
+    }
+
+    #[test]
+    fn numbers_are_in_groups() {
+        let numbers = ["0", "999", "1000", "-1234567", "18446744073709551616"].map(grouped);
+        assert_eq!(numbers, ["0", "999", "1,000", "-1,234,567", "18,446,744,073,709,551,616"]);
     }
 
     #[test]

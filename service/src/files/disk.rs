@@ -13,7 +13,7 @@ use super::drive::{is_lost, Drive, Lost};
 use super::Fault;
 pub use file::{Cursor, File};
 use nix::fcntl::{fallocate, FallocateFlags, OFlag};
-use owned::{Aboard, Owned};
+use owned::Owned;
 use std::fs::{DirBuilder, OpenOptions};
 use std::io;
 use std::os::fd::AsRawFd;
@@ -227,7 +227,7 @@ impl Disk {
                 Ok(File::OfFolder(file))
             }
             Some(owned) => {
-                let number = owned.change(|drive| drive.create(path))?;
+                let number = owned.call(|drive| drive.create(path))?;
                 Ok(File::OfDrive(owned.clone(), number))
             }
         })
@@ -245,7 +245,7 @@ impl Disk {
     pub fn write_at(&self, file: &File, path: &Path, bytes: &[u8], at: u64) -> Result<(), Fault> {
         self.call(Call::Write, path, || match file {
             File::OfFolder(file) => file.write_all_at(bytes, at),
-            File::OfDrive(owned, number) => owned.change(|drive| drive.write_at(*number, bytes, at)),
+            File::OfDrive(owned, number) => owned.call(|drive| drive.write_at(*number, bytes, at)),
         })
     }
 
@@ -266,9 +266,19 @@ impl Disk {
         })
     }
 
-    /// Of a drive, once a sync may begin, which follows at once: what this returns is kept until then.
-    pub fn board(&self) -> Option<Aboard> {
-        self.drive.as_ref().map(Owned::board)
+    /// Of a drive, how many changes were made so far.
+    pub fn changes(&self) -> Option<u64> {
+        self.drive.as_ref().map(|owned| owned.changes())
+    }
+
+    /// The same with one more, which is durable only with a sync that begins from here on.
+    pub fn touch(&self) -> Option<u64> {
+        self.drive.as_ref().map(|owned| owned.touch())
+    }
+
+    /// Of a drive, how many changes are durable.
+    pub fn durable(&self) -> Option<u64> {
+        self.drive.as_ref().map(|owned| owned.durable())
     }
 
     /// Makes a folder's names durable; of a drive all that was done.
@@ -298,14 +308,14 @@ impl Disk {
     pub fn rename(&self, from: &Path, to: &Path) -> Result<(), Fault> {
         self.call(Call::Rename, to, || match &self.drive {
             None => std::fs::rename(from, to),
-            Some(owned) => owned.change(|drive| drive.rename(from, to)),
+            Some(owned) => owned.call(|drive| drive.rename(from, to)),
         })
     }
 
     pub fn remove(&self, path: &Path) -> Result<(), Fault> {
         self.call(Call::Remove, path, || match &self.drive {
             None => std::fs::remove_file(path),
-            Some(owned) => owned.change(|drive| drive.remove(path)),
+            Some(owned) => owned.call(|drive| drive.remove(path)),
         })
     }
 

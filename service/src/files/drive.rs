@@ -33,13 +33,14 @@ pub trait Drive: Send + Sync {
     fn rename(&self, from: &Path, to: &Path) -> io::Result<()>;
     /// `NotFound` where there is none.
     fn remove(&self, name: &Path) -> io::Result<()>;
-    /// Returns once a sync may begin, where it waits for others: what is done meanwhile is in it too. The sync follows at once.
-    fn board(&self) {}
-    /// No sync follows, where none has: others wait for it no more.
-    fn leave(&self) {}
-    /// Waits until all is durable that was done before the call, and the slot was still this owner's: also where nothing
-    /// was done, a commit under its term has come that began after the call. It fails by `Lost` alone.
-    fn sync(&self) -> io::Result<()>;
+    /// How many changes were made so far.
+    fn changes(&self) -> u64;
+    /// Counts a change more, of nothing, also of a lost slot.
+    fn touch(&self) -> u64;
+    /// Blocks until every earlier change is durable: how many changes are, which may be later ones too. Always commits under our
+    /// term, even if nothing changed, so success also proves that we owned the slot after the call began. It fails by `Lost`
+    /// alone.
+    fn sync(&self) -> io::Result<u64>;
     /// How long the sync that began first has waited; zero where none does.
     fn under_way(&self) -> Duration;
     /// The term under which it was taken, where a sink may know it.

@@ -3,15 +3,14 @@
 //! | file | what it is |
 //! |---|---|
 //! | `lock` | locked by the service that has the folder |
-//! | `version` | lines: `totxegun 1`, the format's version; `epoch`, 16 hexadecimal digits; `lock`, the inode of the lock's file; of version 2 `slots`, how many there are; `born`, when the lock's file was made, in nanoseconds since 1970, where the file system knows it; `begun`, of each slot `N:M` where a start has begun the journal's segment M; `sink`, the id (or `-`), kind and address of the sink; `move`, where its content is on its way into a store or out of one, or has gone there: `leaving`, `left` or `coming`, the move, the store; then the format's version is 3 |
-//! | `slot-N/journal`, `slot-N/outbox` | segments. Where N is no slot any more, its outbox has what the sink has not taken |
+//! | `version` | lines: `totxegun 1`, the format's version; `epoch`, 16 hexadecimal digits; `lock`, the inode of the lock's file; `born`, when the lock's file was made, in nanoseconds since 1970, if the file system knows it; `begun`, the journal's segment that the last start has begun; `sink`, the id (or `-`), kind and address of the sink; `moved`, the store that has all of it: then no service starts on it |
+//! | `slot-0/journal`, `slot-0/outbox` | segments |
 //! | `dead/` | one file a request that was refused for good |
 //!
 //! A folder that was copied, or put back from a copy, has a lock of another inode, or of the same inode and another
 //! birth. Then a new epoch is drawn: what is forwarded from then on has other keys than what the first folder forwarded.
 //! What waits in the outbox keeps its keys, for it has the same bytes. A copy of the whole disk looks as the first one.
 
-mod mark;
 mod sink;
 mod usable;
 mod version;
@@ -30,12 +29,11 @@ use std::path::{Path, PathBuf};
 use std::sync::{Arc, Mutex};
 use std::time::{Duration, Instant};
 
-pub use mark::{Mark, Way};
 pub use sink::KnownSink;
 use version::{Identity, Version};
 
-/// Of one service.
-pub const MOST_SLOTS: u16 = 64;
+/// Where journal and outbox are. A store has several such slots; a folder has this one alone.
+const SLOT: &str = "slot-0";
 const LOST_SLOT: &str =
     "has no segments, and this folder is not new: put all of the slot's folder back, or move the \
                          folder away and start with a new one. Nothing was deleted";
@@ -49,6 +47,13 @@ pub enum FolderFault {
     /// Nothing is wrong with what is in it, and nothing was changed.
     #[error("{} {what}", path.display())]
     Unusable { path: PathBuf, what: String },
+    /// By its epoch the store knows it.
+    #[error(
+        "{0} was moved into the store {store}: start with --store {store}. If the store does not count yet, call `totxegun store \
+         move --from {0} {store}` again",
+        path.display()
+    )]
+    Moved { path: PathBuf, epoch: String, store: String },
     #[error(transparent)]
     Fault(#[from] Fault),
 }
@@ -60,8 +65,6 @@ pub struct Folder {
     durability: Durability,
     free_space: Arc<FreeSpace>,
     version: Mutex<Version>,
-    /// It was made by this start.
-    is_new: bool,
     locks: Arc<Locks>,
 }
 
@@ -86,28 +89,18 @@ impl Folder {
         }
         let locks = Arc::new(locks_of(path)?);
         let free_space = Arc::new(FreeSpace::new(path)?);
-        let known = Version::read(path)?;
-        if known.is_none() {
-            check_new(&disk, path)?;
-        }
+        let known = find(&disk, path)?;
         let folder = Folder {
             disk: disk.locked(&locks),
             path: path.into(),
             durability,
             free_space,
             version: Mutex::new(known.clone().unwrap_or_default()),
-            is_new: known.is_none(),
             locks,
         };
         let found = folder.identity()?;
         match known {
-            Some(known) if known.lock.may_be(found) => {
-                let is_older = known.lock.born.is_none() && found.born.is_some();
-                *locked(&folder.version) = known;
-                if is_older {
-                    folder.change(|version| version.lock = found)?;
-                }
-            }
+            Some(known) if known.lock.may_be(found) => {}
             known => {
                 let epoch = folder.renew_epoch()?;
                 if known.is_some() {
@@ -133,6 +126,27 @@ impl Folder {
         !found.is_ok_and(|found| version.lock.may_be(found))
     }
 
+    /// Fails if no service starts on the folder, whoever has it: it was moved into a store, or is of another version.
+    pub fn check_usable(path: &Path) -> Result<(), FolderFault> {
+        find(&Disk::default(), path).map(drop)
+    }
+
+    /// The store has all of it: no service starts on it from now on. Durable, or not done, when this returns.
+    pub fn set_moved(&self, store: &str) -> Result<(), Fault> {
+        self.change(|version| version.moved = Some(store.into()))
+    }
+
+    /// By which its requests' keys, and the store that it is moved into, are told from those of its copies.
+    pub fn epoch(&self) -> String {
+        locked(&self.version).epoch.clone()
+    }
+
+    /// Whether nothing was ever kept there.
+    pub fn is_empty(&self) -> bool {
+        let has = |name: &str| self.path.join(name).exists();
+        locked(&self.version).begun.is_none() && !has(SLOT) && !has("dead")
+    }
+
     /// Draws a new epoch, for a folder that was put back in a way that a start can't see. It is that of the slots
     /// that are opened from then on; what waits in an outbox keeps its own.
     pub fn renew_epoch(&self) -> Result<String, Fault> {
@@ -143,16 +157,6 @@ impl Folder {
         let lock = self.identity()?;
         self.change(|version| (version.epoch, version.lock) = (epoch.clone(), lock))?;
         Ok(epoch)
-    }
-
-    /// How many slots share the senders.
-    pub fn slots(&self) -> u16 {
-        locked(&self.version).slots.unwrap_or(1)
-    }
-
-    /// Durable, or not done, when this returns: a start finds the one number or the other.
-    pub fn set_slots(&self, slots: u16) -> Result<(), Fault> {
-        self.change(|version| version.slots = Some(slots))
     }
 
     fn change(&self, make: impl FnOnce(&mut Version)) -> Result<(), Fault> {
@@ -176,57 +180,50 @@ impl Folder {
         self
     }
 
-    /// The files of a slot. What an earlier run wrote is synced before it is believed.
-    pub fn slot(&self, number: u16) -> Result<(Journal, Outbox), Fault> {
-        let (outbox, left) = self.begin_slot(number)?;
-        Ok((self.journal(number, &outbox, left)?, outbox))
+    /// Journal and outbox. What an earlier run wrote is synced before it is believed.
+    pub fn slot(&self) -> Result<(Journal, Outbox), Fault> {
+        let (outbox, left) = self.begin_slot()?;
+        Ok((self.journal(&outbox, left)?, outbox))
     }
 
     /// The outbox, which is not begun, and what an earlier run left in the journal, which is as it was.
-    pub fn begin_slot(&self, number: u16) -> Result<(Outbox, Left), Fault> {
-        let folder = self.of_slot(number).join("journal");
+    pub fn begin_slot(&self) -> Result<(Outbox, Left), Fault> {
+        let folder = self.path.join(SLOT).join("journal");
         // Side by side: what is only read waits for nothing.
         let (outbox, left) = std::thread::scope(|scope| {
             let left = scope.spawn(|| match folder.exists() {
                 true => Left::read(&self.disk, &folder),
                 false => Ok(Left::default()),
             });
-            (self.read_outbox(number), left.join())
+            (self.read_outbox(), left.join())
         });
         let outbox = outbox?;
         Ok((outbox, left.unwrap_or_else(|panic| std::panic::resume_unwind(panic))?))
     }
 
     /// The journal, which goes on behind what was left in it; the outbox is begun before.
-    pub fn journal(&self, number: u16, outbox: &Outbox, left: Left) -> Result<Journal, Fault> {
+    pub fn journal(&self, outbox: &Outbox, left: Left) -> Result<Journal, Fault> {
         outbox.begin()?;
-        let begun = locked(&self.version).begun.get(&number).copied();
+        let begun = locked(&self.version).begun;
         let journal = Journal::go_on(
             &self.disk,
-            &self.of_slot(number).join("journal"),
+            &self.path.join(SLOT).join("journal"),
             self.durability,
             self.free_space.clone(),
             &Expected { reach: outbox.journal(), begun, by: outbox.ended() },
             left,
         )?;
         if begun != Some(journal.begun()) {
-            self.change(|version| {
-                version.begun.insert(number, journal.begun());
-            })?;
+            self.change(|version| version.begun = Some(journal.begun()))?;
         }
         Ok(journal)
     }
 
-    /// The outbox alone, of a slot whose journal has nothing more.
-    pub fn outbox(&self, number: u16) -> Result<Outbox, Fault> {
-        self.read_outbox(number)?.begun()
-    }
-
-    fn read_outbox(&self, number: u16) -> Result<Outbox, Fault> {
-        let slot = self.of_slot(number);
+    fn read_outbox(&self) -> Result<Outbox, Fault> {
+        let slot = self.path.join(SLOT);
         let (journal, outbox) = (slot.join("journal"), slot.join("outbox"));
         let was_made = outbox.exists() && !segment::numbers(&self.disk, &outbox)?.is_empty();
-        if !was_made && locked(&self.version).begun.contains_key(&number) {
+        if !was_made && locked(&self.version).begun.is_some() {
             return Err(Fault::Damaged { path: outbox, at: 0, what: LOST_SLOT.into() });
         }
         for path in [&slot, &journal, &outbox] {
@@ -234,29 +231,7 @@ impl Folder {
         }
         self.disk.sync_folder(&slot)?;
         self.disk.sync_folder(&self.path)?;
-        let epoch = match self.is_new || was_made {
-            true => locked(&self.version).epoch.clone(),
-            // It counts from 1 again, and an outbox that was there and is gone has used these keys.
-            false => self.renew_epoch()?,
-        };
-        Outbox::read(&self.disk, &outbox, &epoch, self.free_space.clone())
-    }
-
-    fn of_slot(&self, number: u16) -> PathBuf {
-        self.path.join(format!("slot-{number}"))
-    }
-
-    /// The slots that have files, or had them, also those that there are no more, ascending.
-    pub fn slots_with_files(&self) -> Result<Vec<u16>, Fault> {
-        let mut found = Vec::new();
-        for name in self.disk.names(&self.path)? {
-            let number = name.to_str().and_then(|name| name.strip_prefix("slot-")?.parse().ok());
-            found.extend(number.filter(|number| self.of_slot(*number).ends_with(&name)));
-        }
-        found.extend(locked(&self.version).begun.keys());
-        found.sort_unstable();
-        found.dedup();
-        Ok(found)
+        Outbox::read(&self.disk, &outbox, &self.epoch(), self.free_space.clone())
     }
 
     pub fn dead(&self) -> Result<Dead, Fault> {
@@ -304,12 +279,34 @@ fn take_lock(file: &File) -> Result<(), Errno> {
     }
 }
 
+/// The version of a folder on which a service may start; none of a new one.
+fn find(disk: &Disk, folder: &Path) -> Result<Option<Version>, FolderFault> {
+    let version = Version::read(folder)?;
+    match &version {
+        Some(version) => version.check_here(folder)?,
+        None => check_new(disk, folder)?,
+    }
+    check_alone(disk, folder)?;
+    Ok(version)
+}
+
 /// A folder without a version has no slot either.
 fn check_new(disk: &Disk, folder: &Path) -> Result<(), Fault> {
     for name in disk.names(folder)? {
         if name.to_str().is_some_and(|name| name.starts_with("slot-") || name == "dead") {
             let what = "this file is missing, and the folder is not new: put it back".into();
             return Err(Fault::Damaged { path: folder.join("version"), at: 0, what });
+        }
+    }
+    Ok(())
+}
+
+/// What is in another slot nobody would deliver.
+fn check_alone(disk: &Disk, folder: &Path) -> Result<(), FolderFault> {
+    for name in disk.names(folder)? {
+        if name != SLOT && name.as_encoded_bytes().starts_with(b"slot-") {
+            let what = format!("is no part of a folder, which has {SLOT} alone: move it out of this folder");
+            return Err(FolderFault::Unusable { path: folder.join(name), what });
         }
     }
     Ok(())

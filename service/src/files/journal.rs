@@ -2,18 +2,18 @@
 //!
 //! | kind | bytes |
 //! |---|---|
-//! | 16 post, 17 copy (of 0.5.0) | seconds since 1970 (u64), foreign points (u64), length of the sender's name (u64), name, body |
-//! | 18 held | JSON: of each quarantined sender its name, how many of its posts are in its own file, and where they end there |
-//! | 19 name | number, JSON: a request of one point, whose series has the number in this file from here on |
-//! | 20 points | as a post, but its body is points, and packed as its numbers are (`packed`) |
-//! | 21 runs | the same of points some of which were made of cumulative ones: ahead of them is what their runs are (`packed::runs`) |
-//! | 22 name after another | number, how many bytes its request begins with of the name before in this file, with how many it ends behind these, what is between |
+//! | 16 post | seconds since 1970 (u64), foreign points (u64), length of the sender's name (u64), name, body |
+//! | 17 held | JSON: of each quarantined sender its name, how many of its posts are in its own file, and where they end there |
+//! | 18 name | number, JSON: a request of one point, whose series has the number in this file from here on |
+//! | 19 points | as a post, but its body is points, and packed as its numbers are (`packed`) |
+//! | 20 runs | the same of points some of which were made of cumulative ones: ahead of them is what their runs are (`packed::runs`) |
+//! | 21 name after another | number, how many bytes its request begins with of the name before in this file, with how many it ends behind these, what is between |
 //!
-//! Numbers of 19 and 22 are packed. A name is written with the first points of a segment that need it, by the same write.
+//! Numbers of 18 and 21 are packed. A name is written with the first points of a segment that need it, by the same write.
 //!
 //! A record gets its place under one short lock, so that the order in the file is the order of the calls, and is in memory
-//! until the next write, which is for all that were appended (`write`). One thread syncs, once for all that wait, and where posts
-//! are only written another writes; nobody who must wait for the disk holds the lock of those who append.
+//! until the next write, which is for all that were appended (`write`). One thread syncs, once for all that wait; if posts are only
+//! written, each serving thread writes (`work/own_call`). Nobody who must wait for the disk holds the lock of those who append.
 
 mod by_number;
 mod earlier_segment;
@@ -35,7 +35,7 @@ use super::free_space::FreeSpace;
 use super::records::{self, Which};
 use super::segment::{self, Ahead, Dropped, Segment};
 use super::{locked, seconds, Durability, Fault};
-use crate::work::others_first;
+use crate::work::{others_first, own_call};
 pub use by_number::ByNumber;
 pub use held::Held;
 pub use name_records::shared_ends;
@@ -50,18 +50,17 @@ use std::time::Duration;
 use watermark::Watermark;
 
 const POST: u8 = records::OWN;
-const COPY: u8 = records::OWN + 1;
-const HELD: u8 = records::OWN + 2;
-const NAME: u8 = records::OWN + 3;
-const POINTS: u8 = records::OWN + 4;
-const RUNS: u8 = records::OWN + 5;
-const NAME_AFTER: u8 = records::OWN + 6;
+const HELD: u8 = records::OWN + 1;
+const NAME: u8 = records::OWN + 2;
+const POINTS: u8 = records::OWN + 3;
+const RUNS: u8 = records::OWN + 4;
+const NAME_AFTER: u8 = records::OWN + 5;
 
 /// How the thread is named that syncs, and the one that writes.
 pub(super) const SYNCER: &str = "journal";
 const WRITER: &str = "journal-write";
 
-/// A place in the journal: all that was appended before it.
+/// A place in the journal: all that was appended before it. Of a drive it is how many changes the drive has had.
 #[derive(Clone, Copy, Debug, PartialEq, Eq, PartialOrd, Ord)]
 pub struct Ticket(pub u64);
 
@@ -79,8 +78,8 @@ pub struct Journal {
 pub(super) struct Expected {
     /// The first segment whose posts are in no group, by the outbox.
     pub reach: u64,
-    /// The segment that the last start has begun. Its name, and those from `reach` on, are there for good. None in a
-    /// folder in which no start has noted that.
+    /// The segment that the last start has begun. Its name, and those from `reach` on, are there for good. None before the
+    /// first start has noted that.
     pub begun: Option<u64>,
     /// Which segment of the outbox says so, and where that one ended.
     pub by: (PathBuf, u64),
@@ -144,13 +143,13 @@ impl Journal {
         let length = (names.len() + record.len()) as u64;
         shared.free_space.use_up(length);
         place.segment.append(&[&names, &record]);
-        if shared.disk.keeps_order() {
-            // What a drive has is in memory until its sync anyway.
-            if let Err(fault) = place.segment.write() {
-                let Lost = shared.disk.fail(fault);
-            }
+        // What a drive has is in memory until its sync anyway.
+        let written = if shared.disk.keeps_order() { place.segment.write() } else { Ok(()) };
+        shared.set_ticket(&mut place);
+        if let Err(fault) = written {
+            let Lost = shared.disk.fail(fault);
+            shared.set_late_ticket(&mut place); // which never becomes durable
         }
-        place.ticket += 1;
         place.moved.remove(&post.sender);
         if let Some(size) = locked(&shared.sizes).last_mut() {
             size.bytes += length;
@@ -178,7 +177,7 @@ impl Journal {
     /// appended: so it is known then that the slot was still this instance's.
     pub fn now(&self) -> Ticket {
         let mut place = locked(&self.shared.place);
-        place.ticket += u64::from(self.shared.disk.keeps_order());
+        self.shared.set_late_ticket(&mut place);
         Ticket(place.ticket)
     }
 
@@ -186,8 +185,10 @@ impl Journal {
     pub async fn durable(&self, ticket: Ticket) -> Result<(), Lost> {
         let Shared { disk, durable, written, .. } = &*self.shared;
         match self.shared.durability {
-            Durability::Disk => durable.wait_for(ticket.0, disk, async {}).await,
-            Durability::Process => written.wait_for(ticket.0, disk, others_first()).await,
+            Durability::Disk => durable.wait_for(ticket.0, disk, || false, async {}).await,
+            Durability::Process => {
+                written.wait_for(ticket.0, disk, || own_call::ask(&self.shared), others_first()).await
+            }
         }
     }
 
@@ -286,6 +287,16 @@ impl Journal {
 }
 
 impl Shared {
+    /// A ticket for what was appended just now.
+    fn set_ticket(&self, place: &mut Place) {
+        place.ticket = self.disk.changes().unwrap_or(place.ticket + 1);
+    }
+
+    /// Of a drive, a ticket for a sync that begins later.
+    fn set_late_ticket(&self, place: &mut Place) {
+        place.ticket = self.disk.touch().unwrap_or(place.ticket);
+    }
+
     fn begin(&self, place: &mut Place, number: u64) -> Result<(), Fault> {
         place.segment.end()?;
         let mut prepared = locked(&self.next);
@@ -304,7 +315,7 @@ impl Shared {
         place.ended.push((ended.file, ended.path));
         place.named = false;
         place.said = NamedNumbers::default();
-        place.ticket += 1;
+        self.set_ticket(place);
         place.kept = place.ticket;
         locked(&self.sizes).push(Size { number, bytes: 0, first: None });
         Ok(())

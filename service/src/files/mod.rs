@@ -22,7 +22,7 @@ pub(crate) use disk::FAILED;
 #[cfg(test)]
 pub(crate) use disk::{Call, Disk};
 pub use drive::{Drive, Lost};
-pub use folder::{Folder, FolderFault, KnownSink, Mark, Way, MOST_SLOTS};
+pub use folder::{Folder, FolderFault, KnownSink};
 pub(crate) use free_space::FreeSpace;
 pub use journal::{
     shared_ends, Body, ByNumber, Held, Journal, Left, Names, NoNames, OfRun, Points, Post, Replayed, Ticket,
@@ -46,7 +46,7 @@ pub enum Durability {
 pub enum Fault {
     #[error("{path}: {source}")]
     Io { path: std::path::PathBuf, source: std::io::Error },
-    /// Something in the middle of a file was changed, or is of a later version. Nothing was deleted.
+    /// Something in the middle of a file was changed, or is of another version. Nothing was deleted.
     #[error("{path}, byte {at}: {what}")]
     Damaged { path: std::path::PathBuf, at: u64, what: String },
     /// The slot is another instance's: it ends here, and nothing else does.
@@ -55,7 +55,7 @@ pub enum Fault {
 }
 
 /// Nanoseconds since 1970.
-fn nanoseconds() -> u64 {
+pub(crate) fn nanoseconds() -> u64 {
     let since = std::time::SystemTime::now().duration_since(std::time::UNIX_EPOCH);
     since.map_or(0, |since| u64::try_from(since.as_nanos()).unwrap_or(u64::MAX))
 }

@@ -166,7 +166,7 @@ impl Outbox {
 
     /// When what is known here began.
     pub fn since(&self) -> Since {
-        locked(&self.state).facts.since.unwrap_or_default()
+        locked(&self.state).facts.since
     }
 
     /// Where series ended that were forgotten.

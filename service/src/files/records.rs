@@ -36,17 +36,8 @@ pub enum Which {
     Held = 3,
 }
 
-impl Which {
-    /// Of the records and of what is in them. A journal of version 1 has no points by number, one of version 2 no runs,
-    /// nor has an outbox of version 1, and one of version 3 no name behind another; an outbox of version 2 has no units
-    /// beside others. totxegun up to 0.5.0 reads version 1 alone.
-    fn version(self) -> u16 {
-        match self {
-            Which::Outbox => 3,
-            Which::Journal | Which::Held => 4,
-        }
-    }
-}
+/// Of the records and of what is in them, in each file.
+const VERSION: u16 = 1;
 
 /// Appends a record made of parts.
 pub fn put(out: &mut Vec<u8>, kind: u8, parts: &[&[u8]]) {
@@ -63,7 +54,7 @@ pub fn put(out: &mut Vec<u8>, kind: u8, parts: &[&[u8]]) {
 
 pub fn header(which: Which, number: u64) -> Vec<u8> {
     let mut out = Vec::new();
-    put(&mut out, HEADER, &[MAGIC, &which.version().to_le_bytes(), &[which as u8], &number.to_le_bytes()]);
+    put(&mut out, HEADER, &[MAGIC, &VERSION.to_le_bytes(), &[which as u8], &number.to_le_bytes()]);
     out
 }
 
@@ -156,10 +147,10 @@ impl Reader {
             return Err(self.damaged(0, "is not a file of totxegun; move it out of this folder"));
         }
         let version = u16::from_le_bytes([bytes[8], bytes[9]]);
-        let latest = which.version();
-        if version > latest {
+        if version != VERSION {
             let what = format!(
-                "is of format version {version}, and this totxegun reads up to {latest}: start the later totxegun that wrote it"
+                "is of format version {version}, and this totxegun reads {VERSION} alone: start the totxegun that wrote it, or \
+                 give another --data"
             );
             return Err(self.damaged(0, &what));
         }

@@ -200,7 +200,7 @@ pub struct Says {
 impl Segment {
     /// Makes a segment that has its header alone, and no name yet. With a number of segments that are in groups its marks
     /// say that, and how long it is, and the first mark is ahead of the header: so also a segment that was cut anywhere has
-    /// it, and an earlier totxegun passes over it. That mark holds once the segment is synced: it may have no name before.
+    /// it. That mark holds once the segment is synced: it may have no name before.
     pub fn create(
         disk: &Disk,
         folder: &Path,

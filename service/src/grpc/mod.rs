@@ -14,7 +14,7 @@ mod timeout;
 pub use connections::Grpc;
 
 use crate::identity::Who;
-use crate::intake::head::{Head, Packing};
+use crate::intake::head::{named_packing, Head, Packing};
 use crate::intake::refusal::{Refusal, Turned};
 use crate::intake::sender::sender;
 use crate::intake::{Intake, Taker};
@@ -24,12 +24,14 @@ use hyper::header::{HeaderMap, HeaderName, CONTENT_TYPE};
 use hyper::http::request::Parts;
 use hyper::{Body, Method, Request, Response, StatusCode};
 use std::sync::Arc;
+use std::time::Instant;
 
 const METHOD: &str = "/opentelemetry.proto.collector.metrics.v1.MetricsService/Export";
 static ENCODING: HeaderName = HeaderName::from_static("grpc-encoding");
 
 /// Answers one call.
 async fn answer<T: Taker>(intake: Arc<Intake<T>>, who: &Who, request: Request<Body>) -> Response<Body> {
+    let began = Instant::now();
     let (parts, mut body) = request.into_parts();
     let is_grpc = is_grpc(&parts.headers);
     let (call, limit) = (call(&parts, who), timeout::of(&parts.headers));
@@ -56,7 +58,7 @@ async fn answer<T: Taker>(intake: Arc<Intake<T>>, who: &Who, request: Request<Bo
     if outcome.reason() != Some(Reason::Deadline) && !body.is_end_stream() {
         message::throw_away(&mut body).await;
     }
-    intake.metrics.post_ended(&outcome);
+    intake.metrics.answered(&outcome, Encoding::Protobuf, began);
     reply::response(&outcome).await
 }
 
@@ -78,9 +80,11 @@ fn call(parts: &Parts, who: &Who) -> Result<Head, Turned> {
     }
     let sender = sender(who, of("authorization"), of("x-sender"))?;
     let packing = match parts.headers.get(&ENCODING).map(|value| value.as_bytes()) {
-        None | Some(b"identity") => Packing::Plain,
-        Some(b"gzip") => Packing::Gzip,
-        Some(_) => return Err(Turned { sender, refusal: Refusal::ContentEncoding }),
+        None => Packing::Plain,
+        Some(coding) => match named_packing(coding) {
+            Some(packing) => packing,
+            None => return Err(Turned { sender, refusal: Refusal::ContentEncoding }),
+        },
     };
     Ok(Head { sender, encoding: Encoding::Protobuf, packing })
 }

@@ -63,7 +63,7 @@ fn put_refusal(headers: &mut HeaderMap, rejection: &Rejection) {
     put(headers, "grpc-status", &code.to_string());
     put(headers, "grpc-message", &utf8_percent_encode(message, ESCAPED).to_string());
     if rejection.reason.status() == 415 {
-        put(headers, "grpc-accept-encoding", "identity,gzip");
+        put(headers, "grpc-accept-encoding", "identity,gzip,zstd");
     }
     if let Some(seconds) = rejection.again_in() {
         let seconds = i64::try_from(seconds).unwrap_or(i64::MAX);

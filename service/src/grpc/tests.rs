@@ -169,6 +169,7 @@ async fn a_call_goes_the_way_of_a_post() {
         (&[("x-sender", "shop-1")][..], frame(0, &request)),
         (&[("grpc-encoding", "identity")], frame(0, &request)),
         (&[("grpc-encoding", "gzip")], frame(1, &gzip(&request))),
+        (&[("grpc-encoding", "zstd")], frame(1, &crate::intake::zstd_packed(&request))),
         (&[("grpc-encoding", "gzip")], frame(0, &request)),
     ] {
         let answer = served.export(more, body).await;
@@ -177,7 +178,7 @@ async fn a_call_goes_the_way_of_a_post() {
     let posts = served.kept.posts.lock().unwrap().clone();
     let wanted = crate::otlp::prepare(Encoding::Protobuf, request.into(), &Reading::default());
     let wanted = wanted.unwrap().body;
-    assert!(posts.len() == 4 && posts.iter().all(|post| post.1 == wanted));
+    assert!(posts.len() == 5 && posts.iter().all(|post| post.1 == wanted));
     assert_eq!((posts[0].0.as_str(), posts[1].0.as_str()), ("shop-1", "-"));
     served.nothing_is_held().await;
 }
@@ -221,11 +222,12 @@ async fn what_is_no_call_of_the_method_is_refused() {
         let answer = served.call(METHOD, &[("content-type", kind)], frame(0, b"")).await;
         assert_eq!((answer.status, answer.code()), (415, -1), "{kind}");
     }
-    let answer = served.export(&[("grpc-encoding", "zstd")], frame(1, b"x")).await;
-    assert_eq!((answer.code(), answer.text("grpc-accept-encoding")), (12, "identity,gzip"));
+    let answer = served.export(&[("grpc-encoding", "snappy")], frame(1, b"x")).await;
+    assert_eq!((answer.code(), answer.text("grpc-accept-encoding")), (12, "identity,gzip,zstd"));
     for (more, body, wanted) in [
         (&[][..], frame(1, &gzip(b"")), 3),
         (&[("grpc-encoding", "gzip")], frame(1, b"no gzip"), 3),
+        (&[("grpc-encoding", "zstd")], frame(1, b"no zstd"), 3),
         (&[("grpc-encoding", "gzip")], frame(1, &gzip(&vec![0; 100 << 20])), 8),
         (&[("x-sender", "a b")], frame(0, b""), 3),
         (&[], vec![], 3),

@@ -5,6 +5,7 @@ use super::head::Packing;
 use super::refusal::Refusal;
 use super::weight::Hold;
 use super::wire::Wire;
+use super::zstd;
 use bytes::Bytes;
 use flate2::bufread::GzDecoder;
 use std::io::Read;
@@ -81,24 +82,36 @@ const GZIP: &[u8] = &[0x1f, 0x8b];
 pub fn unpack(packed: Bytes, packing: Packing, most: usize, hold: &mut Hold) -> Result<Bytes, Refusal> {
     match packing {
         Packing::Plain => Ok(packed),
-        Packing::Gzip => match unpacked(&packed, most, hold)? {
-            packed if packed.starts_with(GZIP) => unpacked(&packed, most, hold),
+        Packing::Gzip => match unpacked(&packed, gunzip, 0, most, hold)? {
+            packed if packed.starts_with(GZIP) => unpacked(&packed, gunzip, 0, most, hold),
             plain => Ok(plain),
         },
+        Packing::Zstd => unpacked(&packed, unzstd, 1 << zstd::WINDOW_LOG, most, hold),
     }
 }
 
-fn unpacked(packed: &[u8], most: usize, hold: &mut Hold) -> Result<Bytes, Refusal> {
-    hold.set(2 * packed.len() + most)?;
-    let plain = gunzip(packed, most)?;
+/// What `unpack` makes of a body, with so much memory beside it.
+fn unpacked(
+    packed: &[u8],
+    unpack: fn(&[u8], usize) -> Result<Vec<u8>, Refusal>,
+    beside: usize,
+    most: usize,
+    hold: &mut Hold,
+) -> Result<Bytes, Refusal> {
+    hold.set(2 * packed.len() + most + beside)?;
+    let plain = unpack(packed, most)?;
     hold.set(plain.capacity())?;
     Ok(plain.into())
 }
 
+fn room_for(packed: &[u8], most: usize) -> Vec<u8> {
+    Vec::with_capacity((4 * packed.len()).clamp(1024, most))
+}
+
 fn gunzip(mut packed: &[u8], most: usize) -> Result<Vec<u8>, Refusal> {
-    let mut plain = Vec::with_capacity((4 * packed.len()).clamp(1024, most));
+    let mut plain = room_for(packed, most);
     for _ in 0..MAX_MEMBERS {
-        gunzip_member(&mut packed, &mut plain, most)?;
+        read_up_to(most, &mut GzDecoder::new(&mut packed), &mut plain, || Refusal::BadGzip)?;
         if packed.is_empty() {
             return Ok(plain);
         }
@@ -106,25 +119,37 @@ fn gunzip(mut packed: &[u8], most: usize) -> Result<Vec<u8>, Refusal> {
     Err(Refusal::TooManyMembers)
 }
 
-/// Unpacks the first member, behind what earlier ones gave, and leaves the rest.
-fn gunzip_member(packed: &mut &[u8], plain: &mut Vec<u8>, most: usize) -> Result<(), Refusal> {
-    let mut reader = GzDecoder::new(packed);
+/// All frames of a body.
+fn unzstd(packed: &[u8], most: usize) -> Result<Vec<u8>, Refusal> {
+    let mut reader = zstd::Decoder::new(packed).ok_or(Refusal::NoMemory)?;
+    let mut plain = room_for(packed, most);
+    read_up_to(most, &mut reader, &mut plain, || Refusal::BadZstd)?;
+    Ok(plain)
+}
+
+/// Reads all behind what is there, which is never over `most` then.
+fn read_up_to(
+    most: usize,
+    reader: &mut impl Read,
+    plain: &mut Vec<u8>,
+    bad: fn() -> Refusal,
+) -> Result<(), Refusal> {
     loop {
         let room = plain.capacity().min(most) - plain.len();
-        let mut part = reader.by_ref().take(room as u64);
-        let read = part.read_to_end(plain).map_err(|_| Refusal::BadGzip)?;
+        let mut part = reader.take(room as u64);
+        let read = part.read_to_end(plain).map_err(|_| bad())?;
         if read < room {
             return Ok(());
         }
         if plain.len() == most {
             break;
         }
-        plain.reserve_exact(plain.capacity().min(most - plain.len())); // never over `most`
+        plain.reserve_exact(plain.capacity().min(most - plain.len()));
     }
     match reader.read(&mut [0]) {
         Ok(0) => Ok(()),
         Ok(_) => Err(Refusal::TooLong),
-        Err(_) => Err(Refusal::BadGzip),
+        Err(_) => Err(bad()),
     }
 }
 
@@ -143,17 +168,68 @@ pub(super) mod tests {
         packer.finish().unwrap().into()
     }
 
-    fn read(packed: Bytes, most: usize) -> Result<Bytes, u16> {
-        unpack(packed, Packing::Gzip, MOST, &mut Budget::new(most).hold())
+    pub fn zstd(plain: &[u8]) -> Bytes {
+        zstd::tests::packed(plain).into()
+    }
+
+    fn read_packed(packing: Packing, packed: Bytes, most: usize) -> Result<Bytes, u16> {
+        unpack(packed, packing, MOST, &mut Budget::new(most).hold())
             .map_err(|refusal| refusal.reason().status())
+    }
+
+    fn read(packed: Bytes, most: usize) -> Result<Bytes, u16> {
+        read_packed(Packing::Gzip, packed, most)
+    }
+
+    fn read_zstd(packed: impl Into<Bytes>) -> Result<Bytes, u16> {
+        read_packed(Packing::Zstd, packed.into(), 64 << 20)
     }
 
     #[test]
     fn a_packed_body_is_read_up_to_the_limit() {
         let longest = vec![b'a'; MOST];
+        assert_eq!(read_zstd(zstd(&longest)), Ok(Bytes::from(longest.clone())));
+        assert_eq!(read_zstd(zstd(&vec![0; MOST + 1])), Err(413));
+        assert_eq!(read_zstd(zstd(b"")), Ok(Bytes::new()));
         assert_eq!(read(gzip(&longest), 64 << 20), Ok(Bytes::from(longest)));
         assert_eq!(read(gzip(&vec![0; MOST + 1]), 64 << 20), Err(413));
         assert_eq!(read(gzip(b""), 64 << 20), Ok(Bytes::new()));
+    }
+
+    /// RFC 8878, 3: frames that follow each other are one body, and skippable ones have nothing of it.
+    #[test]
+    fn frames_of_zstd_are_one_body() {
+        let skipped = [&b"\x50\x2a\x4d\x18\x03\0\0\0"[..], b"abc"].concat();
+        let both = [&zstd(b"[1,")[..], &skipped, &zstd(b"2]")].concat();
+        assert_eq!(read_zstd(both), Ok(Bytes::from_static(b"[1,2]")));
+        let begun = std::time::Instant::now();
+        assert_eq!(read_zstd(zstd(b"").repeat(300_000)), Ok(Bytes::new()));
+        assert!(begun.elapsed() < Duration::from_millis(500), "{:?}", begun.elapsed());
+    }
+
+    #[test]
+    fn what_is_no_zstd_is_refused() {
+        let whole = zstd(b"some text that is longer than a head");
+        for torn in 1..whole.len() {
+            assert_eq!(read_zstd(whole.slice(..torn)), Err(400), "{torn}");
+        }
+        assert_eq!(read_zstd(&b"{}"[..]), Err(400));
+        assert_eq!(read_zstd([&whole[..], b"more"].concat()), Err(400));
+        assert_eq!(read_zstd(gzip(b"text")), Err(400));
+    }
+
+    /// Its window would take as much memory as its head says.
+    #[test]
+    fn a_window_of_zstd_is_bounded() {
+        let log = zstd::WINDOW_LOG as u8;
+        let with_window = |log| read_zstd(zstd::tests::frame_with_window(log, b"text"));
+        assert_eq!(with_window(log), Ok(Bytes::from_static(b"text")));
+        assert_eq!(with_window(log + 1), Err(400));
+        // A frame of zstd 0.7, whose window libzstd takes as it is.
+        let old = b"\x27\xb5\x2f\xfd\x00\x88\x40\x00\x04text\xc0\x00\x00";
+        assert_eq!(read_zstd(&old[..]), Err(400));
+        let small = read_packed(Packing::Zstd, zstd(b"{}"), 1 << zstd::WINDOW_LOG);
+        assert_eq!(small, Err(413), "there is never so much");
     }
 
     #[test]

@@ -43,8 +43,9 @@ impl Protocol for Http {
             let goes_on = match asked {
                 Ok(asked) => served(&mut wire, intake, asked, &mut waiting).await,
                 Err(refusal) => {
-                    intake.metrics.post_ended(&intake.refused(NO_NAME, &refusal));
-                    refused(&mut wire, &refusal, &mut waiting).await;
+                    let outcome = intake.refused(NO_NAME, &refusal);
+                    intake.metrics.answered(&outcome, Encoding::Json, std::time::Instant::now());
+                    refused(&mut wire, &outcome, &mut waiting).await;
                     false
                 }
             };
@@ -58,9 +59,8 @@ impl Protocol for Http {
 }
 
 /// Answers what has no head that can be read. How it would be answered is not known, so it is JSON.
-async fn refused<S: Transport>(wire: &mut Wire<S>, refusal: &Refusal, waiting: &mut Waiting) {
-    let outcome = Outcome::from(refusal);
-    let sent = wire.answer(|out| answer::write(out, &outcome, Encoding::Json, Connection::Closed));
+async fn refused<S: Transport>(wire: &mut Wire<S>, outcome: &Outcome, waiting: &mut Waiting) {
+    let sent = wire.answer(|out| answer::write(out, outcome, Encoding::Json, Connection::Closed));
     waiting.is_sent(sent).await;
 }
 
@@ -71,8 +71,10 @@ async fn served<S: Transport, T: Taker>(
     asked: head::Asked,
     waiting: &mut Waiting,
 ) -> bool {
+    let began = std::time::Instant::now();
     wire.body_begins(asked.body, asked.waits);
     let outcome = intake.outcome(asked.head, wire).await;
+    intake.metrics.answered(&outcome, asked.encoding, began);
     let connection = match wire.is_whole() && waiting.may_go_on() {
         true => asked.connection,
         false => Connection::Closed,
@@ -288,7 +290,8 @@ mod tests {
         let permit = permits.acquire(&listener).await;
         let mut waiting = Waiting::new(&limits, stop, permit, permits);
         let mut wire = Wire::new(stream);
-        let refused = refused(&mut wire, &Refusal::Malformed, &mut waiting);
+        let malformed = Outcome::from(&Refusal::Malformed);
+        let refused = refused(&mut wire, &malformed, &mut waiting);
         assert!(tokio::time::timeout(400 * short, refused).await.is_ok());
     }
 }

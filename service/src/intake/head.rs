@@ -13,6 +13,8 @@ use std::mem::MaybeUninit;
 pub enum Packing {
     Plain,
     Gzip,
+    /// RFC 8878.
+    Zstd,
 }
 
 /// The head of a post that may have a body.
@@ -180,14 +182,24 @@ fn encoding_of(kind: &str) -> Option<Encoding> {
     [Encoding::Json, Encoding::Protobuf].into_iter().find(is_so)
 }
 
-/// One gzip at most. `x-gzip` is gzip (RFC 9110, 8.4.1.3); `identity` says nothing.
+/// How `Content-Encoding` and `grpc-encoding` name it; `identity` is `Plain`. `x-gzip` is gzip (RFC 9110, 8.4.1.3).
+pub fn named_packing(coding: &[u8]) -> Option<Packing> {
+    const NAMES: [(&[u8], Packing); 4] = [
+        (b"identity", Packing::Plain),
+        (b"gzip", Packing::Gzip),
+        (b"x-gzip", Packing::Gzip),
+        (b"zstd", Packing::Zstd),
+    ];
+    NAMES.iter().find(|(name, _)| coding.eq_ignore_ascii_case(name)).map(|(_, packing)| *packing)
+}
+
+/// A body is packed once at most.
 fn packing(headers: &[Header]) -> Result<Packing, Refusal> {
     let mut found = Packing::Plain;
     for coding in words(headers, "content-encoding") {
-        let is_gzip = coding.eq_ignore_ascii_case("gzip") || coding.eq_ignore_ascii_case("x-gzip");
-        match found {
-            _ if coding.eq_ignore_ascii_case("identity") => {}
-            Packing::Plain if is_gzip => found = Packing::Gzip,
+        match (found, named_packing(coding.as_bytes())) {
+            (_, Some(Packing::Plain)) => {}
+            (Packing::Plain, Some(packing)) => found = packing,
             _ => return Err(Refusal::ContentEncoding),
         }
     }

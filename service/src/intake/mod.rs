@@ -20,6 +20,7 @@ mod threads;
 pub mod user;
 mod weight;
 mod wire;
+mod zstd;
 
 pub(crate) use arrival::Arrival;
 use body::MAX_MEMBERS;
@@ -29,6 +30,8 @@ pub use listen::{listen, listen_at_socket, Listener};
 pub use threads::Threads;
 pub use weight::Budget;
 pub(crate) use weight::Hold;
+#[cfg(test)]
+pub use zstd::tests::packed as zstd_packed;
 
 use crate::core;
 use crate::metrics::Metrics;
@@ -142,7 +145,7 @@ impl<T: Taker> Intake<T> {
             Ok(head) => (head.sender.clone(), self.read(head, wire).await),
             Err(Turned { sender, refusal }) => (sender, Err(refusal)),
         };
-        let outcome = match read {
+        match read {
             Ok(post) => self.take(post).await,
             Err(refusal) => {
                 if refusal.leaves_a_body() && !wire.is_not_called_for() {
@@ -150,9 +153,7 @@ impl<T: Taker> Intake<T> {
                 }
                 self.refused(&sender, &refusal)
             }
-        };
-        self.metrics.post_ended(&outcome);
-        outcome
+        }
     }
 
     /// What is answered without asking a slot.
@@ -242,7 +243,9 @@ impl<T: Taker> Intake<T> {
             (parts, outcome)
         };
         let (parts, outcome) = self.readers.read(length, combine).await;
-        if let Outcome::Taken { .. } = outcome {
+        if let Outcome::Taken { parts: rejected, .. } = &outcome {
+            let rejected = rejected.iter().map(|(points, rejection)| (rejection.reason, *points));
+            self.metrics.rejected(sender, &rejected.collect(), &[]);
             let refused = parts.iter().filter(|part| part.outcome.refusal().is_some());
             refused.for_each(|part| self.hears.part_refused(sender, &part.outcome));
         }
@@ -268,8 +271,8 @@ fn unknown() -> Outcome {
 
 /// Whether a body is short: one that may be is unpacked as far as that. A few kilobytes may be packed megabytes.
 fn is_short(head: &mut Head, body: &mut Bytes, hold: &mut Hold) -> Result<bool, Refusal> {
-    if head.packing == Packing::Gzip && body.len() <= Readers::SHORT / UNPACKED {
-        match body::unpack(body.clone(), Packing::Gzip, Readers::SHORT, hold) {
+    if head.packing != Packing::Plain && body.len() <= Readers::SHORT / UNPACKED {
+        match body::unpack(body.clone(), head.packing, Readers::SHORT, hold) {
             Err(Refusal::TooLong) => return Ok(false),
             unpacked => (*body, head.packing) = (unpacked?, Packing::Plain),
         }
@@ -279,7 +282,7 @@ fn is_short(head: &mut Head, body: &mut Bytes, hold: &mut Hold) -> Result<bool, 
 
 #[cfg(test)]
 mod tests {
-    use super::body::tests::gzip;
+    use super::body::tests::{gzip, zstd};
     use super::*;
 
     const SHORT: usize = Readers::SHORT;
@@ -290,22 +293,27 @@ mod tests {
         let (sender, encoding) = ("-".to_string(), Encoding::Json);
         let mut head = Head { sender, encoding, packing };
         let mut body = body;
-        let is_short = is_short(&mut head, &mut body, &mut Budget::new(1 << 20).hold()).unwrap();
+        let is_short = is_short(&mut head, &mut body, &mut Budget::new(16 << 20).hold()).unwrap();
         (head.packing, body.len(), is_short)
     }
 
     /// Else a post of a few kilobytes would hold up all others of its thread.
     #[test]
     fn what_is_long_unpacked_is_not_read_in_place() {
-        let (plain, packed) = (Packing::Plain, Packing::Gzip);
+        let plain = Packing::Plain;
         let blanks = |length: usize| Bytes::from(vec![b' '; length]);
         assert_eq!(seen(plain, blanks(SHORT)), (plain, SHORT, true));
         assert_eq!(seen(plain, blanks(SHORT + 1)), (plain, SHORT + 1, false));
-        assert_eq!(seen(packed, gzip(&blanks(SHORT))), (plain, SHORT, true));
-        let bomb = gzip(&blanks(MOST));
-        assert!(bomb.len() < SHORT / UNPACKED);
-        assert_eq!(seen(packed, bomb.clone()), (packed, bomb.len(), false));
-        let long = blanks(SHORT / UNPACKED + 1);
-        assert_eq!(seen(packed, long.clone()), (packed, long.len(), false));
+        let packed = |length: usize| {
+            let plain = blanks(length);
+            [(Packing::Gzip, gzip(&plain)), (Packing::Zstd, zstd(&plain))]
+        };
+        for ((packing, short), (_, bomb)) in packed(SHORT).into_iter().zip(packed(MOST)) {
+            assert_eq!(seen(packing, short), (plain, SHORT, true));
+            assert!(bomb.len() < SHORT / UNPACKED);
+            assert_eq!(seen(packing, bomb.clone()), (packing, bomb.len(), false));
+            let long = blanks(SHORT / UNPACKED + 1);
+            assert_eq!(seen(packing, long.clone()), (packing, long.len(), false));
+        }
     }
 }

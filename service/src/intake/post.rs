@@ -94,7 +94,7 @@ pub(super) fn prepare<T: Taker>(
     metrics: &Metrics,
 ) -> Result<Post<T>, Refusal> {
     let body = body::unpack(packed, head.packing, MOST, &mut hold)?;
-    metrics.post_bytes.inc_by(body.len() as u64);
+    metrics.request_size.observe(body.len() as f64);
     let encoding = head.encoding;
     let mut reader = Reader::new(encoding, body.len(), reading, &mut hold)?;
     let sender = otlp::sender(head.sender, encoding, &body, reading)?;

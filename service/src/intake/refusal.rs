@@ -23,7 +23,7 @@ pub enum Refusal {
     Stranger(#[from] Stranger),
     #[error("only application/json or application/x-protobuf")]
     ContentType,
-    #[error("only gzip or identity")]
+    #[error("only gzip, zstd or identity")]
     ContentEncoding,
     /// Nothing says how long its body is.
     #[error("no length of the body: Content-Length, or chunks")]
@@ -45,9 +45,11 @@ pub enum Refusal {
     /// Its end is too far away, or it says too much.
     #[error("head too long: over {READ_AHEAD} bytes or {HEADERS} fields")]
     HeadTooLong,
-    #[error("bad gzip")]
+    #[error("bad compression: no gzip")]
     BadGzip,
-    #[error("bad gzip: over {MAX_MEMBERS} members: pack the body as one")]
+    #[error("bad compression: no zstd")]
+    BadZstd,
+    #[error("bad compression: over {MAX_MEMBERS} members: pack the body as one")]
     TooManyMembers,
     #[error("body too long: over {MOST} bytes, packed or unpacked: post fewer points at a time")]
     TooLong,
@@ -93,7 +95,7 @@ impl Refusal {
             Refusal::Malformed => Reason::MalformedRequest,
             Refusal::HeadTooLong => Reason::HeadTooLong,
             Refusal::Gone => Reason::GoneAway,
-            Refusal::BadGzip | Refusal::TooManyMembers => Reason::BadGzip,
+            Refusal::BadGzip | Refusal::TooManyMembers | Refusal::BadZstd => Reason::BadCompression,
             Refusal::TooLong | Refusal::Full(Full::Ever) => Reason::BodyTooLong,
             Refusal::Full(Full::Now) | Refusal::Slow => Reason::TooManyBytes,
             Refusal::LongSeries => Reason::TooLongSeries,

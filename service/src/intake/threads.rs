@@ -1,32 +1,56 @@
 //! Threads that serve senders. Each has a runtime of its own, so a request's whole way is on one thread: nothing of it
 //! is moved, and nobody is woken for it on another.
+//!
+//! A serving thread leaves its runtime to make calls that may block (`work/own_call`). If one takes long, a stand-in, a thread that is
+//! started for that, runs the runtime until the serving thread is back: so a disk that stalls keeps no connection waiting.
 
 use crate::core::give_back_of_thread;
+use crate::work::own_call::OwnCalls;
 use crate::work::within;
+use std::future::{poll_fn, Future};
 use std::io::Result;
 use std::pin::pin;
-use std::sync::atomic::{AtomicUsize, Ordering::Relaxed};
-use std::sync::Arc;
+use std::sync::atomic::{
+    AtomicBool, AtomicU64, AtomicUsize,
+    Ordering::{Relaxed, SeqCst},
+};
+use std::sync::{Arc, Weak};
+use std::task::Poll;
 use std::time::Duration;
-use tokio::runtime::{Builder, Handle};
-use tokio::sync::oneshot;
+use tokio::runtime::{Builder, Handle, Runtime};
+use tokio::sync::{oneshot, Notify};
 
 /// Threads beside each for long bodies; how many are read at a time is bounded elsewhere.
 const LONG_WORK: usize = 2;
 /// How often a thread looks whether it serves anybody.
 const LOOK: Duration = Duration::from_secs(5);
+/// A call that takes longer than this, and less than twice as long, gets a stand-in.
+const PATIENCE: Duration = Duration::from_millis(100);
 
 /// They end when this is dropped, whatever they do then.
-pub struct Threads(Vec<Thread>);
+pub struct Threads(Arc<[Thread]>);
 
 struct Thread {
+    name: String,
     runtime: Handle,
     connections: Arc<AtomicUsize>,
+    away: Arc<Away>,
+    /// What a stand-in runs.
+    run: Weak<Runtime>,
     _end: oneshot::Sender<()>,
 }
 
 /// One of a thread's connections, as long as it lives.
 pub struct Place(Arc<AtomicUsize>);
+
+/// Whether a serving thread is out of its runtime.
+#[derive(Default)]
+struct Away {
+    /// How often it has gone or come back: odd while it is out.
+    turns: AtomicU64,
+    has_stand_in: AtomicBool,
+    back: Notify,
+}
 
 impl Threads {
     pub fn new(count: usize) -> Result<Threads> {
@@ -34,10 +58,12 @@ impl Threads {
     }
 
     pub fn named(name: &str, count: usize) -> Result<Threads> {
-        (0..count.max(1))
-            .map(|number| Thread::start(format!("{name}-{number}")))
-            .collect::<Result<_>>()
-            .map(Threads)
+        let threads: Result<Arc<[Thread]>> =
+            (0..count.max(1)).map(|number| Thread::start(format!("{name}-{number}"))).collect();
+        let threads = threads?;
+        let watched = Arc::downgrade(&threads);
+        std::thread::Builder::new().name(format!("{name}-watch")).spawn(move || watch(&watched))?;
+        Ok(Threads(threads))
     }
 
     /// A place on the thread that has the fewest connections.
@@ -49,16 +75,81 @@ impl Threads {
     }
 }
 
+/// Starts stand-ins until the threads end.
+fn watch(threads: &Weak<[Thread]>) {
+    let mut seen = Vec::new();
+    loop {
+        std::thread::sleep(PATIENCE);
+        let Some(threads) = threads.upgrade() else { return };
+        let now: Vec<u64> = threads.iter().map(|thread| thread.away.turns.load(SeqCst)).collect();
+        let both = seen.iter().zip(&now).zip(threads.iter());
+        for (_, thread) in both.filter(|((seen, now), _)| seen == now && *now % 2 == 1) {
+            thread.stand_in();
+        }
+        seen = now;
+    }
+}
+
 impl Thread {
     fn start(name: String) -> Result<Thread> {
         let runtime = Builder::new_current_thread().max_blocking_threads(LONG_WORK).enable_all().build()?;
-        let handle = runtime.handle().clone();
+        let (runtime, away) = (Arc::new(runtime), Arc::new(Away::default()));
+        let (handle, run) = (runtime.handle().clone(), Arc::downgrade(&runtime));
         let (end, ended) = oneshot::channel::<()>();
-        std::thread::Builder::new().name(name).spawn(move || {
-            runtime.block_on(rest_until(ended));
-            runtime.shutdown_background(); // who still waits for a disk or a sender is not waited for
+        let leaves = away.clone();
+        std::thread::Builder::new().name(name.clone()).spawn(move || {
+            serve(&runtime, &leaves, ended);
+            if let Some(runtime) = Arc::into_inner(runtime) {
+                runtime.shutdown_background(); // who still waits for a disk or a sender is not waited for
+            }
         })?;
-        Ok(Thread { runtime: handle, connections: Arc::default(), _end: end })
+        Ok(Thread { name, runtime: handle, connections: Arc::default(), away, run, _end: end })
+    }
+
+    /// Has another thread run the runtime until this thread is back, unless one does.
+    fn stand_in(&self) {
+        if self.away.has_stand_in.swap(true, SeqCst) {
+            return;
+        }
+        let (away, run) = (self.away.clone(), self.run.clone());
+        let started = std::thread::Builder::new().name(format!("{}-stand-in", self.name)).spawn(move || {
+            if let Some(runtime) = run.upgrade() {
+                runtime.block_on(away.until_back());
+            }
+            away.has_stand_in.store(false, SeqCst);
+        });
+        if started.is_err() {
+            self.away.has_stand_in.store(false, SeqCst); // the next look tries it again
+        }
+    }
+}
+
+impl Away {
+    /// Does what may block. The runtime is not entered.
+    fn leave(&self, work: impl FnOnce()) {
+        self.turns.fetch_add(1, SeqCst);
+        work();
+        self.turns.fetch_add(1, SeqCst);
+        if self.has_stand_in.load(SeqCst) {
+            self.back.notify_one();
+        }
+    }
+
+    async fn until_back(&self) {
+        while self.turns.load(SeqCst) % 2 == 1 {
+            self.back.notified().await;
+        }
+    }
+}
+
+/// Runs the tasks of a thread until it ends.
+fn serve(runtime: &Runtime, away: &Away, ended: oneshot::Receiver<()>) {
+    let (mut rest, mut calls) = (pin!(rest_until(ended)), OwnCalls::of_this_thread());
+    while runtime.block_on(poll_fn(|context| match rest.as_mut().poll(context) {
+        Poll::Ready(()) => Poll::Ready(false),
+        Poll::Pending => calls.poll_asked(context).map(|()| true),
+    })) {
+        away.leave(|| calls.make());
     }
 }
 
@@ -79,6 +170,9 @@ impl Drop for Place {
 #[cfg(test)]
 mod tests {
     use super::*;
+    use crate::work::own_call::{self, OwnCall};
+    use std::sync::{mpsc, Mutex};
+    use std::time::Instant;
 
     #[test]
     fn places_are_spread() {
@@ -107,5 +201,88 @@ mod tests {
         assert!(!task.is_finished());
         drop(threads);
         assert!(waiting.blocking_recv().is_err(), "what it did is dropped");
+    }
+    /// Counts how often it is made, and waits until it may go on.
+    #[derive(Default)]
+    struct Write {
+        made: AtomicU64,
+        told: Mutex<Vec<oneshot::Sender<u64>>>,
+        gate: Mutex<()>,
+    }
+
+    impl OwnCall for Write {
+        fn make(&self) -> u64 {
+            drop(self.gate.lock());
+            self.made.fetch_add(1, SeqCst) + 1
+        }
+
+        fn tell(&self, reached: u64) {
+            for waiter in self.told.lock().unwrap().drain(..) {
+                let _ = waiter.send(reached);
+            }
+        }
+    }
+
+    async fn ask(write: Arc<Write>) -> u64 {
+        let (tell, told) = oneshot::channel();
+        write.told.lock().unwrap().push(tell);
+        assert!(own_call::ask(&write), "this thread serves");
+        told.await.unwrap()
+    }
+
+    fn run<T: Send + 'static>(thread: &Handle, task: impl Future<Output = T> + Send + 'static) -> T {
+        let (tell, told) = mpsc::channel();
+        thread.spawn(async move { tell.send(task.await) });
+        told.recv_timeout(Duration::from_secs(20)).expect("the thread serves")
+    }
+
+    /// Else each post would take a write.
+    #[test]
+    fn a_call_is_made_once_for_all_tasks_that_are_ready() {
+        let threads = Threads::new(1).unwrap();
+        let (thread, _place) = threads.place();
+        let write = Arc::new(Write::default());
+        for made in 1..=100 {
+            let write = write.clone();
+            let reached = run(&thread, async move {
+                let asking: Vec<_> = (0..5).map(|_| tokio::spawn(ask(write.clone()))).collect();
+                let mut all = Vec::new();
+                for one in asking {
+                    all.push(one.await.unwrap());
+                }
+                all
+            });
+            assert_eq!(reached, [made; 5]);
+        }
+        assert!(!own_call::ask(&write), "nobody would make it");
+    }
+
+    /// Else a disk that stalls would keep all connections of the thread waiting, also those that are refused meanwhile.
+    #[test]
+    fn a_stand_in_serves_while_a_call_takes_long() {
+        let threads = Threads::new(1).unwrap();
+        let (thread, _place) = threads.place();
+        let write = Arc::new(Write::default());
+        for made in 1..=3 {
+            let gate = write.gate.lock().unwrap();
+            let asked = thread.spawn(ask(write.clone()));
+            for number in 0..3 {
+                let sleeps = async move {
+                    tokio::time::sleep(Duration::from_millis(10)).await;
+                    (number, std::thread::current().name().map(str::to_string))
+                };
+                assert_eq!(run(&thread, sleeps), (number, Some("front-0-stand-in".to_string())));
+            }
+            assert!(!asked.is_finished());
+            drop(gate);
+            assert_eq!(run(&thread, async move { asked.await.unwrap() }), made);
+            let began = Instant::now();
+            while threads.0[0].away.has_stand_in.load(SeqCst) {
+                assert!(began.elapsed() < Duration::from_secs(20), "the stand-in goes on");
+                std::thread::sleep(Duration::from_millis(1));
+            }
+            let name = async { std::thread::current().name().map(str::to_string) };
+            assert_eq!(run(&thread, name), Some("front-0".to_string()));
+        }
     }
 }

@@ -7,10 +7,11 @@
 
 use super::checkpoint::{commit, flush_in_parts};
 use super::fill::fill;
+use super::run::AHEAD;
 use super::series::SeriesOfPosts;
 use super::{not_now, Amend, Carried, Done, Keeper, Trouble};
 use crate::core::Refused;
-use crate::files::{Fault, Runs};
+use crate::files::{nanoseconds, Fault, Runs};
 use crate::otlp::series::{Digest, SeriesKey};
 use crate::sinks::Rewind;
 use crate::slot::Slot;
@@ -139,7 +140,18 @@ fn amended(slot: &Slot, amend: &Amend) -> Result<Result<(), SeriesKey>, Fault> {
         return Ok(Err(one.clone()));
     }
     match amend {
-        Amend::Forget(series) => slot.outbox.leave_these(series)?,
+        Amend::Forget(series) => {
+            // What a wrong clock has put ahead ends now; the ends of others stay, so that no repeat is added.
+            let now = nanoseconds();
+            let is_ahead = |one: &SeriesKey| slot.outbox.ends_after(one, now + AHEAD.as_nanos() as u64);
+            let (ahead, others): (Vec<_>, Vec<_>) = series.iter().cloned().partition(is_ahead);
+            for (some, to) in [(ahead, now), (others, u64::MAX)] {
+                if !some.is_empty() {
+                    tell_sink(slot, &some, to)?;
+                }
+            }
+            slot.outbox.leave_these(series)?;
+        }
         Amend::PutBack { series, to } => {
             tell_sink(slot, series, *to)?;
             slot.outbox.put_back(series, *to)?;
@@ -148,8 +160,9 @@ fn amended(slot: &Slot, amend: &Amend) -> Result<Result<(), SeriesKey>, Fault> {
     Ok(Ok(()))
 }
 
-/// Behind all that was forwarded of them: the sink is told where series end from now on, before the book takes what begins
-/// there. Else it would leave that out, since it overlaps what a wrong clock has put ahead.
+/// Behind all that was forwarded of them: the sink is told where series end at the latest from now on, before the book takes
+/// what begins there. Else it would leave out what begins before the end that a wrong clock has put ahead, and add what was put
+/// aside before and was posted again since.
 fn tell_sink(slot: &Slot, series: &[SeriesKey], to: u64) -> Result<(), Fault> {
     let requests = Rewind::requests(series, to);
     slot.outbox.commit_with(&requests, slot.outbox.journal(), Runs::new())?;

@@ -2,11 +2,9 @@
 //!
 //! One task does all of this, one after the other: `run` waits for what is to be done, `checkpoint` moves what the book
 //! has to the outbox, `forget` leaves out series or puts their ends back, `fill` gives a fresh book what the files say, `owners`
-//! finds whose series these are, `series` says which ones a post has, `numbers` gives them numbers for the book, `drain` brings
-//! all into the outbox, `rest` gives back memory where nobody posts, `unfilled` waits where a start has too little memory. What takes long is done on threads beside the runtime's.
+//! finds whose series these are, `series` says which ones a post has, `numbers` gives them numbers for the book, `rest` gives back memory where nobody posts, `unfilled` waits where a start has too little memory. What takes long is done on threads beside the runtime's.
 
 mod checkpoint;
-mod drain;
 mod fill;
 mod forget;
 mod numbers;

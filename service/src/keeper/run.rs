@@ -25,7 +25,7 @@ const MANY_BYTES_IN_STORE: u64 = 64 << 20;
 const BETWEEN_LOOKS_AT_AGES: Duration = Duration::from_secs(1);
 const BETWEEN_FORGETTING: Duration = Duration::from_secs(10);
 /// A series that ends so long after the clock's time is told of at the start.
-const AHEAD: Duration = Duration::from_secs(3600);
+pub(super) const AHEAD: Duration = Duration::from_secs(3600);
 
 impl Keeper {
     /// Returns once all that was taken is in the outbox after `stop`, or where it can't go on. A stop that comes
@@ -104,7 +104,7 @@ impl Keeper {
         all.put(&mut all.lock(), runs);
         self.slot.set_ungrouped(posts);
         let took = began.elapsed();
-        self.slot.metrics.recovery_seconds.observe(took.as_secs_f64());
+        self.slot.metrics.last_recovery.set(took.as_secs_f64());
         let (slot, series) = (self.slot.number(), self.slot.outbox.series_count());
         tracing::info!(
             slot,

@@ -39,7 +39,7 @@ impl Run {
     }
 
     async fn begin_in(folder: Folder, settings: Settings) -> Run {
-        let (journal, outbox) = folder.slot(0).unwrap();
+        let (journal, outbox) = folder.slot().unwrap();
         let run = Run::over(journal, outbox, settings);
         while !run.slot.is_ready() {
             tokio::time::sleep(Duration::from_millis(5)).await;
@@ -143,7 +143,7 @@ pub(crate) fn settings() -> Settings {
 /// One that has not begun.
 pub(super) fn keeper(place: &Path) -> Keeper {
     let folder = Folder::open(&place.join("data"), Durability::Process).unwrap();
-    let (journal, outbox) = folder.slot(0).unwrap();
+    let (journal, outbox) = folder.slot().unwrap();
     let metrics = Arc::new(Metrics::new().unwrap());
     let slot = Slot::new(0, journal, Arc::new(outbox), metrics, Core::new(1).unwrap());
     Keeper::new(slot, settings()).0

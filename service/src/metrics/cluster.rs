@@ -22,7 +22,7 @@ metrics! {
         beat_age: Gauge = "beat_age_seconds",
             "Since the last beat of this instance that is known to be in the store";
         copies: IntGaugeVec = "store_copies" ["database"],
-            "On how many servers what is committed in a database is; not there where it is not known";
+            "On how many servers what is committed in the database is; not there where it is not known";
         copies_asked: IntGauge = "store_copies_asked", "On how many it has to be, by --store-copies";
         doubt: GaugeVec = "store_doubt_seconds" ["database"],
             "For how long the write of this instance that began first has not been known to be there, 0 where none is";
@@ -45,7 +45,7 @@ impl OfCluster {
         &self,
         owned: usize,
         seen: &Status,
-        databases: &[DatabaseStatus],
+        database: &DatabaseStatus,
         forwarded: Forwarded,
         writes: &Counts,
     ) {
@@ -58,8 +58,8 @@ impl OfCluster {
         self.without_owner.set(seen.without_owner as i64);
         self.longest_without_owner.set(seen.longest_without_owner.as_secs_f64());
         self.instances.set(seen.instances() as i64);
-        self.beat_age.set(seen.beat_age().unwrap_or_default().as_secs_f64());
-        self.set_databases(databases);
+        self.beat_age.set(seen.beat_age.unwrap_or_default().as_secs_f64());
+        self.set_database(database);
         for (result, count) in
             [("answered", forwarded.answered), ("not_mine", forwarded.not_mine), ("broken", forwarded.broken)]
         {
@@ -78,16 +78,14 @@ impl OfCluster {
         bring(&self.lost, seen.counted.lost);
     }
 
-    fn set_databases(&self, databases: &[DatabaseStatus]) {
+    fn set_database(&self, of: &DatabaseStatus) {
+        let label = [&*of.database];
         self.copies.reset();
-        for database in databases {
-            let label = [&*database.database];
-            if let Some(copies) = database.copies {
-                self.copies.with_label_values(&label).set(copies as i64);
-            }
-            self.copies_asked.set(database.copies_asked as i64);
-            self.doubt.with_label_values(&label).set(database.doubt_seconds as f64);
+        if let Some(copies) = of.copies {
+            self.copies.with_label_values(&label).set(copies as i64);
         }
+        self.copies_asked.set(of.copies_asked as i64);
+        self.doubt.with_label_values(&label).set(of.doubt_seconds as f64);
     }
 }
 
@@ -111,7 +109,7 @@ mod tests {
             without_owner: 2,
             longest_without_owner: Duration::from_millis(31_500),
             terms: terms.iter().copied().collect::<BTreeMap<_, _>>(),
-            beat_ages: vec![Some(Duration::from_millis(250))],
+            beat_age: Some(Duration::from_millis(250)),
             counted: Counted { takeovers, hand_overs: 1, lost: 0 },
             ..Status::default()
         }
@@ -131,8 +129,8 @@ mod tests {
         let of_cluster = OfCluster::of(&metrics.registry).unwrap();
         let (writes, forwarded) = (Counts::default(), Forwarded { answered: 7, not_mine: 2, broken: 1 });
         writes.commits.store(40, Relaxed);
-        of_cluster.set(2, &seen(&[(3, 5), (4, 9)], 2), &[database(Some(1))], forwarded, &writes);
-        of_cluster.set(1, &seen(&[(4, 10)], 3), &[database(Some(1))], forwarded, &writes);
+        of_cluster.set(2, &seen(&[(3, 5), (4, 9)], 2), &database(Some(1)), forwarded, &writes);
+        of_cluster.set(1, &seen(&[(4, 10)], 3), &database(Some(1)), forwarded, &writes);
         let page = || String::from_utf8(metrics.page()).unwrap();
         let has = |line: &str| page().lines().any(|found| found == line);
         for line in [
@@ -157,7 +155,7 @@ mod tests {
             assert!(has(line), "{line} in\n{}", page());
         }
         assert!(!page().contains("slot=\"3\""), "it is another's");
-        of_cluster.set(1, &seen(&[], 3), &[database(None)], forwarded, &writes);
+        of_cluster.set(1, &seen(&[], 3), &database(None), forwarded, &writes);
         assert!(!page().contains("totxegun_store_copies{"), "it is not known");
     }
 }

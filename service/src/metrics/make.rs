@@ -2,9 +2,12 @@
 //! its help. A name ends in its unit, a counter's in `_total`.
 
 use prometheus::core::{Atomic, Collector, GenericCounter, GenericCounterVec, GenericGauge, GenericGaugeVec};
-use prometheus::{Histogram, HistogramOpts, Opts, Registry, Result};
+use prometheus::{Histogram, HistogramOpts, HistogramVec, Opts, Registry, Result};
 
-const SECONDS: [f64; 10] = [0.001, 0.003, 0.01, 0.03, 0.1, 0.3, 1.0, 3.0, 10.0, 30.0];
+const SECONDS: [f64; 12] = [0.0001, 0.0003, 0.001, 0.003, 0.01, 0.03, 0.1, 0.3, 1.0, 3.0, 10.0, 30.0];
+/// From the post of one point to the longest body.
+const BYTES: [f64; 9] =
+    [256.0, 1024.0, 4096.0, 16_384.0, 65_536.0, 262_144.0, 1_048_576.0, 4_194_304.0, 16_777_216.0];
 
 /// Some have their label's known values from the start, behind `of`, so that a rate over them is right. Behind `with` stands
 /// what else the struct has.
@@ -85,6 +88,21 @@ impl<A: Atomic + 'static> Kind for GenericGaugeVec<A> {
 
 impl Kind for Histogram {
     fn new(options: Opts, _: &[&str], _: &[&str]) -> Result<Self> {
-        Histogram::with_opts(HistogramOpts { common_opts: options, buckets: SECONDS.to_vec() })
+        Histogram::with_opts(with_buckets(options))
     }
+}
+
+impl Kind for HistogramVec {
+    fn new(options: Opts, labels: &[&str], _: &[&str]) -> Result<Self> {
+        HistogramVec::new(with_buckets(options), labels)
+    }
+}
+
+/// By the unit that the name ends in.
+fn with_buckets(options: Opts) -> HistogramOpts {
+    let buckets = match options.name.ends_with("_bytes") {
+        true => BYTES.to_vec(),
+        false => SECONDS.to_vec(),
+    };
+    HistogramOpts { common_opts: options, buckets }
 }

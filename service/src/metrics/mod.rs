@@ -2,39 +2,46 @@
 
 mod cluster;
 mod make;
+mod process;
 mod rounding;
 
 pub use cluster::OfCluster;
 pub use rounding::{RoundedSeries, SeriesOfRule, SHOWN as SHOWN_OF_RULE};
 
-use crate::otlp::{Causes, Outcome, Reason, Rounded, Rounding};
+use crate::otlp::{Causes, Encoding, Outcome, Reason, Rounded, Rounding};
 use crate::shares::Used;
 use crate::work::locked;
+use ahash::AHashMap;
 use make::metrics;
+use process::Process;
 use prometheus::core::Collector;
 use prometheus::{
-    CounterVec, Encoder, Gauge, GaugeVec, Histogram, IntCounter, IntCounterVec, IntGauge, IntGaugeVec,
-    Registry, TextEncoder,
+    CounterVec, Encoder, Gauge, GaugeVec, Histogram, HistogramVec, IntCounter, IntCounterVec, IntGauge,
+    IntGaugeVec, Registry, TextEncoder,
 };
 use rounding::RoundingBySeries;
-use std::collections::HashSet;
 use std::sync::Mutex;
+use std::time::Instant;
 
 /// How many senders have a label of their own; further ones share `other`.
 const SENDERS: usize = 64;
+const OTHER: &str = "other";
 
 metrics! {
     /// One for the process. Counters begin with it.
     pub struct Metrics(registry) {
-        pub posts: IntCounterVec = "posts_total" ["status", "reason"],
-            "Posts by the status of their answer, and by the reason of a refusal";
+        requests: IntCounterVec = "requests_total" ["code", "reason"],
+            "Requests of senders by the status of their answer, and by the reason of a refusal";
+        request_duration: HistogramVec = "request_duration_seconds" ["encoding", "code"],
+            "From the head of a request until its answer is ready, by its encoding and the status of the answer";
+        pub request_size: Histogram = "request_size_bytes", "Length of the bodies of requests, unpacked";
         pub refused_parts: IntCounterVec = "refused_parts_total" ["reason"],
-            "Of posts that were taken, parts for other slots that were refused, by the reason";
-        pub post_bytes: IntCounter = "post_bytes_total", "Bytes of posts, unpacked";
-        // Counted by `foreign`, which bounds the senders.
-        pub foreign_points: IntCounterVec = "foreign_points_total" ["sender", "cause"],
-            "Points that were not taken, of posts that were, but for those of --expect-foreign";
-        pub expected_foreign_points: IntCounterVec = "expected_foreign_points_total" ["cause"],
+            "Of requests that were taken, parts for other slots that were refused, by the reason";
+        // Both by `sender`, of which so many have a label.
+        accepted_points: IntCounterVec = "accepted_points_total" ["sender"], "Points that were taken";
+        rejected_points: IntCounterVec = "rejected_points_total" ["sender", "reason"],
+            "Points that were not taken, of requests that were, but for those of --expect-foreign";
+        expected_rejected_points: IntCounterVec = "expected_rejected_points_total" ["reason"],
             "Points that were not taken, as --expect-foreign says";
         pub passed_points: IntCounterVec = "passed_points_total" ["outcome"] of ["taken", "refused", "lost", "dropped"],
             "Points outside the profile that --pass was to hand on, by what became of them";
@@ -68,17 +75,21 @@ metrics! {
         pub faults: IntCounterVec = "faults_total" ["kind"] of ["reading", "owner", "replay", "points_rejected_by_sink"],
             "Points that the sink rejected, and faults of the program";
         pub checkpoint_pause_seconds: Histogram = "checkpoint_pause_seconds", "How long a checkpoint held the posts";
-        pub recovery_seconds: Histogram = "recovery_seconds",
-            "How long it took to put in the posts of the journal, and what priming the book took longer than opening the files";
-        build_info: IntGaugeVec = "build_info" ["version"], "1, by the version of the program";
+        pub last_recovery: Gauge = "last_recovery_duration_seconds",
+            "How long the last start of a slot took to put in the posts of the journal, and what priming the book took longer than opening the files";
+        build_info: IntGaugeVec = "build_info" ["version", "book"],
+            "1, by the version of the program and the revision of the book that is linked into it";
     }
     with {
         pub levels: Levels = Levels::of(registry)?;
         pub registry: Registry = registry.clone();
         by_series: RoundingBySeries = RoundingBySeries::new();
-        // Most answers are 200: their counter needs no look-up.
-        taken_posts: IntCounter = posts.with_label_values(&["200", ""]);
-        senders: Mutex<HashSet<String>> = Mutex::default();
+        // Most answers are 200: what counts them needs no look-up.
+        taken_requests: IntCounter = requests.with_label_values(&["200", ""]);
+        taken_json: Histogram = request_duration.with_label_values(&["json", "200"]);
+        taken_protobuf: Histogram = request_duration.with_label_values(&["protobuf", "200"]);
+        // The senders that have a label, each with what counts its accepted points.
+        senders: Mutex<AHashMap<String, IntCounter>> = Mutex::default();
     }
 }
 
@@ -104,68 +115,80 @@ metrics! {
         pub disk_free_bytes: IntGauge = "disk_free_bytes", "Bytes that are free on the file system of the folder";
         pub series: IntGauge = "series", "Series that are known";
         pub cumulative_series: IntGauge = "cumulative_series", "Series whose points come cumulative";
-        pub most_series: IntGauge = "most_series", "So many series fit for sure";
+        pub series_limit: IntGauge = "series_limit", "So many series fit for sure";
         pub book_memory_bytes: IntGauge = "book_memory_bytes", "Memory that the book has";
-        pub book_memory_most_bytes: IntGauge = "book_memory_most_bytes", "Memory that the book may have";
+        pub memory_limit_bytes: IntGauge = "memory_limit_bytes", "Memory that the book may have";
     }
 }
 
 impl Metrics {
     pub fn new() -> prometheus::Result<Metrics> {
         let metrics = Metrics::of(&Registry::new())?;
-        metrics.build_info.with_label_values(&[env!("CARGO_PKG_VERSION")]).set(1);
+        metrics.registry.register(Box::new(Process::new()))?;
+        let book = option_env!("BOOK_REVISION").unwrap_or("unknown");
+        metrics.build_info.with_label_values(&[env!("CARGO_PKG_VERSION"), book]).set(1);
         Ok(metrics)
     }
 
     /// So many series may be there.
-    pub fn most_series(&self, most: u64) {
-        self.levels.most_series.set(most as i64);
-        self.by_series.has_room_for(most as usize);
+    pub fn limit_series(&self, limit: u64) {
+        self.by_series.has_room_for(limit as usize);
     }
 
-    /// Counts an answer to a sender.
-    pub fn post_ended(&self, outcome: &Outcome) {
-        match outcome.reason() {
-            None => self.taken_posts.inc(),
-            Some(reason) => {
-                let status = reason.status().to_string();
-                self.posts.with_label_values(&[&status, reason.label()]).inc();
-            }
+    /// Counts an answer to a sender. Its request began then.
+    pub fn answered(&self, outcome: &Outcome, encoding: Encoding, began: Instant) {
+        let took = began.elapsed().as_secs_f64();
+        if let Some(reason) = outcome.reason() {
+            let code = reason.status().to_string();
+            self.requests.with_label_values(&[&code, reason.label()]).inc();
+            return self.request_duration.with_label_values(&[encoding.label(), &code]).observe(took);
+        }
+        self.taken_requests.inc();
+        match encoding {
+            Encoding::Json => self.taken_json.observe(took),
+            Encoding::Protobuf => self.taken_protobuf.observe(took),
         }
     }
 
-    /// Counts points outside the profile. Names of senders come from outside: their number is bounded here.
-    pub fn foreign(&self, sender: &str, causes: &Causes, expected: &[Reason]) {
-        for (cause, points) in causes.iter() {
-            let name = cause.label();
-            if expected.contains(&cause) {
-                self.expected_foreign_points.with_label_values(&[name]).inc_by(points);
+    /// Counts points that were taken.
+    pub fn accepted(&self, sender: &str, points: u64) {
+        if points > 0 {
+            self.count_sender(sender, |accepted| accepted.inc_by(points));
+        }
+    }
+
+    /// Counts points that were not taken, of a request that was.
+    pub fn rejected(&self, sender: &str, causes: &Causes, expected: &[Reason]) {
+        for (reason, points) in causes.iter() {
+            let name = reason.label();
+            if expected.contains(&reason) {
+                self.expected_rejected_points.with_label_values(&[name]).inc_by(points);
             } else {
-                let label = if self.has_label(sender) { sender } else { "other" };
-                self.foreign_points.with_label_values(&[label, name]).inc_by(points);
+                let label = if self.has_label(sender) { sender } else { OTHER };
+                self.rejected_points.with_label_values(&[label, name]).inc_by(points);
             }
         }
     }
 
-    /// By sender and cause, how many points were foreign since the start.
-    pub fn all_foreign(&self) -> Vec<(String, String, u64)> {
-        let families = self.foreign_points.collect();
+    /// By sender and reason, how many points were rejected since the start.
+    pub fn all_rejected(&self) -> Vec<(String, Reason, u64)> {
+        let families = self.rejected_points.collect();
         let rows = families.iter().flat_map(|family| family.get_metric());
-        rows.map(|row| {
-            let label = |name: &str| row.get_label().iter().find(|label| label.get_name() == name);
-            let [sender, cause] = ["sender", "cause"]
-                .map(|name| label(name).map_or_else(String::new, |label| label.get_value().to_string()));
-            (sender, cause, row.get_counter().get_value() as u64)
+        rows.filter_map(|row| {
+            let labels = || row.get_label().iter();
+            let value = |name| labels().find(|label| label.get_name() == name).map(|label| label.get_value());
+            let reason = Reason::labelled(value("reason")?)?;
+            Some((value("sender")?.to_string(), reason, row.get_counter().get_value() as u64))
         })
         .collect()
     }
 
-    /// Posts since the start: those that were taken, and the others.
-    pub fn posts_ended(&self) -> (u64, u64) {
-        let families = self.posts.collect();
+    /// Requests since the start: those that were taken, and the others.
+    pub fn requests_answered(&self) -> (u64, u64) {
+        let families = self.requests.collect();
         let rows = families.iter().flat_map(|family| family.get_metric());
         let all: f64 = rows.map(|row| row.get_counter().get_value()).sum();
-        let taken = self.taken_posts.get();
+        let taken = self.taken_requests.get();
         (taken, (all as u64).saturating_sub(taken))
     }
 
@@ -200,11 +223,23 @@ impl Metrics {
     }
 
     fn has_label(&self, sender: &str) -> bool {
+        self.count_sender(sender, |_| ())
+    }
+
+    /// Counts points of a sender: whether it has a label of its own. Names of senders come from outside: so many have one.
+    fn count_sender(&self, sender: &str, count: impl FnOnce(&IntCounter)) -> bool {
         let mut senders = locked(&self.senders);
-        if senders.contains(sender) {
+        if let Some(accepted) = senders.get(sender) {
+            count(accepted);
             return true;
         }
-        senders.len() < SENDERS && senders.insert(sender.to_string())
+        let is_new = senders.len() < SENDERS;
+        let accepted = self.accepted_points.with_label_values(&[if is_new { sender } else { OTHER }]);
+        count(&accepted);
+        if is_new {
+            senders.insert(sender.to_string(), accepted);
+        }
+        is_new
     }
 
     /// Shows these senders' shares and no others'.
@@ -249,17 +284,29 @@ mod tests {
         let metrics = Metrics::new().unwrap();
         let other = |points| Causes::of(b"", Profile::Deltas, points);
         for sender in 0..1000 {
-            metrics.foreign(&format!("sender{sender}"), &other(2), &[]);
+            metrics.rejected(&format!("sender{sender}"), &other(2), &[]);
+            metrics.accepted(&format!("sender{sender}"), 3);
         }
-        metrics.foreign("sender0", &other(1), &[]);
-        metrics.foreign("unseen", &other(0), &[]);
-        metrics.foreign("unseen", &other(5), &[Reason::Other]);
+        metrics.rejected("sender0", &other(1), &[]);
+        metrics.rejected("unseen", &other(0), &[]);
+        metrics.rejected("unseen", &other(5), &[Reason::Other]);
+        metrics.accepted("unseen", 0);
         let page = page(&metrics);
-        let lines: Vec<&str> =
-            page.lines().filter(|line| line.starts_with("totxegun_foreign_points_total{")).collect();
-        assert_eq!(lines.len(), SENDERS + 1);
-        assert!(lines.contains(&"totxegun_foreign_points_total{cause=\"other\",sender=\"sender0\"} 3"));
-        assert!(lines.contains(&"totxegun_foreign_points_total{cause=\"other\",sender=\"other\"} 1872"));
+        let lines = |name: &str| -> Vec<&str> {
+            page.lines().filter(|line| line.starts_with(&format!("totxegun_{name}_points_total{{"))).collect()
+        };
+        let rejected = lines("rejected");
+        assert_eq!(rejected.len(), SENDERS + 1);
+        assert!(rejected.contains(&"totxegun_rejected_points_total{reason=\"other\",sender=\"sender0\"} 3"));
+        assert!(rejected.contains(&"totxegun_rejected_points_total{reason=\"other\",sender=\"other\"} 1872"));
+        assert_eq!(
+            lines("expected_rejected"),
+            ["totxegun_expected_rejected_points_total{reason=\"other\"} 5"]
+        );
+        let accepted = lines("accepted");
+        assert_eq!(accepted.len(), SENDERS + 1);
+        assert!(accepted.contains(&"totxegun_accepted_points_total{sender=\"sender0\"} 3"));
+        assert!(accepted.contains(&"totxegun_accepted_points_total{sender=\"other\"} 2808"));
     }
 
     #[test]
@@ -279,13 +326,20 @@ mod tests {
     #[test]
     fn the_page_names_what_there_is_from_the_start() {
         let metrics = Metrics::new().unwrap();
-        metrics.post_ended(&Outcome::taken(0));
-        metrics.post_ended(&Outcome::taken(5));
-        metrics.post_ended(&Reason::OutOfOrder.into());
+        let began = Instant::now();
+        metrics.answered(&Outcome::taken(0), Encoding::Json, began);
+        metrics.answered(&Outcome::taken(5), Encoding::Protobuf, began);
+        metrics.answered(&Reason::OutOfOrder.into(), Encoding::Json, began);
+        metrics.request_size.observe(300.0);
         let page = page(&metrics);
         for line in [
-            "totxegun_posts_total{reason=\"\",status=\"200\"} 2",
-            "totxegun_posts_total{reason=\"out_of_order\",status=\"400\"} 1",
+            "totxegun_requests_total{code=\"200\",reason=\"\"} 2",
+            "totxegun_requests_total{code=\"400\",reason=\"out_of_order\"} 1",
+            "totxegun_request_duration_seconds_count{code=\"200\",encoding=\"json\"} 1",
+            "totxegun_request_duration_seconds_count{code=\"200\",encoding=\"protobuf\"} 1",
+            "totxegun_request_duration_seconds_bucket{code=\"400\",encoding=\"json\",le=\"+Inf\"} 1",
+            "totxegun_request_size_bytes_bucket{le=\"256\"} 0",
+            "totxegun_request_size_bytes_bucket{le=\"1024\"} 1",
             "totxegun_deliveries_total{outcome=\"taken\"} 0",
             "totxegun_deliveries_total{outcome=\"partial\"} 0",
             "totxegun_deliveries_total{outcome=\"denied\"} 0",
@@ -298,9 +352,25 @@ mod tests {
             "totxegun_disk_call_seconds 0",
             "totxegun_ready 0",
             "totxegun_log_lines_lost_total 0",
-            concat!("totxegun_build_info{version=\"", env!("CARGO_PKG_VERSION"), "\"} 1"),
         ] {
             assert!(page.lines().any(|found| found == line), "{line} in\n{page}");
         }
+        let version = concat!("version=\"", env!("CARGO_PKG_VERSION"), "\"} 1");
+        let is_of_build = |line: &&str| line.starts_with("totxegun_build_info{book=\"");
+        assert!(page.lines().find(is_of_build).unwrap().ends_with(version), "{page}");
+    }
+
+    /// Also where `/proc/stat` is hidden, as by the unit.
+    #[test]
+    fn the_page_has_the_process() {
+        let page = page(&Metrics::new().unwrap());
+        let value = |name: &str| -> f64 {
+            let line = page.lines().find_map(|line| line.strip_prefix(name)?.strip_prefix(' '));
+            line.unwrap_or_else(|| panic!("{name} in\n{page}")).parse().unwrap()
+        };
+        let since = crate::log::seconds() as f64 - value("process_start_time_seconds");
+        assert!((0.0..600.0).contains(&since), "{since}");
+        assert!(value("process_resident_memory_bytes") > 1e6 && value("process_open_fds") > 2.0);
+        assert!(value("process_cpu_seconds_total") >= 0.0 && value("process_threads") >= 1.0);
     }
 }

@@ -4,20 +4,14 @@
 //! too, so no key is under way twice. A
 //! letter is thrown away only once the sink has it. A service that ends in between sends it again under the same key.
 
-use super::reach::{Answer, Command};
-use super::{Desk, Unit};
+use super::reach::Answer;
+use super::{Asked, Desk, Unit};
 use crate::files::dead::{sent_as, Became, Letter};
 use crate::files::{Dead, Fault};
 use crate::sinks::{of_part, Fate, Forwarded};
 use crate::work::blocking;
 use serde::{Deserialize, Serialize};
 use serde_json::json;
-use std::sync::Arc;
-use std::time::Duration;
-use tokio::time::timeout;
-
-/// A page shows letters that all slots have told within.
-const SOON: Duration = Duration::from_secs(2);
 
 /// What became of a letter that was sent again.
 #[derive(Debug, PartialEq, Eq, Serialize, Deserialize)]
@@ -32,22 +26,56 @@ pub struct Resent {
     pub later: bool,
 }
 
-impl Desk {
-    /// Those of all slots, the oldest first.
-    pub(super) async fn letters(self: &Arc<Self>) -> Answer {
-        match self.in_all_slots("", &Command::Letters).await.all_done() {
-            Ok(answers) => Answer::new(200, json!(in_order(&answers)).to_string()),
-            Err(refused) => refused,
+/// What is asked of a letter.
+#[derive(Clone, Copy)]
+pub(super) enum OfLetter {
+    Show,
+    Resend,
+    Drop,
+}
+
+impl OfLetter {
+    /// What is written down of it.
+    pub fn act(self, key: &str) -> Option<Asked> {
+        match self {
+            OfLetter::Show => None,
+            OfLetter::Resend => Some(Asked::new("dead resend", key)),
+            OfLetter::Drop => Some(Asked::new("dead drop", key)),
         }
     }
+}
 
-    /// The same of the slots that can be asked; none where that takes long.
-    pub(super) async fn letters_soon(self: &Arc<Self>) -> Vec<Letter> {
-        let all = timeout(SOON, self.in_all_slots("", &Command::Letters)).await;
-        all.map_or_else(|_| Vec::new(), |all| in_order(&all.answers()))
+impl Desk {
+    /// Those of the slots that are here.
+    pub(super) async fn letters(&self) -> Answer {
+        let all = self.own_letters().await;
+        answered(all.map(|all| Answer::new(200, json!(all).to_string())))
     }
 
-    pub(super) async fn resend(&self, unit: &Unit, key: &str) -> Result<Answer, Fault> {
+    /// The oldest first.
+    async fn own_letters(&self) -> Result<Vec<Letter>, Fault> {
+        let mut all = Vec::new();
+        for unit in self.units.all() {
+            all.extend(all_letters(&unit).await?);
+        }
+        all.sort_by_key(|letter| letter.since); // letters of one time stay in their slots' order
+        Ok(all)
+    }
+
+    /// Of a letter of a slot that is here.
+    pub(super) async fn letter(&self, what: OfLetter, key: &str) -> Answer {
+        let unit = match self.unit_here(self.units.slot_of_key(key)) {
+            Ok(unit) => unit,
+            Err(elsewhere) => return elsewhere,
+        };
+        answered(match what {
+            OfLetter::Show => body(&unit, key).await,
+            OfLetter::Resend => self.resend(&unit, key).await,
+            OfLetter::Drop => dropped(&unit, key).await,
+        })
+    }
+
+    async fn resend(&self, unit: &Unit, key: &str) -> Result<Answer, Fault> {
         let _held = self.sink.keys().hold(sent_as(key)).await;
         let Some(body) = of_dead(unit, key, |dead, key| dead.body(key)).await? else {
             return sent_before(unit, key).await;
@@ -76,14 +104,6 @@ impl Desk {
     }
 }
 
-/// The oldest first: each list is in order, and letters of one time stay in theirs.
-fn in_order(answers: &[(u16, Answer)]) -> Vec<Letter> {
-    let lists = answers.iter().map(|(_, answer)| serde_json::from_str::<Vec<Letter>>(&answer.body));
-    let mut letters: Vec<Letter> = lists.flatten().flatten().collect();
-    letters.sort_by_key(|letter| letter.since);
-    letters
-}
-
 /// Asks for what the letter of this key is among. Thousands of letters take seconds, and so long nothing else would go on
 /// that this thread has to do.
 async fn of_dead<T: Send + 'static>(
@@ -109,12 +129,7 @@ async fn became(unit: &Unit, key: &str) -> Result<Option<Became>, Fault> {
     of_dead(unit, key, Dead::became).await
 }
 
-/// Those of a slot.
-pub(super) async fn of(unit: &Unit) -> Result<Answer, Fault> {
-    Ok(Answer::new(200, json!(all_letters(unit).await?).to_string()))
-}
-
-pub(super) async fn body(unit: &Unit, key: &str) -> Result<Answer, Fault> {
+async fn body(unit: &Unit, key: &str) -> Result<Answer, Fault> {
     match of_dead(unit, key, |dead, key| dead.body(key)).await? {
         Some(body) => Ok(Answer::new(200, String::from_utf8_lossy(&body))),
         None => Ok(gone(became(unit, key).await?)),
@@ -122,7 +137,7 @@ pub(super) async fn body(unit: &Unit, key: &str) -> Result<Answer, Fault> {
 }
 
 /// One that was dropped already is as if it were now: who asks had no answer.
-pub(super) async fn dropped(unit: &Unit, key: &str) -> Result<Answer, Fault> {
+async fn dropped(unit: &Unit, key: &str) -> Result<Answer, Fault> {
     if end(unit, key, Became::Dropped).await? {
         return Ok(Answer::new(200, "{}"));
     }
@@ -189,7 +204,7 @@ fn forwarded(name: &str, body: Vec<u8>) -> Option<Forwarded> {
 }
 
 /// Where it fails nothing but `dead/` is concerned, so the service goes on.
-pub(super) fn answered(done: Result<Answer, Fault>) -> Answer {
+fn answered(done: Result<Answer, Fault>) -> Answer {
     done.unwrap_or_else(|fault| {
         let reason = fault.to_string();
         tracing::warn!(reason, "dead/: {reason}");

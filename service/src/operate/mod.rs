@@ -2,11 +2,11 @@
 //!
 //! Orders are taken at a socket of this machine, where the system says who may connect. The address of TCP is read, and
 //! takes orders from whoever has a token (`tcp`). What a browser sends for a page of somebody else is turned away by `web`;
-//! `pages` are the address's own, which only read. Where there are other instances, `reach` asks these for their slots.
+//! `pages` are the address's own, which only read. Where there are other instances, `reach` asks these for their slots, or says
+//! where to ask.
 
 mod acts;
 mod amend;
-mod databases;
 mod letters;
 mod named;
 mod orders;
@@ -14,7 +14,8 @@ mod pages;
 mod periods;
 mod query;
 mod reach;
-mod status;
+pub mod status;
+mod store_health;
 mod tcp;
 mod totals;
 mod units;
@@ -22,16 +23,12 @@ mod user;
 mod web;
 
 pub use acts::{Act, Actor, Acts, Asked, OPERATOR};
-pub use databases::Databases;
 pub use letters::Resent;
 pub use named::Named;
-pub use pages::Pulse;
 pub use periods::{ANYWAY, FLUSHED};
 pub use reach::Others;
-pub use status::{
-    held, quarantined, BooksStatus, ClusterStatus, CumulativeStatus, DatabaseStatus, InstanceStatus,
-    RoundedStatus, SlotStatus, Status, Stock,
-};
+pub use status::{DatabaseStatus, Pulse, Status};
+pub use store_health::StoreHealth;
 pub use tcp::AtTcp;
 pub use totals::Totals;
 pub use units::{Undelivered, Unit, Units};
@@ -43,8 +40,9 @@ use crate::metrics::Metrics;
 use crate::post_reports::SenderActivity;
 use crate::shares::Shares;
 use crate::sinks::Sink;
-use hyper::header::{HeaderValue, ALLOW, CONTENT_TYPE};
-use hyper::{Body, Method, Request, Response, StatusCode};
+use hyper::header::{HeaderValue, ALLOW, CONTENT_TYPE, LOCATION};
+use hyper::{Body, Method, Request, Response, StatusCode, Uri};
+use letters::OfLetter;
 use pages::Page;
 use percent_encoding::percent_decode_str;
 use query::Query;
@@ -86,8 +84,10 @@ pub struct Desk {
 
 /// A route of the operator's address.
 enum Route {
-    /// Of slots, or of a key.
+    /// Of all slots.
     Order(Command),
+    /// Of the letter of a key.
+    Letter(OfLetter, String),
     Report,
     Metrics,
     Totals,
@@ -117,9 +117,9 @@ impl Route {
             ["ready"] => (Method::GET, Route::Ready),
             ["status"] => (Method::GET, Route::Status),
             ["dead"] => (Method::GET, Route::Letters),
-            ["dead", key] => (Method::GET, Route::Order(Command::Letter(decoded(key)))),
-            ["dead", key, "resend"] => (Method::POST, Route::Order(Command::Resend(decoded(key)))),
-            ["dead", key, "drop"] => (Method::POST, Route::Order(Command::Drop(decoded(key)))),
+            ["dead", key] => (Method::GET, Route::Letter(OfLetter::Show, decoded(key))),
+            ["dead", key, "resend"] => (Method::POST, Route::Letter(OfLetter::Resend, decoded(key))),
+            ["dead", key, "drop"] => (Method::POST, Route::Letter(OfLetter::Drop, decoded(key))),
             ["close" | "open" | "correct", _, ..] => (Method::POST, Route::Period(all_decoded(&parts))),
             ["repair", _] | ["forget"] => (Method::POST, Route::Amend(all_decoded(&parts))),
             [""] => (Method::GET, Route::Page(Page::Overview)),
@@ -133,7 +133,9 @@ impl Route {
     /// Who may ask for it over TCP.
     fn over_tcp(&self) -> OverTcp {
         match self {
-            Route::Order(_) | Route::Letters | Route::Period(_) | Route::Amend(_) => OverTcp::Operators,
+            Route::Order(_) | Route::Letter(..) | Route::Letters | Route::Period(_) | Route::Amend(_) => {
+                OverTcp::Operators
+            }
             Route::Report => OverTcp::Nobody,
             _ => OverTcp::All,
         }
@@ -169,7 +171,10 @@ impl Desk {
             Some((method, route)) if is_met(&method, request.method()) => {
                 match self.stranger(&route, &request) {
                     Some(why) => message(403, &why),
-                    None => self.go(route, actor, Query(request.uri().query().unwrap_or_default())).await,
+                    None => {
+                        let query = Query(request.uri().query().unwrap_or_default());
+                        with_path(self.go(route, actor, query).await, request.uri())
+                    }
                 }
             }
             Some((method, _)) => {
@@ -198,6 +203,11 @@ impl Desk {
             Route::Order(order) => {
                 let asked = order.act();
                 let doing = |who: String| async move { self.carry_out(&who, &order).await };
+                self.acts.recorded(actor, asked, doing, Answer::outcome).await.into()
+            }
+            Route::Letter(what, key) => {
+                let asked = what.act(&key);
+                let doing = |_| async { self.letter(what, &key).await };
                 self.acts.recorded(actor, asked, doing, Answer::outcome).await.into()
             }
             Route::Report => self.report().await,
@@ -230,6 +240,17 @@ fn decoded(part: &str) -> String {
 
 fn all_decoded(parts: &[&str]) -> Vec<String> {
     parts.iter().map(|part| decoded(part)).collect()
+}
+
+/// Where the same is asked for elsewhere: the answer has the instance's address alone.
+fn with_path(mut response: Response<Body>, asked: &Uri) -> Response<Body> {
+    if let Some(Ok(at)) = response.headers().get(LOCATION).map(HeaderValue::to_str) {
+        let path = asked.path_and_query().map_or("/", |path| path.as_str());
+        if let Ok(whole) = HeaderValue::from_str(&format!("{at}{path}")) {
+            response.headers_mut().insert(LOCATION, whole);
+        }
+    }
+    response
 }
 
 /// HEAD is answered as GET is (RFC 9110, 9.3.2), but for the body, which hyper leaves out.
@@ -291,7 +312,7 @@ mod tests {
         let parts = |path| match Route::of(path).unwrap().1 {
             Route::Period(parts) | Route::Amend(parts) => parts,
             Route::Order(Command::Quarantine(sender) | Command::Lift(sender)) => vec![sender],
-            Route::Order(Command::Letter(key) | Command::Resend(key) | Command::Drop(key)) => vec![key],
+            Route::Letter(_, key) => vec![key],
             _ => vec![],
         };
         assert_eq!(parts("/repair/2026-11-05T13%3A30%3A15"), ["repair", "2026-11-05T13:30:15"]);

@@ -2,7 +2,7 @@
 //! `shop.orders{shop=s1}`, or by all that identifies one, as the log has it. Attributes are a point's or its resource's.
 
 use crate::otlp::series::SeriesKey;
-use crate::sinks::sqlite::totals::{text, Filter, SeriesTotal};
+use crate::sinks::sql::totals::{text, Filter, SeriesTotal};
 use serde_json::{Map, Value};
 use std::str::FromStr;
 

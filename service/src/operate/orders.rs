@@ -1,18 +1,19 @@
 //! What is asked of the keepers and of the books, of all slots together.
 
 use super::reach::{Answer, Command};
-use super::{reply, Desk, TEXT};
+use super::{reply, Desk, Unit, TEXT};
 use crate::otlp::Reason;
+use crate::work::blocking;
 use hyper::{Body, Response};
 use serde_json::json;
 use std::sync::Arc;
 
 impl Desk {
-    /// Why posts are answered 503, where all are. Of several databases one may be silent, and a slot that is taken over is
-    /// read first: what the others have goes on, here or at its instance.
+    /// Why posts are answered 503, where all are. A slot that is taken over is read first: what the others have goes on, here
+    /// or at its instance.
     pub(super) fn unavailable(&self) -> Option<Reason> {
         let Some(others) = &self.others else {
-            return self.units.unavailable(|_| false);
+            return self.units.unavailable();
         };
         let cluster = &others.cluster;
         if cluster.is_stalled() {
@@ -26,28 +27,40 @@ impl Desk {
         }
         match self.units.is_empty() {
             true => Some(Reason::NoOwner),
-            false => self.units.unavailable(|slot| cluster.is_stalled_for(slot)),
+            false => self.units.unavailable(),
         }
     }
 
-    /// Has each slot do what is asked, or the one that has a key, wherever it is.
+    /// Has each slot do what is asked, wherever it is.
     pub(super) async fn carry_out(self: &Arc<Self>, who: &str, command: &Command) -> Answer {
-        let of_key = command.key().map(|key| self.units.slot_of_key(key));
-        let slots = of_key.map_or(0..self.units.slots(), |slot| slot..slot + 1);
-        match self.in_slots(who, command, slots).await.all() {
+        match self.in_all_slots(who, command).await.all() {
             Ok(answers) => together(&answers),
             Err(not_all) => not_all,
         }
     }
 
-    pub(super) async fn report(self: &Arc<Self>) -> Response<Body> {
-        match self.in_all_slots("", &Command::Report).await.all_done() {
-            Ok(answers) => {
-                let reports = answers.into_iter().map(|(_, answer)| answer.body);
-                reply(200, TEXT, reports.collect::<String>())
+    /// Of the slots that are here.
+    pub(super) async fn report(&self) -> Response<Body> {
+        let mut reports = String::new();
+        for unit in self.units.all() {
+            match report_of(unit).await {
+                Ok(report) => reports += &report,
+                Err(refused) => return refused.into(),
             }
-            Err(refused) => refused.into(),
         }
+        reply(200, TEXT, reports)
+    }
+}
+
+/// While a book is filled nobody waits for it.
+async fn report_of(unit: Arc<Unit>) -> Result<String, Answer> {
+    if !unit.slot.is_ready() {
+        let why = unit.slot.unavailable().unwrap_or(Reason::Recovering);
+        return Err(Answer::told(503, why.text()));
+    }
+    match blocking(move || unit.slot.core().lock().report()).await {
+        Ok(report) => Ok(String::from_utf8_lossy(&report).into_owned()),
+        Err(refused) => Err(Answer::told(refused.status(), &refused.to_string())),
     }
 }
 

@@ -3,8 +3,9 @@
 
 use super::query::Query;
 use super::reach::Answer;
+use super::status::held;
 use super::status::Status;
-use super::{held, Actor, Asked, Desk};
+use super::{Actor, Asked, Desk};
 use crate::sinks::periods::{Correction, Deed, Told};
 use std::sync::Arc;
 

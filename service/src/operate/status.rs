@@ -1,10 +1,17 @@
-//! What the service says of itself: in JSON for `totxegun status`, in gauges for Prometheus.
+//! What the service says of itself: in JSON, from which `totxegun status` and the operator's page have their words (`shown`),
+//! and in gauges for Prometheus.
 
 mod cluster;
 mod levels;
 mod merged;
+mod posts;
+mod pulse;
+mod shown;
 
 pub use cluster::{ClusterStatus, DatabaseStatus, InstanceStatus};
+pub use posts::{First, RefusedStatus, RejectedStatus, SenderStatus};
+pub use pulse::{Pulse, Rates, KEPT};
+pub use shown::{Section, Shown, Tile};
 
 use super::{Desk, Undelivered, Unit};
 use crate::files::Held;
@@ -28,21 +35,22 @@ pub struct Status {
     pub listen: String,
     pub data: String,
     pub sink: String,
+    /// What was posted and delivered a second, at each look of the last minutes, the oldest first.
+    pub rates: Vec<Rates>,
     /// Requests that the sink refused for good.
     pub dead: u64,
-    #[serde(default)]
-    pub books: BooksStatus,
     pub slots: Vec<SlotStatus>,
-    /// Databases of the store that do not answer, and why not: posts of their slots get 503.
-    #[serde(default)]
-    pub silent: Vec<String>,
+    /// Refusals since the start, the last first.
+    pub refused: First<RefusedStatus>,
+    /// Points that were not taken since the start, of requests that were: those with most points first.
+    pub rejected: First<RejectedStatus>,
+    /// The one that posted last first.
+    pub senders: First<SenderStatus>,
+    pub limits: LimitsStatus,
     /// Those that are nearest to their share, the nearest first.
-    #[serde(default)]
-    pub senders: Vec<Used>,
+    pub shares: Vec<Used>,
     /// What `--whole` has rounded since the start.
-    #[serde(default)]
     pub rounded: Vec<RoundedStatus>,
-    #[serde(default)]
     pub cumulative: CumulativeStatus,
     /// Where several instances share a store.
     #[serde(default, skip_serializing_if = "Option::is_none")]
@@ -55,14 +63,13 @@ impl Status {
         self.slots.iter().map(|slot| slot.waiting).sum()
     }
 
+    pub fn series(&self) -> usize {
+        self.slots.iter().map(|slot| slot.series).sum()
+    }
+
     /// Why the sink does not take what waits.
     pub fn trouble(&self) -> Option<&str> {
         self.slots.iter().find_map(|slot| slot.stuck.as_deref().or(slot.trouble.as_deref()))
-    }
-
-    /// How long until it is asked again.
-    pub fn next_try_seconds(&self) -> Option<u64> {
-        self.slots.iter().filter_map(|slot| slot.next_try_seconds).min()
     }
 
     /// The first slot of which nothing is known, and why.
@@ -80,13 +87,22 @@ pub struct CumulativeStatus {
     pub noted: u64,
 }
 
-/// How many books there are, and what they may have.
+/// How much this instance uses of what it may have.
 #[derive(Debug, Default, Serialize, Deserialize)]
-pub struct BooksStatus {
-    pub count: u64,
-    pub most_series: u64,
-    pub memory_bytes: u64,
-    pub most_memory_bytes: u64,
+pub struct LimitsStatus {
+    pub series: Limit,
+    /// Of the book.
+    pub memory_bytes: Limit,
+    /// Of requests that are not answered yet.
+    pub request_bytes: Limit,
+    /// Of the file system of the folder; none where that does not answer.
+    pub disk_free_bytes: Option<u64>,
+}
+
+#[derive(Clone, Copy, Debug, Default, PartialEq, Eq, Serialize, Deserialize)]
+pub struct Limit {
+    pub used: u64,
+    pub limit: u64,
 }
 
 /// Values that were not whole, and what they were rounded by together, in the finer unit of the rule.
@@ -96,10 +112,8 @@ pub struct RoundedStatus {
     #[serde(flatten)]
     pub rounding: Rounding,
     /// How many series these are of.
-    #[serde(default)]
     pub series: usize,
     /// The series that were rounded by most, this one first.
-    #[serde(default)]
     pub greatest: Vec<RoundedSeries>,
 }
 
@@ -128,13 +142,10 @@ pub struct SlotStatus {
     pub series: usize,
     pub quarantined: Vec<String>,
     /// Posts of quarantined senders that no flush takes, in files of their own.
-    #[serde(default)]
     pub held: Held,
     /// Some of these are of a sender that is quarantined no more: the next flush takes them.
-    #[serde(default)]
     pub released: bool,
     /// Posts that are in no group yet.
-    #[serde(default)]
     pub posts: u64,
     pub journal: Stock,
     /// Requests that the sink does not have.
@@ -173,8 +184,15 @@ impl Stock {
 }
 
 impl Desk {
+    /// Of this instance.
     pub(super) fn status(&self) -> Status {
+        self.with_posts(self.levels())
+    }
+
+    /// The same without what came to it.
+    fn levels(&self) -> Status {
         let slots = self.slot_statuses();
+        let series = slots.iter().map(|slot| slot.series as u64).sum();
         Status {
             version: env!("CARGO_PKG_VERSION").into(),
             pid: std::process::id(),
@@ -185,38 +203,29 @@ impl Desk {
             data: self.data.clone(),
             sink: self.sink.name(),
             dead: self.units.dead(),
-            books: self.books_status(),
             slots,
-            silent: self.silent_databases(),
-            senders: self.shares.nearest(),
+            limits: self.limits_status(series),
+            shares: self.shares.nearest(),
             rounded: self.rounded_status(),
             cumulative: CumulativeStatus {
                 series: self.cumulative_series(),
                 noted: self.metrics.noted_runs.get(),
             },
             cluster: self.own_cluster_status(),
+            ..Status::default()
         }
     }
 
-    /// Of several.
-    fn silent_databases(&self) -> Vec<String> {
-        let Some(others) = &self.others else {
-            return Vec::new();
-        };
-        let silent = others.cluster.status().silent;
-        match silent.len() {
-            1 => Vec::new(), // then all get 503, and it is said so
-            _ => others.databases.silent(&silent),
-        }
-    }
-
-    fn books_status(&self) -> BooksStatus {
-        let (memory_bytes, most_memory_bytes) = crate::core::memory_used();
-        BooksStatus {
-            count: self.units.sum(|unit| unit.slot.core().books() as u64),
-            most_series: self.most_series as u64,
-            memory_bytes,
-            most_memory_bytes,
+    fn limits_status(&self, series: u64) -> LimitsStatus {
+        let of_slots = self.others.as_ref().and_then(|_| self.units.most_series());
+        let (used, limit) = crate::core::memory_used();
+        let (budget, limit_of_budget) = (self.budget.used(), self.budget.most());
+        LimitsStatus {
+            series: Limit { used: series, limit: of_slots.unwrap_or(self.most_series) as u64 },
+            memory_bytes: Limit { used, limit },
+            request_bytes: Limit { used: budget as u64, limit: limit_of_budget as u64 },
+            // A disk that stalls may not say either how much it has.
+            disk_free_bytes: self.units.disk_answers().then(|| free_bytes(&self.data)).flatten(),
         }
     }
 
@@ -233,12 +242,8 @@ impl Desk {
         self.units.sum(|unit| unit.slot.runs.count() as u64) as usize
     }
 
-    /// The slots, and former ones, as long as they have something.
     fn slot_statuses(&self) -> Vec<SlotStatus> {
-        let units = self.units.all();
-        let at_work = units.iter().map(|unit| SlotStatus::at_work(unit));
-        let former = units.iter().flat_map(|unit| &unit.former).map(SlotStatus::of);
-        let mut slots: Vec<SlotStatus> = at_work.chain(former.filter(|slot| slot.waiting > 0)).collect();
+        let mut slots: Vec<_> = self.units.all().iter().map(|unit| SlotStatus::at_work(unit)).collect();
         if let Some(others) = &self.others {
             let terms = others.cluster.status().terms;
             for slot in &mut slots {
@@ -252,24 +257,19 @@ impl Desk {
 
 impl SlotStatus {
     fn at_work(unit: &Unit) -> SlotStatus {
+        let Undelivered { number, outbox, delivery } = &unit.undelivered;
         let (journal, since) = unit.slot.journal.size();
+        // Before what waits, as the journal.
+        let released = unit.slot.has_released();
+        let (waiting, bytes, first) = outbox.waiting();
+        let delivery = delivery.state();
         SlotStatus {
+            slot: *number,
             unavailable: unit.slot.unavailable().map(|why| why.text().into()),
             journal: Stock::new(journal, since),
             posts: unit.slot.ungrouped(),
             held: unit.slot.journal.held(),
-            released: unit.slot.has_released(), // before what waits, as the journal
-            ..SlotStatus::of(&unit.undelivered)
-        }
-    }
-
-    /// Without a journal.
-    fn of(undelivered: &Undelivered) -> SlotStatus {
-        let outbox = &undelivered.outbox;
-        let (waiting, bytes, first) = outbox.waiting();
-        let delivery = undelivered.delivery.state();
-        SlotStatus {
-            slot: undelivered.number,
+            released,
             series: outbox.series_count(),
             quarantined: outbox.quarantined().into_iter().collect(),
             waiting,
@@ -292,6 +292,12 @@ impl SlotStatus {
             ..SlotStatus::default()
         }
     }
+}
+
+/// What a file system has left for this process. It is asked as `files` asks before each post: some microseconds.
+fn free_bytes(folder: &str) -> Option<u64> {
+    let disk = nix::sys::statvfs::statvfs(folder).ok()?;
+    Some(disk.blocks_available() * disk.fragment_size())
 }
 
 /// Who is quarantined: a sender is in each slot, and counts once.
@@ -320,6 +326,12 @@ mod tests {
         };
         let slots = [slot(&["a", "b"]), slot(&["a"]), slot(&[])];
         assert_eq!(Vec::from_iter(quarantined(&slots)), ["a", "b"]);
+    }
+
+    #[test]
+    fn a_folder_is_on_a_disk() {
+        assert!(free_bytes("/").is_some());
+        assert_eq!(free_bytes("/no/such/folder"), None);
     }
 
     #[test]

@@ -1,7 +1,7 @@
 //! The operators' address of TCP, which any program of the machine reaches, and a page in a browser: it is read by all, and
 //! takes orders from who has a token. What holds posts up is for nobody there. Of a socket the kernel says who connects.
 
-use super::{is_met, message, Actor, Desk, OverTcp, Page, Route};
+use super::{is_met, message, Actor, Desk, OverTcp, Route};
 use crate::identity::{by_token, Tokens};
 use crate::intake::connections::Handler;
 use crate::reloaded::Reloaded;
@@ -18,16 +18,15 @@ pub struct AtTcp {
 
 impl Handler for AtTcp {
     async fn answer(self: Arc<Self>, request: Request<Body>) -> Response<Body> {
-        let mut route = Route::of(request.uri().path());
+        let route = Route::of(request.uri().path());
         let mut actor = Actor::User(None);
-        match &mut route {
+        match &route {
             Some((method, route)) if route.over_tcp() != OverTcp::All && is_met(method, request.method()) => {
                 match self.operator(route, &request) {
                     Ok(name) => actor = Actor::Named(name),
                     Err(refused) => return *refused,
                 }
             }
-            Some((_, Route::Page(page))) if *page == Page::Overview => *page = Page::Levels,
             _ => {}
         }
         self.desk.answer_to(actor, route, request).await

@@ -19,16 +19,13 @@ pub struct Unit {
     pub slot: Arc<Slot>,
     pub orders: Orders,
     pub undelivered: Undelivered,
-    /// Of slots that an earlier totxegun had: what the sink has not taken.
-    pub former: Vec<Undelivered>,
     pub dead: Arc<Dead>,
 }
 
 impl Unit {
     /// What its sink has not taken is tried now.
     pub fn hurry(&self) {
-        let all = std::iter::once(&self.undelivered).chain(&self.former);
-        all.for_each(|undelivered| undelivered.delivery.hurry());
+        self.undelivered.delivery.hurry();
     }
 }
 
@@ -79,11 +76,9 @@ impl Units {
         locked(&self.here).get(&slot).cloned()
     }
 
-    /// Why posts of the slots that are here, and none of these, are answered 503, where those of all of them are.
-    pub fn unavailable(&self, but: impl Fn(u16) -> bool) -> Option<Reason> {
-        let units = self.all();
-        let others = units.iter().filter(|unit| !but(unit.slot.number()));
-        let reasons: Option<Vec<_>> = others.map(|unit| unit.slot.unavailable()).collect();
+    /// Why posts of the slots that are here are answered 503, where those of all of them are.
+    pub fn unavailable(&self) -> Option<Reason> {
+        let reasons: Option<Vec<_>> = self.all().iter().map(|unit| unit.slot.unavailable()).collect();
         reasons?.first().copied()
     }
 
@@ -103,8 +98,7 @@ impl Units {
         fit_for_sure(&slots.collect::<Vec<_>>())
     }
 
-    /// The slot that has the dead letter of this key: the first also has those of slots that there were, as a move brings
-    /// them (`store/moving.rs`).
+    /// The slot that has the dead letter of this key, if there is one.
     pub fn slot_of_key(&self, key: &str) -> u16 {
         let slot = key.split('-').next().and_then(|slot| slot.parse().ok());
         slot.filter(|slot| *slot < self.slots).unwrap_or(0)
@@ -174,9 +168,8 @@ mod tests {
         assert_eq!(fit_for_sure(&[(41, 40), (1, 40)]), Some(42));
     }
 
-    /// As `store move` brings letters there: else they are listed, and nobody can show, send or drop them.
     #[test]
-    fn a_letter_of_a_slot_that_is_none_is_in_the_first() {
+    fn a_letter_is_in_the_slot_of_its_key_and_the_first_is_asked_for_one_of_no_slot() {
         let found = |slots, key: &str| Units::of(slots).slot_of_key(key);
         for (key, slot) in [
             ("0-a-1", 0),

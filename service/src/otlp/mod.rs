@@ -80,6 +80,14 @@ impl Encoding {
         }
     }
 
+    /// As metrics have it.
+    pub fn label(self) -> &'static str {
+        match self {
+            Encoding::Json => "json",
+            Encoding::Protobuf => "protobuf",
+        }
+    }
+
     /// How a body was written of which nothing is known.
     pub fn of(body: &[u8]) -> Encoding {
         let first = body.iter().find(|byte| !byte.is_ascii_whitespace());

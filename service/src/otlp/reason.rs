@@ -123,13 +123,13 @@ reasons! {
     WrongMethod "wrong_method" Request(405, "wrong method"), "metrics are posted";
     ContentType "content_type" Request(415, "only application/json or application/x-protobuf"),
         "set the exporter's protocol to http/protobuf or http/json";
-    ContentEncoding "content_encoding" Request(415, "only gzip or identity"),
-        "set the exporter's compression to gzip or none";
+    ContentEncoding "content_encoding" Request(415, "only gzip, zstd or identity"),
+        "set the exporter's compression to gzip, zstd or none";
     NoLength "no_length" Request(411, "no length of the body"), "the sender gives neither Content-Length nor chunks";
     MalformedRequest "malformed_request" Request(400, "malformed request"),
         "what came is no request of HTTP, or of gRPC";
     HeadTooLong "head_too_long" Request(431, "head too long"), "the sender has too many headers";
-    BadGzip "bad_gzip" Request(400, "bad gzip"), "the sender says gzip, and packs otherwise";
+    BadCompression "bad_compression" Request(400, "bad compression"), "the sender packs otherwise than it says";
     BodyTooLong "body_too_long" Request(413, "body too long"),
         "have the sender post fewer points at a time (a Collector: send_batch_max_size)";
     TooManyHours "too_many_hours" Request(413, "too many hours in a post"),

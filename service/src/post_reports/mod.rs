@@ -183,7 +183,7 @@ impl Reporter {
                 };
                 let causes = causes.and(&known);
                 let all = causes.clone().and(&Causes::of_clocks(off));
-                self.metrics.foreign(sender, &all, &self.options.expected);
+                self.metrics.rejected(sender, &all, &self.options.expected);
                 Outcome::taken_but(0, off, causes)
             }
             Outcome::Refused(rejection) => match rejection.point {

@@ -140,13 +140,13 @@ async fn a_sender_is_told_what_is_not_taken() {
     );
     let page = String::from_utf8(all.reporter.metrics.page()).unwrap();
     for line in [
-        "totxegun_foreign_points_total{cause=\"up_down_counter\",sender=\"a\"} 2",
-        "totxegun_foreign_points_total{cause=\"cumulative_sum\",sender=\"a\"} 1",
-        "totxegun_expected_foreign_points_total{cause=\"gauge\"} 3",
+        "totxegun_rejected_points_total{reason=\"up_down_counter\",sender=\"a\"} 2",
+        "totxegun_rejected_points_total{reason=\"cumulative_sum\",sender=\"a\"} 1",
+        "totxegun_expected_rejected_points_total{reason=\"gauge\"} 3",
     ] {
         assert!(page.lines().any(|found| found == line), "{line} in\n{page}");
     }
-    assert!(!page.contains("totxegun_foreign_points_total{cause=\"gauge\""), "{page}");
+    assert!(!page.contains("totxegun_rejected_points_total{reason=\"gauge\""), "{page}");
     // A long body is read beside, to the same answer; and the book alone says how many points it did not take.
     let long = format!(r#"{{"name":"{}"}},{metrics}"#, "x".repeat(Readers::SHORT));
     let answer = answered(&all, &long).await;
@@ -171,7 +171,7 @@ async fn a_sender_whose_clock_is_off_is_told_by_how_much() {
     answered(&reported, GAUGES).await;
     assert_eq!(locked(&reported.reporter.logged).clocks.count(), 1, "it is in the log once");
     let page = String::from_utf8(reported.reporter.metrics.page()).unwrap();
-    let line = "totxegun_foreign_points_total{cause=\"clock_ahead\",sender=\"a\"} 2";
+    let line = "totxegun_rejected_points_total{reason=\"clock_ahead\",sender=\"a\"} 2";
     assert!(page.lines().any(|found| found == line), "{page}");
 }
 

@@ -1,17 +1,19 @@
 //! The points that the book is asked to take of a post.
 
-use super::{added_by, EndedRun, Entry, Kind, Locked, Names, Point, Points, Run, Runs, SeriesPlace};
+use super::{added_by, Kind, Locked, Names, Point, Points, Run, Runs};
 use crate::core;
 use crate::files::OfRun;
 use crate::otlp::series::Digest;
 use crate::otlp::Causes;
+use ahash::AHashMap;
 use std::collections::HashMap;
-use std::sync::Arc;
 
-/// Of a post. Unless it is kept all is as it was before.
+/// Of a post. What it comes to is beside the runs until it is kept.
 pub struct Draft<'r> {
     of: &'r Runs,
     runs: Locked<'r>,
+    /// By the numbers of their series: what the runs come to by this post.
+    overlay: AHashMap<u64, Run>,
     /// In their order: those that were made of cumulative ones, and delta points as they came.
     pub points: Points,
     /// The places of the points that are not sound, ascending.
@@ -23,17 +25,8 @@ pub struct Draft<'r> {
     pub noted: Vec<(u64, u64)>,
     /// Points that add nothing, since they are counted already: each by its place in the post, and its series.
     pub late: Vec<(u32, Digest)>,
-    /// Of the series of each point that was made, in their order, how many numbers its run was; none where there was none.
-    before: Vec<(u32, Option<usize>)>,
-    /// These runs, in numbers.
-    was: Vec<u64>,
-    /// One under way: so that its words find their room again.
-    point: Point,
-    /// How many series were known.
-    first_new: usize,
-    is_kept: bool,
-    /// By the place of a point that was made here, its series.
-    made: Vec<(u32, u32)>,
+    /// By the place of a point that was made here, the number of its series.
+    made: Vec<(u32, u64)>,
     /// Of each point its place in the post.
     places: Vec<u32>,
     /// Of the delta points so far: by the number of their series where the last one ends.
@@ -56,17 +49,13 @@ impl Runs {
         let (points, cumulative) = (posted.points, posted.cumulative.len());
         let mut draft = Draft {
             of: self,
-            first_new: runs.series.len(),
-            is_kept: false,
             runs,
+            overlay: AHashMap::with_capacity(cumulative),
             points: Points::with_room(points.words().len(), points.count()),
             unsound: Vec::new(),
             turned: Causes::default(),
             noted: Vec::new(),
             late: Vec::new(),
-            before: Vec::with_capacity(cumulative),
-            was: Vec::new(),
-            point: Point::default(),
             made: Vec::with_capacity(cumulative),
             places: Vec::with_capacity(points.count()),
             deltas: HashMap::new(),
@@ -92,76 +81,39 @@ impl Draft<'_> {
     }
 
     fn add(&mut self, names: &Names, (place, words): (u32, &[u64]), frontier: impl Fn(&Digest) -> u64) {
-        let mut point = std::mem::take(&mut self.point);
-        point.set(words[1], words[2], &words[3..]);
-        self.add_point(names, (place, words[0], &point), frontier);
-        self.point = point;
-    }
-
-    fn add_point(
-        &mut self,
-        names: &Names,
-        (place, number, point): (u32, u64, &Point),
-        frontier: impl Fn(&Digest) -> u64,
-    ) {
-        let options = self.of.options();
+        let number = words[0];
+        let point = Point { start: words[1], time: words[2], words: words[3..].to_vec() };
+        let Some(series) =
+            self.runs.find(names, number, frontier).filter(|series| point.is_sound(series.terms.kind))
+        else {
+            self.unsound.push(place);
+            return;
+        };
+        let known = self.overlay.get(&number).or(series.run.as_deref());
         let deltas = self.deltas.get(&number).copied().unwrap_or(0);
-        if let Some(terms) = self.runs.untaken.get(&number).copied() {
-            if !point.is_sound(terms.kind) {
-                self.unsound.push(place);
-                return;
-            }
-            if let Err(refused) = added_by(options, terms, None, deltas, point) {
-                return self.turned.add(refused, 1);
-            }
-        }
-        let Some(found) = self.runs.find(names, number, frontier) else {
-            self.unsound.push(place);
-            return;
-        };
-        if let SeriesPlace::New(series) = &found {
-            self.runs.untaken.insert(number, series.terms);
-        }
-        let series = match &found {
-            SeriesPlace::At(place) => &self.runs.series[*place as usize],
-            SeriesPlace::New(series) => series,
-        };
-        if !point.is_sound(series.terms.kind) {
-            self.unsound.push(place);
-            return;
-        }
-        match added_by(options, series.terms, series.run.as_deref(), deltas, point) {
+        match added_by(self.of.options(), series.terms, known, deltas, &point) {
             Ok(None) => self.late.push((place, series.digest)),
-            Ok(Some(entry)) => self.take(found, number, entry, point),
             Err(refused) => self.turned.add(refused, 1),
+            Ok(Some(entry)) => {
+                let run = self.overlay.entry(number);
+                let run = run.or_insert_with(|| series.run.as_deref().cloned().unwrap_or_default());
+                if let OfRun::Noted { words, .. } = &entry.of_run {
+                    self.noted.push((number, words[0]));
+                }
+                entry.put_after(series.terms.kind, point, run);
+                let at = self.points.count() as u32;
+                self.made.push((at, number));
+                self.points.push(number, entry.from, entry.time, entry.words);
+                self.points.put_run(at, entry.of_run);
+            }
         }
-    }
-
-    fn take(&mut self, found: SeriesPlace, number: u64, entry: Entry, point: &Point) {
-        if let SeriesPlace::New(_) = &found {
-            self.runs.untaken.remove(&number);
-        }
-        let place = self.runs.place(found, number);
-        let series = &self.runs.series[place as usize];
-        if let OfRun::Noted { words, .. } = &entry.of_run {
-            self.noted.push((number, words[0]));
-        }
-        let was = self.was.len();
-        let run = series.run.as_ref().inspect(|run| run.put_in_numbers(&mut self.was));
-        self.before.push((place, run.map(|_| self.was.len() - was)));
-        self.runs.come_to(place, point, &entry);
-        let at = self.points.count() as u32;
-        self.made.push((at, place));
-        self.points.push(number, entry.from, entry.time, entry.words);
-        self.points.put_run(at, entry.of_run);
     }
 
     /// The book has refused this point, since the series ends there in it: it has delta points too, which came before this post.
     /// So that stays also where the post is refused. The series, where the point was made here.
     pub fn note_frontier(&mut self, at: u32, frontier: u64) -> Option<Digest> {
         let found = self.made.binary_search_by_key(&at, |made| made.0).ok()?;
-        let place = self.made[found].1;
-        let series = &mut self.runs.series[place as usize];
+        let series = self.runs.get_mut(self.made[found].1)?;
         series.terms.frontier = frontier;
         Some(series.digest)
     }
@@ -191,55 +143,17 @@ impl Draft<'_> {
     }
 
     /// The book has taken it.
-    pub fn keep(mut self) {
-        self.is_kept = true;
-        self.of.note_count(&self.runs);
-    }
-}
-
-impl Drop for Draft<'_> {
-    fn drop(&mut self) {
-        if self.is_kept {
-            return;
+    pub fn keep(self) {
+        let Draft { of, mut runs, overlay, .. } = self;
+        for (number, run) in overlay {
+            runs.come_to(number, run);
         }
-        for (place, numbers) in std::mem::take(&mut self.before).into_iter().rev() {
-            let run = &mut self.runs.series[place as usize].run;
-            match (numbers, run) {
-                (Some(numbers), Some(run)) => {
-                    let was = self.was.split_off(self.was.len() - numbers);
-                    Arc::make_mut(run).set_to_numbers(&was);
-                }
-                (_, run) => *run = None,
-            }
-        }
-        let first_new = self.first_new;
-        self.runs.truncate(first_new);
-    }
-}
-
-impl Run {
-    fn put_in_numbers(&self, numbers: &mut Vec<u64>) {
-        let Run { last, interval, before } = self;
-        numbers.extend([*interval, before.start, before.time, last.start, last.time]);
-        numbers.extend_from_slice(&last.words);
-    }
-
-    fn set_to_numbers(&mut self, numbers: &[u64]) {
-        if let [interval, before_start, before_time, start, time, words @ ..] = numbers {
-            self.interval = *interval;
-            self.before = EndedRun { start: *before_start, time: *before_time };
-            self.last.set(*start, *time, words);
-        }
+        runs.untaken.shrink_to_fit(); // of series that have a run now
+        of.note_count(&runs);
     }
 }
 
 impl Point {
-    fn set(&mut self, start: u64, time: u64, words: &[u64]) {
-        (self.start, self.time) = (start, time);
-        self.words.clear();
-        self.words.extend_from_slice(words);
-    }
-
     /// Whether the book could take such a point, of whatever span.
     fn is_sound(&self, kind: Kind) -> bool {
         const LONGEST_SUM: u64 = 1 << 53;

@@ -283,10 +283,9 @@ impl Entry {
     }
 
     /// The same, in the place of a run, of the point that it was made of: without adding up what comes to that again.
-    pub fn put_after(&self, kind: Kind, point: &Point, run: &mut Run) {
+    pub fn put_after(&self, kind: Kind, point: Point, run: &mut Run) {
         self.note_times(point.start, run);
-        (run.last.start, run.last.time) = (point.start, point.time);
-        run.last.words.clone_from(&point.words);
+        run.last = point;
         if let (Kind::Histogram, OfRun::More, [_, has, sum, ..]) =
             (kind, &self.of_run, &mut run.last.words[..])
         {

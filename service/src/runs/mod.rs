@@ -52,9 +52,9 @@ pub struct State {
     places: HashMap<Digest, u32>,
     /// By the number of a series in the names that were used last.
     by_number: Vec<u32>,
-    /// By the same numbers, of series that are not here, since no point of theirs was taken yet, what a point needs of them. Their
-    /// texts are long: who posts such points again and again would have all others wait while they are read.
-    untaken: HashMap<u64, Terms>,
+    /// By the same numbers, series that have no run, since no point of theirs was taken yet. Their texts are long: who posts such
+    /// points again and again would have all others wait while they are read.
+    untaken: HashMap<u64, Series>,
     generation: u64,
     /// The places of series whose runs are in no commit as they are.
     changed: Vec<u32>,
@@ -89,7 +89,7 @@ impl Runs {
 
     /// Waits for the lock. It is taken before that of the book.
     pub fn lock(&self) -> Locked<'_> {
-        locked(&self.state) // each change of it is whole, or undone by a draft
+        locked(&self.state) // each change of it is whole
     }
 
     /// Puts what a start has found in the place of all.
@@ -124,23 +124,35 @@ impl State {
 
     /// What a post of the journal says of runs. What is known already stays.
     pub fn replay(&mut self, names: &Names, points: &Points) {
+        self.go_by(names);
         for ((_, of_run), point) in points.with_runs() {
-            let found = self.find(names, point[0], |_| 0);
-            let place = found.map(|found| self.place(found, point[0]));
-            let Some(place) = place else { continue }; // each name that was written is that of a series
-            let series = &mut self.series[place as usize];
+            let Some(series) = self.find(names, point[0], |_| 0) else {
+                continue; // each name that was written is that of a series
+            };
             let (of_run, words) = (of_run.clone(), point[3..].to_vec());
             let entry = Entry { of_run, from: point[1], time: point[2], words };
-            series.run = entry.after(series.terms.kind, series.run.as_deref()).map(Arc::new);
-            self.note_change(place);
+            if let Some(run) = entry.after(series.terms.kind, series.run.as_deref()) {
+                self.come_to(point[0], run);
+            }
         }
     }
 
-    /// Has a series' run come to a point. Who has the run as it was keeps it so.
-    fn come_to(&mut self, place: u32, point: &Point, entry: &Entry) {
-        let series = &mut self.series[place as usize];
-        let run = series.run.get_or_insert_with(Arc::default);
-        entry.put_after(series.terms.kind, point, Arc::make_mut(run));
+    /// Has a series' run come to this. Who has the run as it was keeps it so.
+    fn come_to(&mut self, number: u64, run: Run) {
+        let taken = |state: &mut State| {
+            let series = state.untaken.remove(&number)?;
+            let place = state.put(series);
+            state.number(number, place);
+            Some(place)
+        };
+        let Some(place) = self.place(number).or_else(|| taken(self)) else {
+            return; // it was found by this number
+        };
+        let known = &mut self.series[place as usize].run;
+        match known.as_mut().and_then(Arc::get_mut) {
+            Some(known) => *known = run,
+            None => *known = Some(Arc::new(run)),
+        }
         self.note_change(place);
     }
 
@@ -182,20 +194,33 @@ impl State {
         }
     }
 
-    /// The series of a number; none where its name is that of none. `frontier` is asked of one that is new here.
-    fn find(&mut self, names: &Names, number: u64, frontier: impl Fn(&Digest) -> u64) -> Option<SeriesPlace> {
-        self.go_by(names);
-        let known = self.by_number.get(number as usize);
-        if let Some(place) = known.filter(|place| **place != UNKNOWN) {
-            return Some(SeriesPlace::At(*place));
+    /// The series of a number, by whose names it goes; none where its name is that of none. `frontier` is asked of one that is
+    /// new here.
+    fn find(&mut self, names: &Names, number: u64, frontier: impl Fn(&Digest) -> u64) -> Option<&Series> {
+        if self.place(number).is_none() && !self.untaken.contains_key(&number) {
+            let key = series::only(&files::Names::text(names, number))?;
+            let digest = key.digest();
+            match self.places.get(&digest).copied() {
+                Some(place) => self.number(number, place),
+                None => {
+                    let series = self.series_of(&key, digest, frontier)?;
+                    self.untaken.insert(number, series);
+                }
+            }
         }
-        let key = series::only(&files::Names::text(names, number))?;
-        let digest = key.digest();
-        if let Some(place) = self.places.get(&digest).copied() {
-            self.number(number, place);
-            return Some(SeriesPlace::At(place));
+        self.get_mut(number).map(|series| &*series)
+    }
+
+    /// One that was found.
+    fn get_mut(&mut self, number: u64) -> Option<&mut Series> {
+        match self.place(number) {
+            Some(place) => self.series.get_mut(place as usize),
+            None => self.untaken.get_mut(&number),
         }
-        self.series_of(&key, digest, frontier).map(SeriesPlace::New)
+    }
+
+    fn place(&self, number: u64) -> Option<u32> {
+        self.by_number.get(number as usize).copied().filter(|place| *place != UNKNOWN)
     }
 
     /// One that is not here yet.
@@ -215,17 +240,6 @@ impl State {
         Some(Series { digest, terms, run: None, is_changed: false })
     }
 
-    /// The place of what was found, from now on.
-    fn place(&mut self, found: SeriesPlace, number: u64) -> u32 {
-        let series = match found {
-            SeriesPlace::At(place) => return place,
-            SeriesPlace::New(series) => series,
-        };
-        let place = self.put(series);
-        self.number(number, place);
-        place
-    }
-
     fn put(&mut self, series: Series) -> u32 {
         let place = self.series.len() as u32;
         self.places.insert(series.digest, place);
@@ -240,30 +254,6 @@ impl State {
         }
         self.by_number[index] = place;
     }
-
-    /// Forgets the series from this place on.
-    fn truncate(&mut self, first: usize) {
-        if first == self.series.len() {
-            return;
-        }
-        for series in self.series.drain(first..) {
-            self.places.remove(&series.digest);
-        }
-        let is_left = |place: u32| (place as usize) < first;
-        self.changed.retain(|place| is_left(*place));
-        for place in &mut self.by_number {
-            if !is_left(*place) {
-                *place = UNKNOWN;
-            }
-        }
-    }
-}
-
-/// What a number stands for.
-enum SeriesPlace {
-    At(u32),
-    /// One that is not here yet.
-    New(Series),
 }
 
 /// What a point adds to a series that has this run. Where the book has more of it than its run, up to its frontier or to the end

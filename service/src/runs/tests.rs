@@ -157,7 +157,7 @@ fn an_interval_is_at_least_half_of_the_one_before() {
             let entry = entry(Options::default(), SINCE, Kind::Monotonic, run.as_ref(), &point).unwrap();
             let entry = entry.expect("it is later");
             let mut put = run.clone().unwrap_or_default();
-            entry.put_after(Kind::Monotonic, &point, &mut put);
+            entry.put_after(Kind::Monotonic, point.clone(), &mut put);
             run = entry.after(Kind::Monotonic, run.as_ref());
             assert_eq!(run.as_ref(), Some(&put));
             put.interval
@@ -247,7 +247,7 @@ fn what_was_added_is_the_sum_of_the_last_values_of_the_runs() {
                 plain.take(start, time, value);
                 added += i128::from(entry.words[0] as i64);
                 let mut put = kept.clone().unwrap_or_default();
-                entry.put_after(kind, &point, &mut put);
+                entry.put_after(kind, point.clone(), &mut put);
                 kept = entry.after(kind, kept.as_ref());
                 assert_eq!(kept.as_ref(), Some(&put));
                 assert_eq!(put.last, point);
@@ -286,7 +286,7 @@ fn entries_behind_any_commit_come_to_what_was_kept() {
             );
             let Ok(Some(entry)) = found else { continue };
             let mut put = before.clone().unwrap_or_default();
-            entry.put_after(Kind::Histogram, &point, &mut put);
+            entry.put_after(Kind::Histogram, point.clone(), &mut put);
             kept.push(entry.after(Kind::Histogram, before.as_ref()));
             assert_eq!(kept.last().unwrap().as_ref(), Some(&put));
             entries.push(entry);

@@ -6,13 +6,13 @@ use super::unit::{End, Files};
 use super::units::Units;
 use super::{Ended, Settings};
 use crate::cluster::terms::{self, Doing, Unopened};
-use crate::cluster::{beats, forward, Beats, Cluster, Forward, Internal, Secret};
+use crate::cluster::{forward, Beats, Cluster, Forward, Internal, Secret};
 use crate::files::drive::{self, Drive};
 use crate::files::Fault;
 use crate::intake::connections::{serve_over, Limits};
 use crate::intake::Intake;
 use crate::metrics::{Metrics, OfCluster};
-use crate::operate::{Databases, Desk, Others};
+use crate::operate::{Desk, Others, StoreHealth};
 use crate::post_reports::Reported;
 use crate::slot::{Phase, Slot, Slots};
 use crate::store::postgres::{Copies, Member, PostgresDrive, PostgresStore, Server};
@@ -20,6 +20,7 @@ use crate::tls;
 use crate::work::{blocking, locked};
 use anyhow::{anyhow, Context};
 use std::collections::{BTreeMap, BTreeSet};
+use std::net::IpAddr;
 use std::sync::{Arc, Mutex};
 use tokio::sync::watch;
 use tokio::task::JoinHandle;
@@ -29,7 +30,7 @@ const PEERS: usize = forward::CONNECTIONS + 32;
 
 /// What is shared with other instances.
 pub struct OfStore {
-    pub databases: Vec<Server>,
+    pub database: Server,
     pub copies: Copies,
     /// This instance's name, which no other has.
     pub instance: String,
@@ -66,7 +67,7 @@ impl Joining {
     ) -> Result<Joining, Ended> {
         let secret =
             Secret::new(&store.cluster.secret).ok_or_else(|| anyhow!("the store's secret is no head"))?;
-        let cluster = Cluster::new(&of.instance, of.databases.len());
+        let cluster = Cluster::new(&of.instance);
         let forward = Arc::new(Forward::new(cluster.clone(), secret.clone(), peers.tls.clone()));
         Ok(Joining {
             store: Arc::new(store),
@@ -84,7 +85,7 @@ impl Joining {
             metrics: *self.metrics.take()?,
             cluster: self.cluster.clone(),
             asks: self.forward.clone(),
-            databases: Databases::begin(&self.store, of.copies),
+            database: StoreHealth::begin(&self.store, of.copies),
             instance: of.instance.clone(),
             address: of.peer.clone(),
         })
@@ -102,24 +103,37 @@ impl Joining {
         self.forward.serve(intake.clone());
         let (stop_peer, peer_stopped) = watch::channel(false);
         let (stop_beats, beats_stopped) = watch::channel(false);
-        let internal = Internal::new(self.cluster.clone(), intake.clone(), self.secret, desk);
+        let internal = Internal::new(self.cluster.clone(), intake.clone(), self.secret, desk.clone());
         let of_peers = Limits { connections: PEERS, ..limits(settings) };
         let Peers { listener, tls } = self.peers;
         let peer = tokio::spawn(serve_over(Arc::new(listener), tls, of_peers, internal, peer_stopped));
         let instance = Arc::new(Instance { units, store: self.store.clone(), open: Mutex::default() });
-        let beats_in = |database| {
-            let member = Member::new(&self.store, database, &of.instance, &of.peer);
-            Beats::new(self.cluster.clone(), database, Arc::new(member), instance.clone())
-        };
-        let beats = (0..of.databases.len()).map(beats_in).collect();
+        let operate = operate_for_others(&desk.operate, desk.is_local, &of.peer);
+        let member = Member::new(&self.store, &of.instance, &of.peer, &operate);
+        let beats = Beats::new(self.cluster.clone(), Arc::new(member), instance.clone());
         Joined {
             cluster: self.cluster,
             instance,
-            beats: tokio::spawn(beats::run_all(beats, beats_stopped)),
+            beats: tokio::spawn(beats.run(beats_stopped)),
             peer,
             stop_beats,
             stop_peer,
         }
+    }
+}
+
+/// Where operators of other instances' machines ask this one, of its address of TCP; empty if they can't.
+fn operate_for_others(operate: &str, is_local: bool, peer: &str) -> String {
+    let host = |address: &str| address.rsplit_once(':').map(|(host, _)| host.to_string());
+    let number = |host: &str| host.trim_matches(['[', ']']).parse::<IpAddr>().ok();
+    let (Some(at), Some(of_peer)) = (host(operate), host(peer)) else { return String::new() };
+    let all_are_here =
+        of_peer == "localhost" || number(&of_peer).is_some_and(|address| address.is_loopback());
+    match number(&at).is_some_and(|address| address.is_unspecified()) {
+        // It listens at all addresses of this machine.
+        true => format!("{of_peer}{}", &operate[at.len()..]),
+        false if is_local && !all_are_here => String::new(),
+        false => operate.into(),
     }
 }
 
@@ -186,19 +200,12 @@ impl Instance {
             let files = drive::open(drive.clone() as Arc<dyn Drive>, &epoch)?;
             Ok::<_, Fault>((drive, files))
         });
-        let (drive, (journal, outbox, dead)) = read.await.map_err(|fault| match fault {
+        let (drive, files) = read.await.map_err(|fault| match fault {
             Fault::Lost(_) => Unopened::Lost,
             fault => Unopened::Fault(fault.to_string()),
         })?;
         locked(&self.open).insert(slot, drive);
-        let files = Files {
-            number: slot,
-            journal,
-            outbox: Arc::new(outbox),
-            dead: Arc::new(dead),
-            former: Vec::new(),
-        };
-        let opened = self.units.open(files).await;
+        let opened = self.units.open(Files::of_drive(slot, files)).await;
         opened.map_err(|ended| {
             self.forget(slot, Some(term));
             Unopened::Fault(ended.to_string())
@@ -244,4 +251,23 @@ pub(super) fn slots(joining: &Joining, settings: &Settings) -> Arc<Slots<Reporte
     let reading = Arc::new(settings.reading.clone());
     let resources = crate::otlp::Resources::new(joining.store.cluster.slots, reading);
     Slots::several(resources, Some(joining.forward.clone()))
+}
+
+#[cfg(test)]
+mod tests {
+    use super::*;
+
+    #[test]
+    fn operators_are_sent_where_they_reach_an_instance() {
+        for (operate, is_local, peer, shown) in [
+            ("a.example:4319", false, "a.example:4320", "a.example:4319"),
+            ("0.0.0.0:4319", false, "a.example:4320", "a.example:4319"),
+            ("[::]:4319", false, "a.example:4320", "a.example:4319"),
+            ("127.0.0.1:4319", true, "a.example:4320", ""),
+            ("127.0.0.1:4319", true, "127.0.0.1:4320", "127.0.0.1:4319"),
+            ("", true, "a.example:4320", ""),
+        ] {
+            assert_eq!(operate_for_others(operate, is_local, peer), shown, "{operate} {peer}");
+        }
+    }
 }

@@ -2,8 +2,7 @@
 //! first what becomes of that.
 
 use super::Ended;
-use crate::files::{Durability, Fault, Folder};
-use crate::store::moving::said_by_store;
+use crate::files::{Durability, Fault, Folder, FolderFault};
 use anyhow::anyhow;
 use std::ffi::OsStr;
 use std::path::Path;
@@ -15,18 +14,15 @@ struct Left {
     letters: u64,
 }
 
-/// Passes where there is none, or a store has it and counts. `store` is where the instance has its slots.
+/// Passes if there is none, or a store has it. `store` is where the instance has its slots.
 pub(super) fn look_at(data: &Path, durability: Durability, store: &str) -> Result<(), Ended> {
     if !is_made(data) {
         return Ok(());
     }
-    let folder = Folder::open(data, durability)?;
-    if let Some(mark) = folder.mark() {
-        return match said_by_store(&mark) {
-            Some(false) => Ok(()),
-            Some(true) | None => Ok(folder.counts()?),
-        };
-    }
+    let folder = match Folder::open(data, durability) {
+        Err(FolderFault::Moved { .. }) => return Ok(()),
+        opened => opened?,
+    };
     let Left { posts, requests, letters } = in_folder(&folder)?;
     if posts + requests + letters == 0 {
         return Ok(());
@@ -53,30 +49,23 @@ pub(crate) fn is_kept(name: &OsStr) -> bool {
 
 fn in_folder(folder: &Folder) -> Result<Left, Fault> {
     let mut left = Left::default();
-    if folder.is_empty()? {
+    if folder.is_empty() {
         return Ok(left);
     }
     left.letters = folder.dead()?.count();
-    for number in folder.slots_with_files()? {
-        let outbox = if number < folder.slots() {
-            let (journal, outbox) = folder.slot(number)?;
-            journal.posts(outbox.journal(), u64::MAX, |_| {
-                left.posts += 1;
-                true
-            })?;
-            outbox
-        } else {
-            folder.outbox(number)?
-        };
-        left.requests += outbox.waiting().0;
-    }
+    let (journal, outbox) = folder.slot()?;
+    journal.posts(outbox.journal(), u64::MAX, |_| {
+        left.posts += 1;
+        true
+    })?;
+    left.requests = outbox.waiting().0;
     Ok(left)
 }
 
 #[cfg(test)]
 mod tests {
     use super::*;
-    use crate::files::{Body, Mark, NoNames, Post, Way};
+    use crate::files::{Body, NoNames, Post};
 
     const STORE: &str = "postgres://u@h:1/d";
     const REQUEST: &[u8] = br#"{"resourceMetrics":[]}"#;
@@ -88,7 +77,7 @@ mod tests {
     /// In which a request waits.
     fn with_request(data: &Path) -> Folder {
         let folder = open(data);
-        let (journal, outbox) = folder.slot(0).unwrap();
+        let (journal, outbox) = folder.slot().unwrap();
         let (next, ticket) = journal.turn();
         journal.settle(ticket);
         outbox.commit(&[REQUEST.to_vec()], next).unwrap();
@@ -119,7 +108,7 @@ mod tests {
         drop(open(&data));
         assert_eq!(refusal(&data), None, "it was only made");
         assert!(!data.join("slot-0").exists() && !data.join("dead").exists());
-        with_request(&data).slot(0).unwrap().1.acknowledge(1).unwrap();
+        with_request(&data).slot().unwrap().1.acknowledge(1).unwrap();
         for _ in 0..3 {
             assert_eq!(refusal(&data), None, "all was delivered");
         }
@@ -136,36 +125,22 @@ mod tests {
         let place = tempfile::tempdir().unwrap();
         let one = |name: &str| place.path().join(name);
         {
-            let (journal, _outbox) = open(&one("journal")).slot(0).unwrap();
+            let (journal, _outbox) = open(&one("journal")).slot().unwrap();
             let post = Post { body: Body::Text("{}".into()), sender: "s".into(), foreign: 0 };
             journal.write(journal.append(&post, &NoNames)).unwrap();
         }
         is_refused(&one("journal"), "in no request yet: 1; requests that wait for the sink: 0;");
         drop(with_request(&one("outbox")));
         is_refused(&one("outbox"), "wait for the sink: 1;");
-        // Of a slot that an earlier totxegun had.
-        open(&one("former")).outbox(2).unwrap().commit(&[REQUEST.to_vec()], 1).unwrap();
-        is_refused(&one("former"), "wait for the sink: 1;");
         open(&one("dead")).dead().unwrap().keep("e-1", "why", REQUEST).unwrap();
         is_refused(&one("dead"), "refused for good: 1)");
         is_refused(&one("dead"), "refused for good: 1)");
     }
 
     #[test]
-    fn a_folder_that_was_moved_is_an_instance_s_and_one_on_its_way_is_where_its_store_says_so() {
+    fn a_folder_that_was_moved_is_an_instance_s() {
         let place = tempfile::tempdir().unwrap();
-        let data = place.path();
-        let folder = with_request(data);
-        let mark = |way| {
-            Some(Mark { way, id: "0123456789abcdef".into(), store: "postgres://u@127.0.0.1:1/d".into() })
-        };
-        folder.set_mark(mark(Way::Left)).unwrap();
-        drop(folder);
-        assert_eq!(refusal(data), None);
-        for (way, part) in [(Way::Leaving, "give it up by"), (Way::Coming, "out of the store")] {
-            open(data).set_mark(mark(way)).unwrap();
-            let why = refusal(data).unwrap_or_default();
-            assert!(why.contains(part) && why.contains("totxegun store move"), "{why}");
-        }
+        with_request(place.path()).set_moved(STORE).unwrap();
+        assert_eq!(refusal(place.path()), None);
     }
 }

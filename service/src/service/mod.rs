@@ -2,7 +2,6 @@
 //!
 //! Any part that ends ends all, with its cause: what is on disk is whole at any time, and the next start reads it.
 
-mod adopt;
 mod instance;
 mod left;
 mod operators;
@@ -16,7 +15,6 @@ mod unit;
 mod units;
 mod waiting;
 
-pub(crate) use adopt::{leave_others, move_held, slot_of};
 pub use instance::OfStore;
 pub(crate) use left::{is_kept, is_made};
 pub use operators::Operate;
@@ -33,7 +31,7 @@ use crate::post_reports::ReportOptions;
 use crate::runs;
 use crate::shares::Share;
 use crate::sinks::{Address, Retention};
-use crate::store::moving::addresses;
+use crate::store::moving::address_of;
 use crate::work::blocking;
 use anyhow::{anyhow, Context};
 use instance::Joining;
@@ -92,11 +90,7 @@ impl Settings {
     /// Where all is kept.
     fn place(&self) -> String {
         let folder = || self.data.display().to_string();
-        let databases = |of: &OfStore| {
-            let databases: Vec<String> = of.databases.iter().map(ToString::to_string).collect();
-            databases.join(" and ")
-        };
-        self.store.as_ref().map_or_else(folder, databases)
+        self.store.as_ref().map_or_else(folder, |of| of.database.to_string())
     }
 
     fn keeping(&self) -> Keeping {
@@ -157,7 +151,7 @@ pub async fn run(settings: Settings) -> Result<(), Ended> {
     let is_ready = move || begun.get().is_some_and(|units| units.are_ready());
     let watched = tokio::spawn(supervisor.clone().watch(is_ready));
     let opened = match &settings.store {
-        None => of_folder(&settings, senders, readers, &mut signals).await?,
+        None => Some(of_folder(&settings, senders, readers).await?),
         Some(of) => of_store(&settings, of, senders, readers, &mut signals).await?,
     };
     let Some((parts, senders, operators)) = opened else {
@@ -180,34 +174,26 @@ pub async fn run(settings: Settings) -> Result<(), Ended> {
     running.stop().await
 }
 
-/// All parts, and the addresses; none where it was told to end meanwhile.
-type Opened = Option<(Parts, Senders, Operators)>;
+/// All parts, and the addresses.
+type Opened = (Parts, Senders, Operators);
 
-async fn of_folder(
-    settings: &Settings,
-    senders: Senders,
-    readers: Readers,
-    signals: &mut Signals,
-) -> Result<Opened, Ended> {
+async fn of_folder(settings: &Settings, senders: Senders, readers: Readers) -> Result<Opened, Ended> {
     let folder = Arc::new(Folder::open(&settings.data, settings.durability)?);
-    folder.counts()?;
     let operators = readers.and_socket(&settings.operate).await?;
-    match adopt::slots(&folder, settings.most_series, &settings.keeping(), signals.ending()).await? {
-        true => Ok(Some((Parts::open(folder, settings)?, senders, operators))),
-        false => Ok(None),
-    }
+    Ok((Parts::of_folder(folder, settings)?, senders, operators))
 }
 
+/// None if it was told to end meanwhile.
 async fn of_store(
     settings: &Settings,
     of: &OfStore,
     senders: Senders,
     readers: Readers,
     signals: &mut Signals,
-) -> Result<Opened, Ended> {
+) -> Result<Option<Opened>, Ended> {
     let peers = Peers::bind(of, &settings.metrics).await?;
     let (data, durability) = (settings.data.clone(), settings.durability);
-    let (address, folder) = (addresses(&of.databases), settings.data.display());
+    let (address, folder) = (address_of(&of.database), settings.data.display());
     blocking(move || left::look_at(&data, durability, &address)).await?;
     std::fs::create_dir_all(&settings.data).with_context(|| format!("the folder {folder} can't be made"))?;
     let operators = readers.and_socket(&settings.operate).await?;

@@ -1,15 +1,14 @@
 //! Opens all parts.
 
-use super::adopt::leave_others;
 use super::instance::Joining;
 use super::operators::Operators;
 use super::running::Running;
 use super::senders::Senders;
 use super::sink::{InFolder, InStore, Remembers, Told};
-use super::unit::{Begun, Files, Opened};
+use super::unit::{Files, Opened};
 use super::units::{taker, AtWork, Units};
 use super::{Ended, Settings};
-use crate::files::{Folder, Outbox};
+use crate::files::Folder;
 use crate::intake::connections::Limits;
 use crate::intake::{Budget, Intake, Threads};
 use crate::operate::{self, Acts, Desk, Pulse, Totals};
@@ -48,33 +47,26 @@ enum Of {
 }
 
 impl Parts {
-    /// Opens the files in place: nothing else runs yet. The folder has one slot.
-    pub fn open(folder: Arc<Folder>, settings: &Settings) -> Result<Parts, Ended> {
-        let (outbox, left) = folder.begin_slot(0)?;
-        let outbox = Arc::new(outbox);
-        let book = Begun::of(&outbox, left.has_posts(), 1, settings)?;
-        let journal = folder.journal(0, &outbox, left)?;
-        let former = former_slots(&folder)?;
-        let dead = Arc::new(folder.dead()?);
-        let mut outboxes = vec![outbox.clone()];
-        outboxes.extend(former.iter().map(|(_, outbox)| outbox.clone()));
-        Parts::of(Box::new(InFolder { folder, outboxes }), settings, |shared| {
-            let files = Files { number: 0, journal, outbox, dead, former };
-            Ok(Of::Folder(Box::new(Opened::new(files, book, settings, shared)?)))
-        })
+    /// Opens the files in place: nothing else runs yet.
+    pub fn of_folder(folder: Arc<Folder>, settings: &Settings) -> Result<Parts, Ended> {
+        let (files, shared) = (Files::of_folder(&folder)?, shared(settings));
+        let place = InFolder { folder, outbox: files.outbox.clone() };
+        let opened = Opened::new(files, 1, settings, &shared)?;
+        Parts::new(Of::Folder(Box::new(opened)), shared, Box::new(place), settings)
     }
 
     /// The slots of a store are opened once they are taken.
     pub fn of_store(joining: Joining, settings: &Settings) -> Result<Parts, Ended> {
         let place = InStore::open(joining.store.clone()).context("the store can't be used")?;
-        Parts::of(Box::new(place), settings, |_| Ok(Of::Store(joining)))
+        Parts::new(Of::Store(joining), shared(settings), Box::new(place), settings)
     }
 
-    /// First the sink, as this place remembers it.
-    fn of(
+    /// With the sink, as this place remembers it.
+    fn new(
+        of: Of,
+        shared: Arc<Shared>,
         place: Box<dyn Remembers>,
         settings: &Settings,
-        of: impl FnOnce(&Shared) -> Result<Of, Ended>,
     ) -> Result<Parts, Ended> {
         let acts = Arc::new(Acts::in_folder(&settings.data));
         let told = Told {
@@ -83,13 +75,11 @@ impl Parts {
             takes_new: settings.new_sink,
             acts: acts.clone(),
         };
-        let sink = told.open(place)?;
-        let shared = Arc::new(Shared::new(settings.metrics.clone(), settings.clock));
         Ok(Parts {
-            of: of(&shared)?,
+            of,
             shared,
             acts,
-            sink,
+            sink: told.open(place)?,
             budget: Budget::new(settings.most_bytes),
             threads: Arc::new(Threads::new(settings.threads).context("no threads could be started")?),
         })
@@ -170,6 +160,10 @@ impl Parts {
     }
 }
 
+fn shared(settings: &Settings) -> Arc<Shared> {
+    Arc::new(Shared::new(settings.metrics.clone(), settings.clock))
+}
+
 impl Of {
     fn slots(&self) -> u16 {
         match self {
@@ -199,15 +193,4 @@ impl Of {
 
 pub(super) fn limits(settings: &Settings) -> Limits {
     Limits { connections: settings.most_connections, head: HEAD, idle: IDLE }
-}
-
-/// What the sink has not taken of slots that an earlier totxegun had. What they knew of series is slot 0's.
-fn former_slots(folder: &Folder) -> Result<Vec<(u16, Arc<Outbox>)>, Ended> {
-    let mut former = Vec::new();
-    for number in folder.slots_with_files()?.into_iter().filter(|number| *number > 0) {
-        let outbox = folder.outbox(number)?;
-        leave_others(&outbox, number, 1)?;
-        former.push((number, Arc::new(outbox)));
-    }
-    Ok(former)
 }

@@ -63,7 +63,7 @@ mod tests {
 
     fn at(peer: &str, peer_plain: bool, peer_tls: Option<Files>) -> OfStore {
         OfStore {
-            databases: vec![address("postgres://u@h/d").unwrap()],
+            database: address("postgres://u@h/d").unwrap(),
             copies: Copies::Two,
             instance: "a".into(),
             peer: peer.into(),

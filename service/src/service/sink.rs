@@ -30,16 +30,16 @@ pub(super) trait Remembers: Send + Sync + 'static {
 
     fn refusal(&self, known: &KnownSink, found: &str) -> String;
 
-    /// Of a store, which databases it is in.
-    fn databases(&self) -> Vec<Option<String>> {
-        Vec::new()
+    /// Of a store, which database it is in.
+    fn store_database(&self) -> Option<String> {
+        None
     }
 }
 
 pub(super) struct InFolder {
     pub folder: Arc<Folder>,
-    /// What waits in these goes into it.
-    pub outboxes: Vec<Arc<Outbox>>,
+    /// What waits in it goes into the sink.
+    pub outbox: Arc<Outbox>,
 }
 
 struct Remembered {
@@ -141,7 +141,7 @@ impl Remembers for InFolder {
     }
 
     fn waiting(&self) -> Option<u64> {
-        Some(self.outboxes.iter().map(|outbox| outbox.waiting().0).sum())
+        Some(self.outbox.waiting().0)
     }
 
     fn refusal(&self, known: &KnownSink, found: &str) -> String {
@@ -155,8 +155,8 @@ impl Remembers for InFolder {
 }
 
 impl Memory for Remembered {
-    fn databases(&self) -> Vec<Option<String>> {
-        self.place.databases()
+    fn store_database(&self) -> Option<String> {
+        self.place.store_database()
     }
 
     fn admit(&self, id: Option<&str>, is_replaced: bool) -> Result<(), String> {

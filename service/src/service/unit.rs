@@ -3,7 +3,7 @@
 
 use super::{Ended, Settings};
 use crate::core::Core;
-use crate::files::{Dead, Fault, Journal, Outbox};
+use crate::files::{Dead, Fault, Folder, Journal, Outbox};
 use crate::keeper::{Keeper, Orders, Priming, Trouble};
 use crate::operate::{self, Undelivered};
 use crate::sinks::{self, Attempts, Sink};
@@ -19,19 +19,35 @@ use tokio::time::Instant;
 /// slot next.
 const LAST_CHECKPOINT: Duration = Duration::from_secs(5);
 /// How long what is changing a file is waited for: a fault there is told by the exit status.
-pub(super) const LAST_CHANGES: Duration = Duration::from_secs(2);
+const LAST_CHANGES: Duration = Duration::from_secs(2);
 
 /// A slot of several has so many times its share of all series at least.
 const UNEVEN: usize = 4;
 
 /// Where a slot is kept.
 pub(super) struct Files {
-    pub number: u16,
-    pub journal: Journal,
+    number: u16,
     pub outbox: Arc<Outbox>,
-    pub dead: Arc<Dead>,
-    /// Of slots that an earlier totxegun had: what the sink has not taken.
-    pub former: Vec<(u16, Arc<Outbox>)>,
+    dead: Arc<Dead>,
+    has_posts: bool,
+    journal: Box<dyn FnOnce() -> Result<Journal, Fault> + Send>,
+}
+
+impl Files {
+    pub fn of_folder(folder: &Arc<Folder>) -> Result<Files, Fault> {
+        let (outbox, left) = folder.begin_slot()?;
+        let (outbox, dead) = (Arc::new(outbox), Arc::new(folder.dead()?));
+        let (has_posts, folder, begun) = (left.has_posts(), folder.clone(), outbox.clone());
+        let journal = Box::new(move || folder.journal(&begun, left));
+        Ok(Files { number: 0, outbox, dead, has_posts, journal })
+    }
+
+    /// Of a store's slot, whose files are open.
+    pub fn of_drive(number: u16, (journal, outbox, dead): (Journal, Outbox, Dead)) -> Files {
+        let has_posts = journal.size().1.is_some();
+        let (outbox, dead) = (Arc::new(outbox), Arc::new(dead));
+        Files { number, outbox, dead, has_posts, journal: Box::new(|| Ok(journal)) }
+    }
 }
 
 /// A slot that is open, and not at work yet.
@@ -40,7 +56,6 @@ pub(super) struct Opened {
     keeper: Keeper,
     orders: Orders,
     dead: Arc<Dead>,
-    former: Vec<(u16, Arc<Outbox>)>,
 }
 
 /// How a slot ended that nobody told to end.
@@ -56,10 +71,10 @@ pub(super) struct Unit {
     pub of_desk: Arc<operate::Unit>,
     /// One.
     keeper: JoinSet<Result<(), Trouble>>,
-    /// Its own, and those of former slots.
-    deliveries: JoinSet<Result<(), Fault>>,
+    /// One.
+    delivery: JoinSet<Result<(), Fault>>,
     stop_keeper: watch::Sender<bool>,
-    stop_deliveries: watch::Sender<bool>,
+    stop_delivery: watch::Sender<bool>,
 }
 
 /// How many series a slot has room for: a book takes its memory from the beginning, and an instance may have all slots. So
@@ -69,20 +84,10 @@ fn room(most_series: usize, slots: u16, known: usize) -> usize {
     share.max(2 * known).min(most_series)
 }
 
-/// A slot's book, which is being primed beside all else that opens the slot.
-pub(super) struct Begun {
-    core: Arc<Core>,
-    priming: Option<Priming>,
-}
-
-impl Begun {
-    /// Of one of so many slots.
-    pub fn of(
-        outbox: &Arc<Outbox>,
-        has_posts: bool,
-        slots: u16,
-        settings: &Settings,
-    ) -> Result<Begun, Ended> {
+impl Opened {
+    /// One of so many slots. Its book is primed beside all else that opens the slot.
+    pub fn new(files: Files, slots: u16, settings: &Settings, shared: &Shared) -> Result<Opened, Ended> {
+        let Files { number, outbox, dead, has_posts, journal } = files;
         let room = room(settings.most_series, slots, outbox.series_count());
         let core = Core::apart(room, settings.across).with_context(|| {
             format!(
@@ -90,15 +95,8 @@ impl Begun {
                 settings.most_series
             )
         })?;
-        let priming = Priming::begin(&core, outbox, has_posts);
-        Ok(Begun { core, priming })
-    }
-}
-
-impl Opened {
-    pub fn new(files: Files, book: Begun, settings: &Settings, shared: &Shared) -> Result<Opened, Ended> {
-        let Files { number, journal, outbox, dead, former } = files;
-        let Begun { core, priming } = book;
+        let priming = Priming::begin(&core, &outbox, has_posts);
+        let journal = journal()?;
         let reading = Arc::new(match settings.store {
             Some(_) => settings.reading.of_slot(),
             None => settings.reading.clone(),
@@ -107,38 +105,33 @@ impl Opened {
         let slot = Slot::of(Some(reading), number, journal, outbox, core, shared);
         slot.runs.set(settings.runs);
         let (keeper, orders) = Keeper::new(slot.clone(), settings.keeping());
-        Ok(Opened { slot, keeper: keeper.behind(priming), orders, dead, former })
+        Ok(Opened { slot, keeper: keeper.behind(priming), orders, dead })
     }
 
     pub fn start(self, sink: &Arc<dyn Sink>) -> Unit {
         let (stop_keeper, keeper_stopped) = watch::channel(false);
-        let (stop_deliveries, deliveries_stopped) = watch::channel(false);
-        let (slot, dead, mut deliveries) = (self.slot, self.dead, JoinSet::new());
-        let mut deliver = |number: u16, outbox: Arc<Outbox>| {
-            let delivery = Arc::<Attempts>::default();
-            deliveries.spawn(sinks::deliver(
-                number,
-                outbox.clone(),
-                dead.clone(),
-                sink.clone(),
-                slot.metrics.clone(),
-                delivery.clone(),
-                deliveries_stopped.clone(),
-            ));
-            Undelivered { number, outbox, delivery }
-        };
-        let undelivered = deliver(slot.number(), slot.outbox.clone());
-        let former = self.former.into_iter();
-        let former = former.map(|(number, outbox)| deliver(number, outbox)).collect();
+        let (stop_delivery, delivery_stopped) = watch::channel(false);
+        let (slot, dead, mut delivery) = (self.slot, self.dead, JoinSet::new());
+        let (number, outbox, attempts) = (slot.number(), slot.outbox.clone(), Arc::<Attempts>::default());
+        delivery.spawn(sinks::deliver(
+            number,
+            outbox.clone(),
+            dead.clone(),
+            sink.clone(),
+            slot.metrics.clone(),
+            attempts.clone(),
+            delivery_stopped,
+        ));
+        let undelivered = Undelivered { number, outbox, delivery: attempts };
         let mut keeper = JoinSet::new();
         keeper.spawn(self.keeper.run(keeper_stopped));
         let orders = self.orders;
         Unit {
-            of_desk: Arc::new(operate::Unit { slot, orders, undelivered, former, dead }),
+            of_desk: Arc::new(operate::Unit { slot, orders, undelivered, dead }),
             keeper,
-            deliveries,
+            delivery,
             stop_keeper,
-            stop_deliveries,
+            stop_delivery,
         }
     }
 }
@@ -148,7 +141,7 @@ impl Unit {
     pub async fn ended(&mut self) -> End {
         let end = tokio::select! {
             Some(end) = self.keeper.join_next() => End::of("the keeper", end),
-            Some(end) = self.deliveries.join_next() => End::of("a delivery", end),
+            Some(end) = self.delivery.join_next() => End::of("the delivery", end),
         };
         match (end, self.of_desk.slot.journal.failure()) {
             (End::Lost, Some(why)) => End::Failed(Ended::Other(anyhow!("{why}"))),
@@ -161,17 +154,17 @@ impl Unit {
         self.stop_keeper.send_replace(true);
         let in_time = last(&mut self.keeper, "the keeper", Instant::now() + LAST_CHECKPOINT).await;
         // What is sent meanwhile is sent again by who has the slot next. A keeper that is late may be changing a file too.
-        self.stop_deliveries.send_replace(true);
+        self.stop_delivery.send_replace(true);
         let until = Instant::now() + LAST_CHANGES;
-        let (late, deliveries) = tokio::join!(
+        let (late, delivery) = tokio::join!(
             last(&mut self.keeper, "the keeper", until),
-            last(&mut self.deliveries, "a delivery", until)
+            last(&mut self.delivery, "the delivery", until)
         );
         let is_flushed = self.keeper.is_empty();
         if !is_flushed {
             tracing::warn!("ended without a last flush: what was taken is in the journal for the next start");
         }
-        in_time.and(late).and(deliveries).map(|()| is_flushed)
+        in_time.and(late).and(delivery).map(|()| is_flushed)
     }
 }
 

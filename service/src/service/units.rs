@@ -1,6 +1,6 @@
 //! The slots that are at work in this process. They come and go while it goes on; a folder's one stays.
 
-use super::unit::{cause, Begun, End, Files, Opened, Unit};
+use super::unit::{cause, End, Files, Opened, Unit};
 use super::{Ended, Settings};
 use crate::latch::Latch;
 use crate::operate;
@@ -136,11 +136,7 @@ impl Units {
     pub async fn open(&self, files: Files) -> Result<(), Ended> {
         let (settings, shared) = (self.settings.clone(), self.shared.clone());
         let slots = self.slots.count();
-        let opened = blocking(move || {
-            let book = Begun::of(&files.outbox, files.journal.size().1.is_some(), slots, &settings)?;
-            Opened::new(files, book, &settings, &shared)
-        });
-        let opened = opened.await?;
+        let opened = blocking(move || Opened::new(files, slots, &settings, &shared)).await?;
         let (number, taker) = (opened.slot.number(), taker(&opened.slot, &self.reporter));
         self.slots.set(number, Some(taker)); // first, since one that is lost at once is nobody's
         self.at_work.start(opened.start(&self.sink));

@@ -33,8 +33,8 @@ static TOLD: RateLimit = RateLimit::every(Duration::from_secs(10));
 /// Tries until it answers, or says what waiting does not mend.
 async fn tried(of: &OfStore) -> Result<PostgresStore, Ended> {
     loop {
-        let (databases, copies) = (of.databases.clone(), of.copies);
-        match blocking(move || PostgresStore::join(&databases, copies)).await {
+        let (database, copies) = (of.database.clone(), of.copies);
+        match blocking(move || PostgresStore::join(&database, copies)).await {
             Err(fault) if fault.may_pass() => {
                 if TOLD.is_due() {
                     let reason = fault.to_string();

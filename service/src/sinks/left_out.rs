@@ -15,7 +15,7 @@ pub(super) const OTHER_REQUEST: &str =
 /// How much of a series is shown, in characters.
 const SERIES_SHOWN: usize = 300;
 
-/// A point for an error: its span, and its series as far as that is short.
+/// A point for an error: its interval, and its series as far as that is short.
 pub(super) fn shown(point: &ForwardedPoint) -> String {
     let series = log::shown(&point.series.0, SERIES_SHOWN);
     format!("({}, {}] of {series}", point.start, point.end)
@@ -28,17 +28,13 @@ pub(super) struct LeftOut {
     pub(super) places: BTreeSet<usize>,
     /// Of the first of them.
     pub(super) reason: String,
-    /// How many more were left of which nobody can say any more which they are: spans that would say it are deleted.
-    pub(super) unnamed: usize,
+    /// Whether these are all points of the request.
+    pub(super) is_all: bool,
 }
 
 impl LeftOut {
     pub(super) fn is_empty(&self) -> bool {
-        self.places.is_empty() && self.unnamed == 0
-    }
-
-    pub(super) fn has(&self, point: &ForwardedPoint) -> bool {
-        self.places.contains(&point.place)
+        self.places.is_empty()
     }
 
     pub(super) fn add(&mut self, point: &ForwardedPoint, reason: impl FnOnce() -> String) {
@@ -48,23 +44,24 @@ impl LeftOut {
         self.places.insert(point.place);
     }
 
-    pub(super) fn and_unnamed(mut self, unnamed: usize) -> LeftOut {
-        if self.places.is_empty() {
-            self.reason =
-                "they overlapped when it was taken, and it can't be told any more which they are".into();
-        }
-        self.unnamed = unnamed;
-        self
+    /// Of a request of so many points.
+    pub(super) fn of(self, points: usize) -> LeftOut {
+        LeftOut { is_all: self.places.len() == points, ..self }
     }
 
     pub(super) fn fate(self, body: &[u8]) -> Fate {
         if self.is_empty() {
             return Fate::Taken;
         }
-        let rejected = (self.places.len() + self.unnamed) as u64;
+        if self.is_all {
+            return Fate::refused(self.reason);
+        }
         match part(body, &self.places) {
-            _ if self.unnamed > 0 => Fate::TakenPartly { rejected, reason: self.reason, left: None },
-            Some(left) => Fate::TakenPartly { rejected, reason: self.reason, left: Some(left) },
+            Some(left) => Fate::TakenPartly {
+                rejected: self.places.len() as u64,
+                reason: self.reason,
+                left: Some(left),
+            },
             None => Fate::again("a request that was read before can't be read again"),
         }
     }

@@ -6,7 +6,6 @@ mod address;
 mod attributes;
 mod backoff;
 mod delivery;
-pub mod export;
 mod keys;
 mod left_out;
 mod otlp;
@@ -15,8 +14,8 @@ pub mod postgres;
 mod retention;
 mod rewind;
 pub(crate) mod roots;
+pub mod sql;
 pub mod sqlite;
-mod sums;
 mod utc;
 
 pub use address::{Address, BadAddress};
@@ -111,12 +110,13 @@ pub type Answer<'a, T> = Pin<Box<dyn Future<Output = T> + Send + 'a>>;
 
 /// A sink takes a request whole or not at all, and once under one key.
 pub trait Sink: Send + Sync {
+    /// One that may have been put aside: a database takes it behind later ones.
     fn deliver<'a>(&'a self, request: &'a Forwarded) -> Answer<'a, Fate> {
         self.deliver_of(request, None)
     }
 
-    /// The same of a slot that this instance has under a term: where the sink is in the database that has the slot's row, it
-    /// takes the request and notes that it has, in one transaction, and takes none of an earlier term.
+    /// One in its place, of a slot that this instance may have under a term: where the sink is in the database that has the
+    /// slot's row, it takes the request and notes that it has, in one transaction, and takes none of an earlier term.
     fn deliver_of<'a>(&'a self, request: &'a Forwarded, term: Option<u64>) -> Answer<'a, Fate>;
 
     /// How many requests it takes in one go.
@@ -151,9 +151,9 @@ pub trait Memory: Send + Sync {
     /// none. `is_replaced` says that this run had it open and found it replaced, which was told.
     fn admit(&self, id: Option<&str>, is_replaced: bool) -> Result<(), String>;
 
-    /// Of each database of the store that has the slots, which one it is, by its own word.
-    fn databases(&self) -> Vec<Option<String>> {
-        Vec::new()
+    /// Which database has the store of the slots, by its own word.
+    fn store_database(&self) -> Option<String> {
+        None
     }
 }
 

@@ -150,9 +150,6 @@ pub(super) fn closed(period: &Period) -> String {
     )
 }
 
-pub(super) const NOT_FILLED: &str =
-    "hours of an older version are being filled in by the service: wait until its log says that all are";
-
 /// Why a month or a day can't be exported of which hours were deleted, those before this one: a bill of what is left would say
 /// nothing of that.
 pub(super) fn deleted(period: &Period, from: i64) -> String {

@@ -15,7 +15,7 @@ const LONGEST: usize = if cfg!(test) { 100 } else { 1 << 20 };
 
 /// These series end at this time, in nanoseconds since 1970, where they ended later.
 ///
-/// What a sink counted of them after that stays counted. A span that begins there or later overlaps nothing: the book takes
+/// What a sink counted of them after that stays counted. A point that begins there or later is added: the book takes
 /// each point once, in order, from there on.
 #[derive(Debug, PartialEq, Eq, Serialize, Deserialize)]
 pub struct Rewind {

@@ -1,10 +1,10 @@
-//! Hours, days and months since 1970, in UTC: in which a span counts.
+//! Hours, days and months since 1970, in UTC: in which an interval counts.
 
 use crate::log::date;
 
 pub(super) const HOUR_NS: u64 = 3_600_000_000_000;
 
-/// The hour in which a span counts that ends then: one that ends at a full hour, in the hour before.
+/// The hour in which an interval counts that ends then: one that ends at a full hour, in the hour before.
 pub(super) fn hour_of(end_ns: u64) -> i64 {
     (end_ns.saturating_sub(1) / HOUR_NS) as i64
 }

@@ -159,7 +159,10 @@ impl Slot {
         let said = |journalled: Journalled, draft: &Draft<'_>| {
             journalled.without(foreign, left_out.off, &draft.turned)
         };
+        // Also those that add nothing.
+        let accepted = by.points.count() as u64 - draft.foreign() - draft.turned.count();
         if draft.points.count() == 0 {
+            self.metrics.accepted(&making.sender, accepted);
             return Ok(Tried::Put(Put {
                 journalled: said(Journalled::behind_all(Outcome::taken(0), &self.journal), &draft),
                 is_in_book: false,
@@ -173,6 +176,7 @@ impl Slot {
         Ok(match self.put(&mut read)? {
             Ok(Put { journalled, is_in_book }) => {
                 let journalled = said(journalled, &draft);
+                self.metrics.accepted(&making.sender, accepted);
                 self.kept(making, draft);
                 Tried::Put(Put { journalled, is_in_book })
             }

@@ -131,6 +131,7 @@ impl Slot {
             match self.put(posted)? {
                 Ok(put) => {
                     claim.keep();
+                    self.metrics.accepted(&posted.read.post.sender, posted.read.points());
                     return Ok(put.journalled);
                 }
                 Err(Refused::InFlight) => landed.await,

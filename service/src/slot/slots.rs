@@ -16,11 +16,6 @@ pub trait Elsewhere: Send + Sync + 'static {
         None
     }
 
-    /// Whether what has the files of a slot does not answer: no post of it is taken here now.
-    fn is_silent(&self, _slot: u16) -> bool {
-        false
-    }
-
     /// Has its slot's owner take a part of a request: that owner's answer, or 503 where it can't be had. Then the part may
     /// have been taken.
     fn post<'a>(
@@ -81,14 +76,13 @@ impl<T> Slots<T> {
         }
     }
 
-    /// What takes the posts of a slot, if it is here and may take some now.
+    /// What takes the posts of a slot, if it is here.
     pub fn here(&self, slot: u16) -> Option<Arc<T>> {
         match &self.0 {
             Kind::One(taker) => (slot == 0).then(|| taker.clone()),
             Kind::Several(several) => {
                 let here = several.here.get(usize::from(slot))?;
-                let here = here.read().unwrap_or_else(PoisonError::into_inner).clone(); // one value is sound at any time
-                here.filter(|_| !self.others().is_some_and(|others| others.is_silent(slot)))
+                here.read().unwrap_or_else(PoisonError::into_inner).clone() // one value is sound at any time
             }
         }
     }

@@ -61,7 +61,7 @@ mod tests {
         let place = tempfile::tempdir().unwrap();
         let open = Arc::new(AtomicBool::new(true));
         let folder = Folder::open_on(Disk::held(open.clone()), place.path(), Durability::Disk).unwrap();
-        let journal = Arc::new(folder.slot(0).unwrap().0);
+        let journal = Arc::new(folder.slot().unwrap().0);
         open.store(false, SeqCst);
         let posted = Posted::whole(Core::new(1).unwrap().read("A".into(), "{}".into()).unwrap());
         let late = Refused::OutOfOrder { point: 0, frontier: 5 };

@@ -193,7 +193,8 @@ fn the_page_says_when_the_certificate_ends() {
     server(at.path());
     let tls = tls(at.path(), None);
     let page = String::from_utf8(tls.metrics.page()).unwrap();
-    let line = page.lines().find_map(|line| line.strip_prefix("totxegun_certificate_expires_seconds "));
-    let left: i64 = line.unwrap().parse().unwrap();
+    let line =
+        page.lines().find_map(|line| line.strip_prefix("totxegun_certificate_not_after_timestamp_seconds "));
+    let left = line.unwrap().parse::<i64>().unwrap() - crate::log::seconds() as i64;
     assert!((20 * 86_400 - 600..=20 * 86_400).contains(&left), "{left}");
 }

@@ -96,9 +96,8 @@ fn help_names_each_command_and_option() {
         "never-across",
         "most-ahead",
         "most-behind",
-        "keep-spans",
+        "keep-intervals",
         "keep-hours",
-        "keep-series",
         "drop-attribute",
         "whole",
         "pass",
@@ -213,6 +212,7 @@ fn an_interrupt_leaves_no_copy_of_a_folder() {
     use nix::sys::signal::{kill, Signal};
     let (data, temporary) = (tempfile::tempdir().unwrap(), tempfile::tempdir().unwrap());
     std::fs::write(data.path().join("lock"), "").unwrap();
+    std::fs::write(data.path().join("version"), "totxegun 1\nepoch 0123456789abcdef\nlock 1\n").unwrap();
     std::fs::create_dir(data.path().join("dead")).unwrap();
     // Who copies it waits for somebody who writes.
     let pipe = data.path().join("dead/0-a-1.json");
@@ -274,9 +274,10 @@ fn what_is_not_possible_has_status_1_and_is_named() {
     }
     refused(&["check", data], 1, "no folder of totxegun");
     refused(&["totals", "--sink", "http://h/"], 1, "SQLite");
-    refused(&["totals", "--data", "/nowhere"], 1, "give the sink's file by --sink sqlite:PATH");
+    refused(&["totals", "--data", "/nowhere"], 1, "give the sink by --sink sqlite:PATH");
+    refused(&["totals", "--sink", "sqlite:/nowhere/none.db"], 1, "there is no such file");
     refused(&["export", "--month", "2026-01", "--json", "--sink", "http://h/"], 1, "ask the sink itself");
-    refused(&["totals", "--sink", "postgres://u@h/d"], 1, "PostgreSQL");
+    refused(&["totals", "--sink", "postgresql://u@/d?host=/nowhere"], 1, "/nowhere");
 }
 
 #[test]

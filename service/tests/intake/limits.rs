@@ -98,7 +98,7 @@ async fn a_sender_that_goes_away_within_a_body_is_no_malformed_request() {
             }
         }
     }
-    let counted = "totxegun_posts_total{reason=\"gone_away\",status=\"503\"} 4";
+    let counted = "totxegun_requests_total{code=\"503\",reason=\"gone_away\"} 4";
     let begun = Instant::now();
     let page = || String::from_utf8(served.metrics.page()).unwrap();
     while !page().lines().any(|line| line == counted) {

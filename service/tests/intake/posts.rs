@@ -35,7 +35,7 @@ async fn a_kept_connection_serves_many_posts() {
     assert_eq!(served.bodies(), vec![Bytes::from(BODY); 3]);
     assert_eq!(served.budget.used(), 0);
     let page = String::from_utf8(served.metrics.page()).unwrap();
-    assert!(page.contains("totxegun_posts_total{reason=\"\",status=\"200\"} 3\n"), "{page}");
+    assert!(page.contains("totxegun_requests_total{code=\"200\",reason=\"\"} 3\n"), "{page}");
 }
 
 #[tokio::test]
@@ -82,7 +82,7 @@ async fn packed_bodies_are_unpacked_in_both_encodings() {
     assert_eq!(served.bodies()[0], Bytes::from(BODY));
     let answer =
         served.ask(&post("Content-Type: application/json\r\nContent-Encoding: gzip\r\n", b"no gzip")).await;
-    assert_eq!((answer.status, answer.message().as_str()), (400, "bad gzip"));
+    assert_eq!((answer.status, answer.message().as_str()), (400, "bad compression: no gzip"));
 }
 
 #[tokio::test]

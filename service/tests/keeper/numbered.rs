@@ -146,7 +146,7 @@ async fn what_was_taken_in_both_encodings_is_forwarded_once() {
 
 /// What the journal has that is in no group.
 fn in_journal(place: &Place) -> Vec<Replayed> {
-    let (journal, outbox) = folder(place).slot(0).unwrap();
+    let (journal, outbox) = folder(place).slot().unwrap();
     let mut found = Vec::new();
     let posts = journal.posts(outbox.journal(), u64::MAX, |read| {
         found.push(read);
@@ -202,7 +202,7 @@ async fn texts_that_an_earlier_version_has_written_go_on() {
     for start in 0..12 {
         if start % 3 == 0 {
             place.run().await.abort().await;
-            let (journal, _outbox) = folder(&place).slot(0).unwrap();
+            let (journal, _outbox) = folder(&place).slot().unwrap();
             let post = Post {
                 sender: "A".into(),
                 foreign: 0,

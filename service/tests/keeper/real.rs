@@ -130,7 +130,7 @@ async fn a_replay_that_meets_a_limit_makes_room_and_goes_on() {
     run.abort().await;
     // As where a kill came between a flush and the commit of its group.
     let folder = totxegun::files::Folder::open(&place.data(), totxegun::files::Durability::Process);
-    let (journal, outbox) = folder.unwrap().slot(0).unwrap();
+    let (journal, outbox) = folder.unwrap().slot().unwrap();
     for (start, value) in [(20, 5), (30, -7)] {
         let post =
             Post { sender: "A".into(), foreign: 0, body: Body::Text(point("a", start, start + 10, value)) };

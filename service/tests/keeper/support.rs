@@ -49,7 +49,7 @@ impl Place {
         // Shown where a test fails.
         let _ = tracing_subscriber::fmt().with_test_writer().try_init();
         let folder = Folder::open(&self.data(), Durability::Process).unwrap();
-        let (journal, outbox) = folder.slot(0).unwrap();
+        let (journal, outbox) = folder.slot().unwrap();
         let (outbox, metrics) = (Arc::new(outbox), Arc::new(Metrics::new().unwrap()));
         let core = Core::new(self.most_series).unwrap();
         let shared = Shared::new(metrics.clone(), self.clock);

@@ -58,7 +58,7 @@ impl Names for Said {
 async fn one_that_is_refused_keeps_none_of_the_others_out() {
     let place = Place::new();
     killed(&place).await;
-    let (journal, outbox) = Folder::open(&place.data(), Durability::Process).unwrap().slot(0).unwrap();
+    let (journal, outbox) = Folder::open(&place.data(), Durability::Process).unwrap().slot().unwrap();
     let (mut said, mut posts) = (Said::default(), Vec::<Post>::new());
     let read = journal.posts(outbox.journal(), u64::MAX, |Replayed { post, named }| {
         said.0.extend(named);

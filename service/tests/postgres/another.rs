@@ -1,7 +1,6 @@
 //! A database that is not the one that is remembered.
 
 use super::server::{sum, Server};
-use super::versions::make;
 use super::{again, open, taken};
 use std::sync::{Arc, Mutex};
 use totxegun::sinks::{self, Memory, Retention};
@@ -53,30 +52,14 @@ async fn a_database_is_known_by_its_id_once_it_is_reached() {
     assert_eq!(server.ask_of("late", "select total from totxegun.totals"), "15");
 }
 
-/// As one that is put back from a copy that an earlier version has made.
-#[tokio::test(flavor = "multi_thread")]
-async fn a_database_of_an_earlier_version_is_known_by_its_id_too() {
-    let Some(server) = Server::start() else { return };
-    make(&server, "earlier", 4);
-    make(&server, "without", 3);
-    let id = server.ask_of("earlier", "select id from totxegun.sink");
-    let first = Arc::new(First(Mutex::new(Some(id.clone()))));
-    let open = |database: &str| {
-        let address = server.by_socket(database).parse().unwrap();
-        sinks::open(&address, Retention::default(), first.clone()).map_err(|error| error.to_string())
-    };
-    taken(&*open("earlier").ok().unwrap(), 1, sum("a", 100, 200, 5)).await;
-    assert_eq!(server.ask_of("earlier", "select id from totxegun.sink"), id);
-    assert_eq!(open("without").err().as_deref(), Some("another sink"));
-}
-
 /// What is too old by our options stays in a database that is not ours.
 #[tokio::test(flavor = "multi_thread")]
 async fn nothing_is_deleted_in_another_database() {
     let Some(server) = Server::start() else { return };
     let first = Arc::new(First::default());
     let open_ours = |database: &str| {
-        let keep = Retention { spans: Some(std::time::Duration::from_secs(86_400)), ..Retention::default() };
+        let keep =
+            Retention { intervals: Some(std::time::Duration::from_secs(86_400)), ..Retention::default() };
         sinks::open(&server.by_socket(database).parse().unwrap(), keep, first.clone()).unwrap()
     };
     server.ask("create database ours; create database theirs");
@@ -87,11 +70,11 @@ async fn nothing_is_deleted_in_another_database() {
     server.ask("alter database hidden rename to theirs");
     again(&*late, 2, sum("a", 300, 400, 5), "another sink").await;
     tokio::time::sleep(std::time::Duration::from_secs(4)).await;
-    assert_eq!(server.ask_of("theirs", "select count(*) from totxegun.span"), "1");
+    assert_eq!(server.ask_of("theirs", "select count(*) from totxegun.intervals"), "1");
     // In ours such a span goes.
     let ours = open_ours("ours");
     taken(&*ours, 1, sum("a", 100, 200, 5)).await;
-    while server.ask_of("ours", "select count(*) from totxegun.span") != "0" {
+    while server.ask_of("ours", "select count(*) from totxegun.intervals") != "0" {
         tokio::time::sleep(std::time::Duration::from_millis(50)).await;
     }
 }

@@ -9,7 +9,6 @@ use totxegun::sinks::Address;
 const VIEW: &str = "drop view if exists totxegun.by_hour;
     create view totxegun.by_hour as select to_timestamp(5 * 3600) as hour, total, count, series from totxegun.totals
     union all select to_timestamp(4 * 3600), 1, null, series from totxegun.totals";
-const NO_VIEW: &str = "drop view if exists totxegun.by_hour cascade";
 
 #[tokio::test(flavor = "multi_thread")]
 async fn the_hours_of_one_series_are_read() {
@@ -23,8 +22,6 @@ async fn the_hours_of_one_series_are_read() {
     let Ok(Address::Postgres(place)) = address.parse() else { panic!("{address}") };
     let all = totals::read(&place).await.unwrap();
     assert_eq!(all.len(), 4);
-    server.ask(NO_VIEW);
-    assert_eq!(by_hour::read(&place, &all[0], 0).await.unwrap(), None, "a schema without hours");
     server.run_file("postgres", VIEW);
     for series in &all {
         let count = series.histogram.as_ref().map(|histogram| histogram.count.0);

@@ -21,7 +21,7 @@ async fn an_hour_that_is_being_deleted_is_there_whole_or_not_at_all() {
     taken(&*before, 2, sums(&[("a", now() - 10, now(), 8)])).await;
     drop(before);
     let late = format!(
-        "insert into totxegun.late_hour select id, 1, 0, {hour} - 1, {hour}, 0, 0, 5, 0 from totxegun.series where name = 'a'",
+        "insert into totxegun.late_hour select id, 1, 0, {hour} - 1, {hour}, 5, 0 from totxegun.series where name = 'a'",
         hour = old / HOUR
     );
     server.ask(&late);
@@ -44,7 +44,7 @@ async fn an_hour_that_is_being_deleted_is_there_whole_or_not_at_all() {
     assert_eq!(server.ask(late), "0");
 }
 
-/// Machines and senders shared it: so there are spans of its time, behind which nothing that is right comes.
+/// Machines and senders shared it: so there are intervals of its time, behind which nothing that is right comes.
 #[tokio::test(flavor = "multi_thread")]
 async fn a_clock_that_all_shared_and_was_ahead_keeps_out_nothing_that_comes() {
     let Some(server) = Server::start() else { return };
@@ -53,14 +53,13 @@ async fn a_clock_that_all_shared_and_was_ahead_keeps_out_nothing_that_comes() {
     let (far, soon) = ((now() / DAY + 4000) * DAY, (now() / DAY + 2) * DAY);
     taken(&*before, 1, sums(&[("a", now() - 10, now(), 1), ("a", far, far + 9, 2)])).await;
     drop(before);
-    let horizon = format!("spans_from_ns = {}, hours_from = {}", far - 2 * DAY, far / HOUR - 48);
-    server.ask(&format!("update totxegun.horizon set {horizon}"));
-    let keep = Retention { spans: TWO_DAYS, hours: TWO_DAYS, ..Retention::default() };
+    server.ask(&format!("update totxegun.horizon set hours_from = {}", far / HOUR - 48));
+    let keep = Retention { intervals: TWO_DAYS, hours: TWO_DAYS };
     let sink = open_with(&address, keep);
     let next = "select hours_from - 1 = floor(extract(epoch from now()) / 3600) from totxegun.horizon";
     until(&server, next, "t").await;
-    taken(&*sink, 2, sums(&[("a", soon, soon + 9, 4), ("a", soon + 20, soon + 29, 8)])).await;
-    taken(&*sink, 3, sum("a", soon + 9, soon + 20, 16)).await;
+    taken(&*sink, 2, sums(&[("b", soon, soon + 9, 4), ("b", soon + 9, soon + 20, 16)])).await;
+    taken(&*sink, 3, sum("b", soon + 20, soon + 29, 8)).await;
     for (view, time) in [("by_hour", "hour"), ("by_day", "day")] {
         let found = server.ask(&format!("select total from totxegun.{view} order by {time}"));
         assert_eq!(found, "28\n2", "{view}");

@@ -1,9 +1,9 @@
 //! Hours are what the spans come to, whatever order requests come in.
 
+use crate::model::both;
 use crate::points::{body, lines, value, Point, Random, Value, HOUR};
 use crate::server::{sum, Server};
 use crate::{open, refused, request, taken};
-use std::collections::BTreeMap;
 use totxegun::sinks::Fate;
 
 /// 2024-02-29, a leap day, at 20:00, and the end of that month.
@@ -60,7 +60,8 @@ async fn hours_days_and_months_are_the_sums_of_spans() {
         let mut random = Random(seed);
         let all = spans(&mut random);
         let mut order: Vec<usize> = (0..all.len()).collect();
-        // Most come in the order of their times, and some much later.
+        // They come as if they had been put aside: most in the order of their times, and some much later.
+        taken(&*services[0], 1_000_000, body(&[])).await;
         order.sort_by_cached_key(|place| all[*place].end + random.below(5) / 4 * random.below(4 * HOUR));
         for (number, part) in (0..).zip(order.chunks(7)) {
             let part: Vec<Point> = part.iter().map(|place| all[*place].clone()).collect();
@@ -68,7 +69,7 @@ async fn hours_days_and_months_are_the_sums_of_spans() {
             for _ in 0..1 + random.below(2) {
                 taken(&**sink, number, body(&part)).await;
             }
-            refused(&**sink, 10_000 + number, body(&part), "overlaps").await;
+            refused(&**sink, 2_000_000 + number, body(&part), "is not added").await;
         }
         let ask = |query: &str| server.ask_of(&database, query);
         assert_eq!(ask(BY_HOUR), lines(&all, |ns| (ns / HOUR).to_string()));
@@ -78,7 +79,7 @@ async fn hours_days_and_months_are_the_sums_of_spans() {
         assert_eq!(ask(&view("month")), without_sums(months));
         let both = "select name, hour, sum(total), sum(count), sum(points) from totxegun.by_hour group by 1, 2 order by 1, 2";
         assert_eq!(ask(both), ask(&both.replace("by_hour", "totals_by_hour")));
-        assert_eq!(ask("select count(*) from totxegun.span"), all.len().to_string());
+        assert_eq!(ask("select count(*) from totxegun.intervals"), all.len().to_string());
     }
 }
 
@@ -113,31 +114,32 @@ async fn a_span_counts_in_the_hour_of_its_last_nanosecond() {
     assert_eq!(server.ask(buckets), "|-5|7\n-5|10|0\n10||2");
 }
 
-/// Whether a point overlaps is right wherever it lies: in a gap of an hour, across hours, before all, far ahead.
+/// In order a point begins where its series ends, or later, wherever that is.
 #[tokio::test(flavor = "multi_thread")]
-async fn what_overlaps_is_found_without_an_index_of_series() {
-    let Some(server) = Server::start() else { return };
-    let sink = open(&server.by_socket("postgres"));
-    let mut number = 0;
-    for base in [FIRST, 1 << 40, (1 << 63) - HOUR, u64::MAX - 4 * HOUR] {
-        let mut random = Random(base);
-        let mut there: BTreeMap<u64, u64> = BTreeMap::new();
-        for _ in 0..150 {
-            number += 1;
-            let start = base + random.below(30) * (HOUR / 12);
-            let end = start + 1 + random.below(4) * (HOUR / 24);
-            let overlaps = there.iter().any(|(from, to)| *from < end && *to > start);
-            let name = format!("a{base}");
-            let fate = sink.deliver(&request(number, sum(&name, start, end, 1))).await;
-            match fate {
-                Fate::Taken if !overlaps => {
-                    there.insert(start, end);
+async fn what_begins_before_its_series_ends_is_left() {
+    let server = Server::start();
+    for database in both(&server) {
+        let sink = open(&database.address());
+        let mut number = 0;
+        for base in [FIRST, 1 << 40, (1 << 63) - HOUR, u64::MAX - 40 * HOUR] {
+            let (mut random, mut end, mut taken) = (Random(base), base, 0);
+            for _ in 0..60 {
+                number += 1;
+                let start = end - HOUR / 4 + random.below(12) * (HOUR / 24);
+                let next = start + 1 + random.below(4) * (HOUR / 24);
+                let fate = sink.deliver(&request(number, sum(&format!("a{base}"), start, next, 1))).await;
+                match fate {
+                    Fate::Taken if taken == 0 || start >= end => {
+                        (end, taken) = (next, taken + 1);
+                    }
+                    Fate::Refused { reason } if start < end => {
+                        assert!(reason.contains(&format!("has points until {end}")), "{reason}")
+                    }
+                    other => panic!("({start}, {next}] behind {end}: {other:?}"),
                 }
-                Fate::Refused { reason } if overlaps => assert!(reason.contains("overlaps"), "{reason}"),
-                other => panic!("({start}, {end}] beside {there:?}: {other:?}"),
             }
+            assert!((12..50).contains(&taken), "{taken}");
         }
-        assert!(there.len() > 12, "{}", there.len());
     }
 }
 
@@ -161,8 +163,12 @@ async fn services_that_share_series_write_one_hour() {
                 let part = [point("a"), point("h")];
                 let mut request = request(round, body(&part));
                 request.slot = service as u16;
-                assert_eq!(sink.deliver(&request).await, Fate::Taken);
-                points.extend(part);
+                // Another one may have come first with what is later.
+                match sink.deliver(&request).await {
+                    Fate::Taken => points.extend(part),
+                    Fate::Refused { reason } => assert!(reason.contains("is not added"), "{reason}"),
+                    other => panic!("{other:?}"),
+                }
             }
             points
         })

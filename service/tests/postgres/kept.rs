@@ -1,13 +1,11 @@
 //! What is made ahead and deleted in the background, while deliveries go on.
 
-use crate::periods::{done, period};
 use crate::points::HOUR;
 use crate::server::{sum, sums, Server};
 use crate::{open, open_with, refused, taken};
 use std::time::Duration;
-use totxegun::sinks::periods::Deed;
-use totxegun::sinks::postgres::export;
-use totxegun::sinks::{Address, Retention};
+use totxegun::sinks::sql::export::{self, What};
+use totxegun::sinks::Retention;
 
 const DAY: u64 = 24 * HOUR;
 
@@ -33,12 +31,12 @@ pub async fn until(server: &Server, query: &str, answer: &str) {
 /// A day of long ago, as it was made then.
 fn make_day(server: &Server, ns: u64) -> String {
     let name = server.ask(&format!(
-        "select 'span_' || to_char(to_timestamp({}) at time zone 'UTC', 'YYYYMMDD')",
+        "select 'interval_' || to_char(to_timestamp({}) at time zone 'UTC', 'YYYYMMDD')",
         ns / 1_000_000_000
     ));
     let from = ns / DAY * DAY + 1;
     server.ask(&format!(
-        "create table totxegun.{name} (like totxegun.span_row); alter table totxegun.span_row attach partition totxegun.{name} \
+        "create table totxegun.{name} (like totxegun.interval_row); alter table totxegun.interval_row attach partition totxegun.{name} \
          for values from ({from}) to ({})",
         from + DAY
     ));
@@ -47,7 +45,7 @@ fn make_day(server: &Server, ns: u64) -> String {
 
 /// Whatever was deleted is in totals and hours, and is never counted again.
 #[tokio::test(flavor = "multi_thread")]
-async fn old_spans_are_deleted_and_not_counted_again() {
+async fn old_intervals_are_deleted_and_not_counted_again() {
     let Some(server) = Server::start() else { return };
     let address = server.by_socket("postgres");
     let before = open(&address);
@@ -55,58 +53,24 @@ async fn old_spans_are_deleted_and_not_counted_again() {
     let name = make_day(&server, old);
     // The second lies within what the hour has of the series; so does a gap.
     let edges = [("a", old, old + 10, 1), ("a", old + 30, old + 40, 4)];
-    taken(&*before, 1, sums(&edges)).await;
-    taken(&*before, 2, sum("a", old + 20, old + 30, 2)).await;
+    taken(&*before, 2, sums(&edges)).await;
+    taken(&*before, 1, sum("a", old + 20, old + 30, 2)).await;
     taken(&*before, 3, sum("b", older, older + 9, 8)).await;
     taken(&*before, 4, sum("a", now() - 10, now(), 16)).await;
     assert_eq!(server.ask(&format!("select count(*) from totxegun.{name}")), "3");
     let hours = server.ask("select * from totxegun.hour order by series, hour");
     drop(before);
-    let sink = open_with(&address, Retention { spans: days(2), ..Retention::default() });
-    until(&server, "select count(*) from totxegun.span", "1").await;
+    let sink = open_with(&address, Retention { intervals: days(2), ..Retention::default() });
+    until(&server, "select count(*) from totxegun.intervals", "1").await;
     assert_eq!(server.ask(&format!("select to_regclass('totxegun.{name}') is null")), "t");
     // The same requests, under their own keys and under others; and a point of which nobody knows.
-    taken(&*sink, 2, sum("a", old + 20, old + 30, 2)).await;
-    refused(&*sink, 12, sum("a", old + 20, old + 30, 2), "spans were deleted").await;
-    refused(&*sink, 13, sum("a", old + 10, old + 20, 2), "spans were deleted").await;
-    refused(&*sink, 14, sum("b", older, older + 9, 8), "overlaps").await;
-    // What is before all of a series' spans is no repeat, nor is what comes between its hours.
-    taken(&*sink, 15, sum("a", older, older + 9, 32)).await;
-    taken(&*sink, 16, sum("a", old + 2 * HOUR, old + 2 * HOUR + 9, 64)).await;
+    taken(&*sink, 1, sum("a", old + 20, old + 30, 2)).await;
+    refused(&*sink, 12, sum("a", old + 20, old + 30, 2), "is not added").await;
+    refused(&*sink, 13, sum("a", old + 10, old + 20, 2), "is not added").await;
+    refused(&*sink, 14, sum("b", older, older + 9, 8), "is not added").await;
     let found = server.ask("select name, points, total from totxegun.totals order by 1");
-    assert_eq!(found, "a|6|119\nb|1|8");
-    server.ask(&format!(
-        "delete from totxegun.past_hour where (hour = {} or hour = {}) and total in (32, 64)",
-        (older + 8) / HOUR,
-        (old + 2 * HOUR + 8) / HOUR
-    ));
+    assert_eq!(found, "a|4|23\nb|1|8");
     assert_eq!(server.ask("select * from totxegun.hour order by series, hour"), hours);
-}
-
-/// As where an earlier start kept them.
-#[tokio::test(flavor = "multi_thread")]
-async fn that_old_spans_are_deleted_is_told_once() {
-    let Some(server) = Server::start() else { return };
-    let (address, folder) = (server.by_socket("postgres"), tempfile::tempdir().unwrap());
-    let operate = format!("unix:{}", folder.path().join("operate").display());
-    for (number, name) in [(1, "a"), (2, "b")] {
-        let (keeps, old) = (open(&address), now() - 40 * DAY);
-        taken(&*keeps, number, sum(name, old, old + 9, 8)).await;
-        drop(keeps);
-        let log = std::fs::File::options().create(true).append(true).open(folder.path().join("log"));
-        let mut service = std::process::Command::new(env!("CARGO_BIN_EXE_totxegun"))
-            .args(["serve", "--listen", "127.0.0.1:0", "--operate", &operate, "--sink", &address, "--data"])
-            .arg(folder.path().join("data"))
-            .stderr(log.unwrap())
-            .spawn()
-            .unwrap();
-        until(&server, "select count(*) from totxegun.span", "0").await;
-        service.kill().unwrap();
-        service.wait().unwrap();
-        let log = std::fs::read_to_string(folder.path().join("log")).unwrap();
-        let told: Vec<&str> = log.lines().filter(|line| line.contains("--keep-spans forever")).collect();
-        assert!(told.len() == 1 && told[0].contains("35 d 0 h"), "{log}");
-    }
 }
 
 #[tokio::test(flavor = "multi_thread")]
@@ -122,21 +86,20 @@ async fn old_hours_are_deleted_and_not_counted_again() {
     let sink = open_with(&address, Retention { hours: days(2), ..Retention::default() });
     until(&server, "select name, total from totxegun.by_hour", "a|2").await;
     until(&server, "select name, total from totxegun.totals_by_hour", "a|2").await;
-    refused(&*sink, 11, sum("a", old, old + 9, 1), "hours were deleted").await;
-    refused(&*sink, 12, sum("a", old + HOUR, old + HOUR + 9, 1), "hours were deleted").await;
-    refused(&*sink, 13, sum("b", old + 1, old + 2, 1), "hours were deleted").await;
+    refused(&*sink, 11, sum("a", old, old + 9, 1), "is not added").await;
+    refused(&*sink, 12, sum("a", old + HOUR, old + HOUR + 9, 1), "is not added").await;
+    refused(&*sink, 13, sum("b", old + 1, old + 2, 1), "is not added").await;
     taken(&*sink, 14, sum("b", old + 9, old + 19, 8)).await;
     assert_eq!(server.ask("select name, total from totxegun.totals order by 1"), "a|3\nb|12");
-    assert_eq!(server.ask("select count(*) from totxegun.span"), "4");
+    assert_eq!(server.ask("select count(*) from totxegun.intervals"), "4");
 }
 
 /// How many points of a period, or why it is not exported.
 async fn exported(address: &str, period: &str) -> Result<i64, String> {
-    let (address, period) = (address.parse(), period.parse().unwrap());
+    let (address, what) = (address.parse().unwrap(), What::Of(period.parse().unwrap()));
     let read = move || {
-        let Ok(Address::Postgres(server)) = address else { panic!("no server") };
         let mut points = 0;
-        let read = export::read(&server, &period, &mut |line| {
+        let read = export::read(&address, &what, &mut |line| {
             points += line.points;
             Ok(())
         });
@@ -191,83 +154,6 @@ async fn a_clock_that_was_ahead_leaves_out_nothing_that_comes() {
     assert_eq!(server.ask("select total from totxegun.by_day"), "4");
 }
 
-#[tokio::test(flavor = "multi_thread")]
-async fn a_series_out_of_use_loses_its_spans_alone() {
-    let Some(server) = Server::start() else { return };
-    let address = server.by_socket("postgres");
-    let before = open(&address);
-    let old = now() - DAY - HOUR;
-    let name = make_day(&server, now() - 3 * DAY);
-    let long_ago = now() - 3 * DAY;
-    let of = |start: u64| sums(&[("a", start, start + 10, 1), ("b", start, start + 10, 2)]);
-    taken(&*before, 1, of(long_ago)).await;
-    taken(&*before, 2, of(old)).await;
-    taken(&*before, 3, of(old + 20)).await;
-    taken(&*before, 4, sum("b", now() - 10, now(), 4)).await;
-    assert_eq!(server.ask(&format!("select count(*) from totxegun.{name}")), "2");
-    let all = |server: &Server| server.ask("select * from totxegun.by_hour order by series, hour");
-    let hours = all(&server);
-    drop(before);
-    let sink = open_with(&address, Retention { series: days(1), ..Retention::default() });
-    let left = "select name, count(*) from totxegun.span join totxegun.series on id = series group by 1";
-    until(&server, left, "b|4").await;
-    until(&server, "select count(*) from totxegun.ending", "0").await;
-    assert_eq!(all(&server), hours);
-    // In a gap of the hour, where nobody knows what there was; and of the other series, where it is known.
-    refused(&*sink, 11, sum("a", old + 12, old + 15, 1), "spans were deleted").await;
-    taken(&*sink, 12, sum("b", old + 12, old + 15, 1)).await;
-    taken(&*sink, 13, sum("a", old + 30, old + 40, 1)).await;
-}
-
-/// It counts in another hour than the one in which its spans are.
-#[tokio::test(flavor = "multi_thread")]
-async fn a_series_out_of_use_loses_what_came_late_too() {
-    let Some(server) = Server::start() else { return };
-    let address = server.by_socket("postgres");
-    let before = open(&address);
-    let closed = (now() - 3 * DAY) / DAY * DAY + 6 * HOUR;
-    make_day(&server, closed);
-    taken(&*before, 1, sum("a", closed + 2 * HOUR, closed + 2 * HOUR + 10, 1)).await;
-    done(&*before, Deed::Close(period(closed / HOUR, 1))).await;
-    taken(&*before, 2, sum("a", closed, closed + 10, 2)).await;
-    let late = "select count(*), sum(total) from totxegun.late";
-    assert_eq!(
-        (server.ask(late), server.ask("select count(*) from totxegun.span")),
-        ("1|2".into(), "2".into())
-    );
-    drop(before);
-    let _sink = open_with(&address, Retention { series: days(1), ..Retention::default() });
-    until(&server, "select count(*) from totxegun.series_total where spans_from_ns = last_end_ns", "1").await;
-    until(&server, "select count(*) from totxegun.ending", "0").await;
-    assert_eq!(server.ask("select count(*) from totxegun.span"), "0");
-    assert_eq!(
-        (server.ask(late), server.ask("select total from totxegun.totals")),
-        ("1|2".into(), "3".into())
-    );
-}
-
-/// As where a run was killed, or its connection cut, once it had written down that they go.
-#[tokio::test(flavor = "multi_thread")]
-async fn a_series_in_use_again_keeps_its_new_spans() {
-    let Some(server) = Server::start() else { return };
-    let address = server.by_socket("postgres");
-    let before = open(&address);
-    let (old, new) = (now() - 3 * DAY, now() - 100);
-    make_day(&server, old);
-    taken(&*before, 1, sum("a", old, old + 10, 1)).await;
-    for (number, start) in [(2, new), (3, new + 10), (4, new + 20)] {
-        taken(&*before, number, sum("a", start, start + 10, number as i64)).await;
-    }
-    drop(before);
-    server.ask(&format!("update totxegun.series_total set spans_from_ns = {}", old + 10));
-    server.ask("insert into totxegun.ending select series from totxegun.series_total");
-    let sink = open(&address);
-    until(&server, "select count(*) from totxegun.ending", "0").await;
-    assert_eq!(server.ask("select value from totxegun.span order by start_ns"), "2\n3\n4");
-    refused(&*sink, 12, sum("a", new + 10, new + 20, 3), "overlaps").await;
-    assert_eq!(server.ask("select points, total from totxegun.totals"), "4|10");
-}
-
 /// Who reads for long holds up the deletion, and no delivery longer than a step waits: a second.
 #[tokio::test(flavor = "multi_thread")]
 async fn deliveries_go_on_while_a_reader_holds_up_a_deletion() {
@@ -275,8 +161,8 @@ async fn deliveries_go_on_while_a_reader_holds_up_a_deletion() {
     let address = server.by_socket("postgres");
     drop(open(&address));
     let name = make_day(&server, now() - 9 * DAY);
-    let held = server.hold("begin; select count(*) from totxegun.span; select pg_sleep(60)");
-    let sink = open_with(&address, Retention { spans: days(2), ..Retention::default() });
+    let held = server.hold("begin; select count(*) from totxegun.intervals; select pg_sleep(60)");
+    let sink = open_with(&address, Retention { intervals: days(2), ..Retention::default() });
     let mut longest = Duration::ZERO;
     for number in 0..300 {
         let began = std::time::Instant::now();
@@ -291,22 +177,22 @@ async fn deliveries_go_on_while_a_reader_holds_up_a_deletion() {
         "select count(*) from pg_stat_activity where query like '%pg_sleep(60)' and pid <> pg_backend_pid()";
     server.ask("select pg_terminate_backend(pid) from pg_stat_activity where query = 'select pg_sleep(60)'");
     until(&server, waits, "0").await;
-    let _sink = open_with(&address, Retention { spans: days(2), ..Retention::default() });
+    let _sink = open_with(&address, Retention { intervals: days(2), ..Retention::default() });
     until(&server, &format!("select to_regclass('totxegun.{name}') is null"), "t").await;
 }
 
-/// Spans that came before their day was made are moved into it, and a kill in between moves none of them.
+/// Intervals that came before their day was made are moved into it, and a kill in between moves none of them.
 #[tokio::test(flavor = "multi_thread")]
 async fn days_are_made_ahead() {
     let Some(server) = Server::start() else { return };
     let address = server.by_socket("postgres");
     let sink = open(&address);
-    let last = "select max(relname) from pg_class where relname ~ '^span_[0-9]{8}$'";
+    let last = "select max(relname) from pg_class where relname ~ '^interval_[0-9]{8}$'";
     let today =
-        server.ask("select to_char(now() at time zone 'UTC' + interval '3 days', '\"span_\"YYYYMMDD')");
+        server.ask("select to_char(now() at time zone 'UTC' + interval '3 days', '\"interval_\"YYYYMMDD')");
     assert_eq!(server.ask(last), today);
     taken(&*sink, 1, sum("a", now() - 10, now(), 1)).await;
-    assert_eq!(server.ask("select count(*) from totxegun.span_other"), "0");
+    assert_eq!(server.ask("select count(*) from totxegun.interval_other"), "0");
     // Whatever ends the step, nothing of it is there.
     server.run_file(
         "postgres",
@@ -320,9 +206,9 @@ async fn days_are_made_ahead() {
     for (number, end) in [day, day + 1, day + DAY, day + DAY + 1].into_iter().enumerate() {
         taken(&*sink, 10 + number as u64, sum("b", end - 1, end, 1)).await;
     }
-    let there = "select tableoid::regclass, count(*) from totxegun.span_row group by 1 order by 1";
+    let there = "select tableoid::regclass, count(*) from totxegun.interval_row group by 1 order by 1";
     let before = server.ask(there);
-    assert!(before.contains("totxegun.span_other|3"), "{before}");
+    assert!(before.contains("totxegun.interval_other|3"), "{before}");
     drop(sink);
     let killed = open(&address);
     let log = server.folder.path().join("log");
@@ -334,29 +220,10 @@ async fn days_are_made_ahead() {
     server.ask("drop event trigger killed");
     let sink = open(&address);
     until(&server, &format!("select count(*) from pg_class where relname = '{today}'"), "1").await;
-    until(&server, "select count(*) from totxegun.span_other", "1").await;
+    until(&server, "select count(*) from totxegun.interval_other", "1").await;
     assert_eq!(server.ask(&format!("select count(*) from totxegun.{today}")), "2");
-    refused(&*sink, 30, sum("b", day, day + 1, 1), "overlaps").await;
+    refused(&*sink, 30, sum("b", day, day + 1, 1), "is not added").await;
     assert_eq!(server.ask("select sum(points) from totxegun.hour"), "5");
-}
-
-/// As it was written down then: what comes later was not deleted.
-#[tokio::test(flavor = "multi_thread")]
-async fn the_horizon_of_a_clock_that_was_ahead_comes_back() {
-    let Some(server) = Server::start() else { return };
-    let address = server.by_socket("postgres");
-    let before = open(&address);
-    let hour = now() / HOUR * HOUR;
-    taken(&*before, 1, sums(&[("a", hour, hour + 10, 1), ("a", hour + 20, hour + 30, 2)])).await;
-    drop(before);
-    server.ask(&format!("update totxegun.horizon set spans_from_ns = {}", now() + 4000 * DAY));
-    let sink = open_with(&address, Retention { spans: days(2), ..Retention::default() });
-    until(&server, "select spans_from_ns from totxegun.horizon", &(hour + 30).to_string()).await;
-    refused(&*sink, 2, sum("a", hour + 10, hour + 20, 4), "spans were deleted").await;
-    taken(&*sink, 3, sum("a", hour + 40, hour + 50, 8)).await;
-    taken(&*sink, 4, sum("a", hour + 30, hour + 40, 16)).await;
-    refused(&*sink, 5, sum("a", hour + 40, hour + 50, 8), "overlaps").await;
-    assert_eq!(server.ask("select points, total from totxegun.totals"), "4|27");
 }
 
 /// What was made ahead of it then is no reason to make none of the days that come.
@@ -366,7 +233,7 @@ async fn days_are_made_behind_a_clock_that_was_ahead() {
     let address = server.by_socket("postgres");
     drop(open(&address));
     let last =
-        server.ask("select to_char(now() at time zone 'UTC' + interval '3 days', '\"span_\"YYYYMMDD')");
+        server.ask("select to_char(now() at time zone 'UTC' + interval '3 days', '\"interval_\"YYYYMMDD')");
     server.ask(&format!("drop table totxegun.{last}"));
     make_day(&server, now() + 4000 * DAY);
     let _sink = open(&address);

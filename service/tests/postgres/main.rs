@@ -4,7 +4,9 @@ mod another;
 mod by_hour;
 mod horizon;
 mod hours;
+mod intervals;
 mod kept;
+mod lives;
 mod lost;
 mod model;
 mod periods;
@@ -13,10 +15,8 @@ mod readers;
 mod rewind;
 mod rivals;
 mod server;
-mod spans;
 mod speed;
 mod together;
-mod versions;
 
 use model::both;
 use server::{histogram, sum, sum_named, Server};
@@ -70,11 +70,14 @@ async fn what_is_taken() {
         let both = tokio::join!(sink.deliver(&one), other.deliver(&two));
         assert_eq!(both, (Fate::Taken, Fate::Taken), "two services with one key");
     }
-    for (start, end) in [(100, 200), (150, 160), (50, 101), (1, 1000)] {
-        refused(&*sink, 30, sum("a", start, end, 1), "overlaps").await;
+    for (number, (start, end)) in (25..).zip([(100, 200), (150, 160), (50, 101), (1, 1000)]) {
+        for why in ["is not added, since its series has points until 200", "was not added before"] {
+            refused(&*sink, number, sum("a", start, end, 1), why).await;
+        }
     }
     taken(&*sink, 31, sum("a", 200, 300, -7)).await;
-    taken(&*sink, 32, sum("a", 50, 100, 1)).await;
+    // As one that was put aside.
+    taken(&*sink, 29, sum("a", 50, 100, 1)).await;
     assert_eq!(server.ask("select name, points, total from totxegun.totals order by 1"), "a|3|-1\nb|18|18");
     let most = u64::MAX;
     for (number, body) in [(31, sum("a", 300, 400, 1)), (31, sum("c", 200, 300, -7))] {
@@ -84,7 +87,7 @@ async fn what_is_taken() {
         let (start, end) = (most - 50 + number, most - 49 + number);
         taken(&*sink, number, histogram("h", start, end, Some(most), [most, 0, 1])).await;
     }
-    taken(&*sink, 43, histogram("h", 1, 2, None, [0, 0, 1])).await;
+    taken(&*sink, 39, histogram("h", 1, 2, None, [0, 0, 1])).await;
     assert_eq!(
         server
             .ask("select points, total, buckets, without_sum, bounds from totxegun.totals where name = 'h'"),
@@ -111,7 +114,7 @@ async fn what_is_taken() {
 
 /// What stands beside it in the request is taken, once; a repeat says the same, so the rest is not lost by a kill.
 #[tokio::test(flavor = "multi_thread")]
-async fn of_a_request_the_spans_that_overlap_alone_are_left() {
+async fn of_a_request_the_points_that_begin_too_early_alone_are_left() {
     let server = Server::start();
     for database in both(&server) {
         let address = database.address();
@@ -132,13 +135,13 @@ async fn of_a_request_the_spans_that_overlap_alone_are_left() {
             assert_eq!(totals, "a|2|5\nb|1|8");
         }
         assert_eq!(database.ask("select points from t.request where number = 2"), "2");
-        refused(&*sink, 3, left, "overlaps").await;
+        refused(&*sink, 3, left, "is not added").await;
     }
 }
 
 /// A folder was put back over itself: the key comes again with other points, some of which begin alike.
 #[tokio::test(flavor = "multi_thread")]
-async fn a_request_is_told_from_another_of_its_key_by_each_of_its_spans() {
+async fn a_request_is_told_from_another_of_its_key_by_each_of_its_points() {
     let server = Server::start();
     for database in both(&server) {
         let sink = open(&database.address());
@@ -226,10 +229,10 @@ async fn what_is_told() {
             .to_string();
         assert!(error.contains(part) && error.contains(database), "{error}");
     };
-    server.ask_of("d1", "update totxegun.version set version = 10");
-    refuses("d1", "schema 10; this one knows 9");
+    server.ask_of("d1", "update totxegun.version set version = 2");
+    refuses("d1", "schema 2; this one knows 1");
     again(&*lame, 2, body(), "version").await;
-    again(&*lame, 2, body(), "later version").await;
+    again(&*lame, 2, body(), "another version").await;
     server.ask_of("d2", "create schema totxegun; create table totxegun.version (x int)");
     refuses("d2", "another program");
     server.ask("create database latin encoding latin1 template template0 lc_collate 'C' lc_ctype 'C'");

@@ -6,7 +6,7 @@ use std::collections::{BTreeMap, BTreeSet};
 use std::process::Command;
 use totxegun::sinks::periods::{hour_shown, Period};
 
-/// A span has one of so many places in an hour.
+/// An interval has one of so many places in an hour.
 pub const PLACES: u64 = 6;
 pub const NAMES: [&str; 4] = ["a", "b", "h", "hh"];
 
@@ -106,6 +106,7 @@ pub struct Model {
     pub closed: BTreeSet<(u64, u64)>,
     pub taken: BTreeSet<(&'static str, u64)>,
     pub requests: Vec<(u64, String)>,
+    pub refused: u64,
     pub corrected: u64,
 }
 

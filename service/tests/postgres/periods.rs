@@ -96,15 +96,16 @@ async fn step(model: &mut Model, sink: &dyn Sink, database: &Database<'_>, rando
     }
 }
 
-/// A span that is half of one that is there.
-async fn overlap(model: &Model, sink: &dyn Sink, random: &mut Random) {
+/// An interval that is half of one that is there, in order.
+async fn overlap(model: &mut Model, sink: &dyn Sink, random: &mut Random) {
     let all: Vec<_> = model.taken.iter().collect();
     let Some((name, place)) = all.get(random.below(200) as usize) else {
         return;
     };
     let whole = point(name, *place, value(name, random));
     let half = Point { end: whole.start + HOUR / PLACES / 2, ..whole };
-    refused(sink, 100_000 + random.below(1 << 30), body(&[half]), "overlaps").await;
+    model.refused += 1;
+    refused(sink, (1 << 40) + model.refused, body(&[half]), "is not added").await;
 }
 
 async fn correct(model: &mut Model, sink: &dyn Sink, database: &Database<'_>, random: &mut Random, now: u64) {
@@ -133,6 +134,8 @@ async fn tried(database: &Database<'_>, seed: u64) -> bool {
     let (mut model, mut random, now_) = (Model::default(), Random(seed), now());
     let address = database.address();
     let mut sink = open(&address);
+    // So that the others come as if they had been put aside, in any order of their times.
+    taken(&*sink, 1 << 39, body(&[])).await;
     for count in 0..80 {
         if count == 20 {
             // So each seed has late points.
@@ -267,7 +270,7 @@ async fn an_hour_that_is_deleted_is_corrected_only_while_it_is_closed() {
     assert_eq!(server.ask(billed), "2|-1");
 }
 
-/// As by a clock that was ahead once: what came late then counts far behind all spans.
+/// As by a clock that was ahead once: what came late then counts far behind all intervals.
 #[tokio::test(flavor = "multi_thread")]
 async fn what_came_late_is_no_reason_to_leave_out_what_comes() {
     let Some(server) = Server::start() else { return };
@@ -300,7 +303,7 @@ async fn a_close_comes_between_two_deliveries() {
                 let mut count = 0;
                 while !stop.load(std::sync::atomic::Ordering::Relaxed) {
                     let start = hour * HOUR + (count * 3 + service) * 1000;
-                    let name = format!("n{}", count % 7);
+                    let name = format!("n{service}{}", count % 7);
                     let mut one = request(count, sum(&name, start, start + 1000, 1));
                     one.slot = service as u16;
                     assert_eq!(sink.deliver(&one).await, Fate::Taken);
@@ -372,7 +375,7 @@ async fn deeds_and_late_points_over_cut_connections() {
         let one = request(number, sum("a", start, start + 10, 100));
         while sink.deliver(&one).await != Fate::Taken {}
     }
-    // Four corrections of 1, and twelve spans of 100, of which eight came while the hour was closed.
+    // Four corrections of 1, and twelve intervals of 100, of which eight came while the hour was closed.
     let found = "select sum(total), sum(corrections), sum(billed) from totxegun.";
     assert_eq!(server.ask(&format!("{found}totals")), "1201|4|1205");
     assert_eq!(server.ask(&format!("{found}by_hour")), "1201|4|1205");

@@ -17,7 +17,7 @@ async fn a_role_reads_all_and_writes_nothing() {
     )
     .await;
     taken(&*sink, 1, sum("a", now() - 10, now(), 5)).await;
-    for view in ["totals", "by_hour", "by_day", "by_month", "totals_by_hour", "span"] {
+    for view in ["totals", "by_hour", "by_day", "by_month", "totals_by_hour", "intervals"] {
         let found = server.ask(&format!("set role totxegun_read; select count(*) from totxegun.{view}"));
         assert_eq!(found, "1", "{view}");
     }

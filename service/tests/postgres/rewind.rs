@@ -2,16 +2,16 @@
 
 use super::model::both;
 use super::server::{histogram, sum, Server};
-use super::{open, refused, request, taken};
+use super::{open, refused, taken};
 use totxegun::otlp::series::SeriesKey;
-use totxegun::sinks::{Fate, Rewind};
+use totxegun::sinks::Rewind;
 
 const MINUTE: u64 = 60_000_000_000;
 const HOUR: u64 = 60 * MINUTE;
 /// A right span ends there.
 const BEGIN: u64 = 500_000 * HOUR + 55 * MINUTE;
 
-fn rewind(names: &[&str], to: u64) -> String {
+pub fn rewind(names: &[&str], to: u64) -> String {
     let key = |name: &&str| {
         let (name, kind, attributes) = match *name {
             "h" => ("h\",\"ms", "[-5,10]", "[]"),
@@ -82,7 +82,7 @@ async fn what_begins_behind_a_rewind_counts_once_whatever_was_ahead() {
             database.ask("select name, sum(points) from t.by_day group by 1 order by 1"),
             "a|28\nb|1\nh|28"
         );
-        // What ends where the series was before, and what overlaps what was taken since, is left as ever; so is another series.
+        // What begins before the series ends is left as ever.
         let sink = open(&address);
         for body in [
             sum("a", BEGIN - MINUTE, BEGIN + MINUTE, 1),
@@ -90,7 +90,7 @@ async fn what_begins_behind_a_rewind_counts_once_whatever_was_ahead() {
             sum("b", BEGIN + MINUTE, BEGIN + 2 * MINUTE, 1),
         ] {
             number += 1;
-            refused(&*sink, number, body, "overlaps").await;
+            refused(&*sink, number, body, "is not added").await;
         }
     }
 }
@@ -104,12 +104,8 @@ async fn a_rewind_of_what_is_not_there_changes_nothing() {
         taken(&*sink, 1, rewind(&["a"], BEGIN)).await;
         taken(&*sink, 2, sum("a", BEGIN - 2 * HOUR, BEGIN - HOUR, 1)).await;
         taken(&*sink, 3, rewind(&["a"], BEGIN)).await;
-        refused(&*sink, 4, sum("a", BEGIN - 2 * HOUR, BEGIN, 1), "overlaps").await;
-        match sink.deliver(&request(3, rewind(&["a"], BEGIN - 1))).await {
-            Fate::Taken => {} // SQLite tells a request by its points alone
-            Fate::Refused { reason } => assert!(reason.contains("key is that of another"), "{reason}"),
-            other => panic!("{other:?}"),
-        }
+        refused(&*sink, 4, sum("a", BEGIN - 2 * HOUR, BEGIN, 1), "is not added").await;
+        refused(&*sink, 3, rewind(&["a"], BEGIN - 1), "key is that of another").await;
         assert_eq!(database.ask("select points, total from t.totals"), "1|1");
     }
 }

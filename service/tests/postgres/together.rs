@@ -48,7 +48,7 @@ async fn where_one_can_not_be_taken_whole_nothing_is() {
     let server = Server::start();
     for database in both(&server) {
         let sink = open(&database.address());
-        let before = (500_000 + 100) * HOUR;
+        let before = (500_000 + 1) * HOUR;
         taken(&*sink, 1, sum("a", before - 1000, before, 1)).await;
         let overlaps = sums(&[("new", 1, 2, 1), ("a", before - 10, before - 5, 1)]);
         for wrong in [overlaps, sum("a", before - 10, before - 5, 1), sum("a", 5, 5, 1), "{".into()] {

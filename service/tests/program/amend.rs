@@ -65,7 +65,8 @@ fn a_series_is_put_back_and_what_the_sink_has_of_it_is_told() {
     assert_eq!(service.post("A", &points(&["a"], begun + 10, 2)).unwrap().0, 200);
     let said = service.said(&["forget", "b"]);
     assert!(said.contains("1 series is forgotten"), "{said}");
-    assert_eq!(service.post("B", &points(&["b"], begun, 1)).unwrap().0, 200);
+    // It ended ahead, and ends at the sink when it was forgotten.
+    assert_eq!(service.post("B", &points(&["b"], now(), 1)).unwrap().0, 200);
     service.drain();
     assert_eq!(place.totals().values().sum::<i64>(), 5 + 1 + 2 + 5 + 1);
     service.has_no_fault();

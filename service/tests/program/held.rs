@@ -110,7 +110,8 @@ fn posts_of_a_quarantined_sender_cost_a_checkpoint_nothing_and_come_out_whole() 
         assert!(page.lines().any(|found| found == line), "{line} in\n{page}");
     }
     let said = service.said(&["status"]);
-    assert!(said.contains("24 posts of quarantined senders, "), "{said}");
+    let is_held = |line: &str| line.starts_with("posts of quarantined senders  24 ");
+    assert!(said.lines().any(is_held), "{said}");
     service.kill();
     let service = place.serve_with(&words);
     assert_eq!(held(&service), (1, POSTS, bytes));

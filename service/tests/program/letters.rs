@@ -149,16 +149,16 @@ fn all_letters_are_sent_until_the_sink_fails() {
     assert!(service.said(&["dead", "list"]).contains("0-a-4-partial"));
 }
 
-/// Else who looks at the page takes those that it shows for all.
+/// It shows none, so that nobody takes some for all.
 #[test]
-fn the_page_says_how_many_letters_it_leaves_out() {
+fn the_page_says_how_many_letters_there_are() {
     let (place, sink) = (Place::new(), Sink::new());
     let service = service(&place, &sink);
     (0..60).for_each(|number| put_letter(&place, &format!("0-a-{number}"), b"{}"));
     assert!(service.said(&["dead", "list"]).contains("0-a-59"));
     let (status, page) = service.at_socket("GET", "/").unwrap();
-    assert_eq!((status, page.matches(">0-a-").count()), (200, 50), "{page}");
-    assert!(page.contains("<p class=note>10 more</p>"), "{page}");
+    assert_eq!((status, page.matches("0-a-").count()), (200, 0), "{page}");
+    assert!(page.contains("60 requests that the sink refused for good: `totxegun dead list`"), "{page}");
 }
 
 /// Else nothing behind it comes to the sink.

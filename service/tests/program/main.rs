@@ -17,6 +17,7 @@ mod socket;
 mod stuck;
 mod support;
 mod told;
+mod unfilled;
 
 use load::Load;
 use std::time::Duration;
@@ -56,7 +57,7 @@ fn owners_and_frontiers_outlive_kills_and_other_numbers_of_books() {
             assert_eq!(service.series(), 12);
         }
         let page = service.metrics();
-        let line = format!("totxegun_most_series {most_series}");
+        let line = format!("totxegun_series_limit {most_series}");
         assert!(page.lines().any(|it| it == line), "{line} in\n{page}");
         service.has_no_fault();
         // Every other one leaves its posts in the journal alone.

@@ -178,20 +178,21 @@ fn tokens_of_operators_stay_on_this_machine() {
     assert!(text(&output).contains("--behind-proxy"), "{}", text(&output));
 }
 
-/// The list of them is at the socket alone.
+/// The list of them is taken by an operator.
 #[test]
-fn a_page_has_dead_requests_at_the_socket_alone() {
+fn a_page_says_of_dead_requests_how_many_they_are() {
     let place = Place::new();
     assert_eq!(place.serve().end(), Some(0));
     let letter = r#"{"key":"0-a-1","since":1,"reason":"400 of host h1","bytes":2}"#;
     std::fs::write(place.data().join("dead/0-a-1.json"), format!("{letter}\n{{}}")).unwrap();
     let service = place.serve();
-    let (status, page) = service.asked_for("/").unwrap();
-    assert_eq!(status, 200);
-    assert!(page.contains("<b>1</b><span>dead requests") && page.contains("totxegun dead list"));
-    assert!(!page.contains("0-a-1") && !page.contains("host h1"), "{page}");
-    let (_, page) = service.at_socket("GET", "/").unwrap();
-    assert!(page.contains("0-a-1") && page.contains("400 of host h1"), "{page}");
+    for (status, page) in [service.asked_for("/").unwrap(), service.at_socket("GET", "/").unwrap()] {
+        assert_eq!(status, 200);
+        assert!(page.contains("<b>1</b><span>dead requests") && page.contains("totxegun dead list"));
+        assert!(!page.contains("0-a-1") && !page.contains("host h1"), "{page}");
+    }
+    let (_, list) = service.at_socket("GET", "/dead").unwrap();
+    assert!(list.contains("0-a-1") && list.contains("400 of host h1"), "{list}");
 }
 
 /// Its file stays, and the next run takes its place.

@@ -12,10 +12,10 @@ use std::time::Duration;
 fn a_quarantined_sender_that_names_none_is_shown() {
     let place = Place::new();
     let service = place.serve();
-    let shown = || service.said(&["status"]).lines().last().unwrap().to_string();
-    assert!(shown().ends_with("none"), "{}", shown());
+    let is_shown = || service.said(&["status"]).contains("\nquarantined: 1 sender: - (who names none); ");
+    assert!(!is_shown());
     assert_eq!(service.order("/quarantine/-").0, 200);
-    assert!(shown().ends_with("1 sender: - (who names none)"), "{}", shown());
+    assert!(is_shown(), "{}", service.said(&["status"]));
     assert_eq!(service.end(), Some(0));
     let checked = Command::new(PROGRAM).arg("check").arg(place.data()).output().unwrap();
     let text = String::from_utf8(checked.stdout).unwrap();
@@ -23,7 +23,7 @@ fn a_quarantined_sender_that_names_none_is_shown() {
 }
 
 #[test]
-fn an_operator_sees_the_books() {
+fn an_operator_sees_the_limits() {
     let place = Place::new();
     let service = place.serve();
     assert_eq!(service.post("A", &points(&["a", "b"], 100, 5)).unwrap().0, 200);
@@ -31,19 +31,51 @@ fn an_operator_sees_the_books() {
     assert_eq!((status, report.matches("owner A frontier 100").count()), (200, 2), "{report}");
     assert!(report.ends_with("end\n") && report.matches("end\n").count() == 1, "{report}");
     assert_eq!(service.order("/renew").0, 404);
-    let books = &service.status()["books"];
-    assert_eq!((&books["count"], &books["most_series"]), (&13.into(), &100_000.into()));
-    assert!(books["most_memory_bytes"].as_u64() > books["memory_bytes"].as_u64(), "{books}");
+    let limits = &service.status()["limits"];
+    assert_eq!(limits["series"]["limit"], 100_000);
+    assert!(limits["memory_bytes"]["limit"].as_u64() > limits["memory_bytes"]["used"].as_u64(), "{limits}");
     let said = service.said(&["status"]);
-    assert!(said.lines().any(|line| line.contains(" 13, with room for 100000 series, ")), "{said}");
+    let is_shown = |line: &str| line.starts_with("series ") && line.contains(" 100,000 ");
+    assert!(said.lines().any(is_shown), "{said}");
     let page = service.metrics();
     let value = |name: &str| {
         let line = page.lines().find_map(|line| line.strip_prefix(&format!("{name} ")));
         line.unwrap_or_else(|| panic!("{name} in\n{page}")).parse::<f64>().unwrap()
     };
     assert!(value("totxegun_book_memory_bytes") > 0.0);
-    assert!(value("totxegun_book_memory_most_bytes") > value("totxegun_book_memory_bytes"));
+    assert!(value("totxegun_memory_limit_bytes") > value("totxegun_book_memory_bytes"));
     assert_eq!(value("totxegun_rounds_closed_total"), 0.0);
+    assert_eq!(service.end(), Some(0));
+}
+
+/// Of requests that are taken; of others no point is either.
+#[test]
+fn each_point_of_what_is_taken_is_accepted_or_rejected() {
+    let place = Place::new();
+    let service = place.serve();
+    assert_eq!(service.post("A", &points(&["a", "b"], 100, 5)).unwrap().0, 200);
+    assert_eq!(service.post("A", &points(&["a"], 100, 5)).unwrap().0, 400);
+    // The first one is noted, the last one is there already.
+    for end in [20, 30, 30] {
+        let point = format!(r#"{{"asInt":"7","startTimeUnixNano":"10","timeUnixNano":"{end}"}}"#);
+        let sum = format!(r#"{{"aggregationTemporality":2,"isMonotonic":true,"dataPoints":[{point}]}}"#);
+        let metrics =
+            format!(r#"{{"name":"c","sum":{sum}}},{{"name":"g","gauge":{{"dataPoints":[{{}},{{}}]}}}}"#);
+        let body = format!(r#"{{"resourceMetrics":[{{"scopeMetrics":[{{"metrics":[{metrics}]}}]}}]}}"#);
+        let (status, answer) = service.post("A", &body).unwrap();
+        assert!(status == 200 && answer.contains("\"rejectedDataPoints\":\"2\""), "{answer}");
+    }
+    let page = service.metrics();
+    for line in [
+        "totxegun_accepted_points_total{sender=\"A\"} 5",
+        "totxegun_rejected_points_total{reason=\"gauge\",sender=\"A\"} 6",
+        "totxegun_requests_total{code=\"200\",reason=\"\"} 4",
+        "totxegun_request_duration_seconds_count{code=\"200\",encoding=\"json\"} 4",
+        "totxegun_request_duration_seconds_count{code=\"400\",encoding=\"json\"} 1",
+        "totxegun_request_size_bytes_count 5",
+    ] {
+        assert!(page.lines().any(|found| found == line), "{line} in\n{page}");
+    }
     assert_eq!(service.end(), Some(0));
 }
 
@@ -170,27 +202,4 @@ fn a_disk_without_room_is_told() {
     assert_eq!(answer.0, 200, "{answer:?}");
     service.drain();
     assert_eq!(service.end(), Some(0));
-}
-
-/// As where an earlier version kept them.
-#[test]
-fn that_old_spans_are_deleted_is_told_once() {
-    let place = Place::new();
-    let spans = || {
-        let file = place.folder.path().join("sink.db");
-        let asked = Command::new("sqlite3").arg(file).arg("select count(*) from span").output();
-        String::from_utf8(asked.unwrap().stdout).unwrap()
-    };
-    for name in ["a", "b"] {
-        let keeps = place.serve_with(&["--sink", &place.sink(), "--keep-spans", "forever"]);
-        assert_eq!(keeps.post("A", &points(&[name], 100, 5)).unwrap().0, 200);
-        keeps.drain();
-        assert_eq!((keeps.end(), spans().as_str()), (Some(0), "1\n"));
-        let service = place.serve();
-        until("they are deleted", || spans() == "0\n");
-        assert_eq!(service.end(), Some(0));
-        let log = place.log();
-        let told: Vec<&str> = log.lines().filter(|line| line.contains("--keep-spans forever")).collect();
-        assert!(told.len() == 1 && told[0].contains("WARN") && told[0].contains("35 d 0 h"), "{log}");
-    }
 }

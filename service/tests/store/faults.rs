@@ -39,8 +39,8 @@ impl Pair {
     }
 
     fn store(&self) -> PostgresStore {
-        make(&[&self.address()]);
-        open(&[&self.address()], Copies::Two)
+        make(&self.address());
+        open(&self.address(), Copies::Two)
     }
 
     /// The standby is the primary from now on, and the old one its standby.
@@ -159,6 +159,21 @@ fn a_commit_that_was_cancelled_in_the_wait_for_its_standby_is_no_answer() {
     }
 }
 
+/// Else it would say that the slot was its owner's though the server may be left behind.
+#[test]
+fn a_sync_of_nothing_waits_for_the_standby_too() {
+    let Some(mut pair) = Pair::start() else { return };
+    let store = pair.store();
+    let mut work = Work::take(&store, 0, 1);
+    assert!(work.round());
+    pair.standby().kill();
+    let syncing = thread::spawn(move || assert!(work.sync()));
+    sleep(Duration::from_secs(1));
+    assert!(!syncing.is_finished(), "a commit without its standby was answered");
+    pair.standby().run();
+    syncing.join().unwrap();
+}
+
 /// Else a taker would go by what is lost with the server.
 #[test]
 fn what_a_server_shows_after_a_restart_is_not_believed_without_its_standby() {
@@ -246,8 +261,8 @@ fn a_slot_waits_for_a_database_that_is_gone_and_no_longer_than_it_is_wanted() {
     let Some(mut server) = Server::start("") else {
         return;
     };
-    make(&[&server.address()]);
-    let store = open(&[&server.address()], Copies::One);
+    make(&server.address());
+    let store = open(&server.address(), Copies::One);
     let mut work = Work::take(&store, 0, 1);
     assert!(work.round());
     server.kill();
@@ -257,7 +272,7 @@ fn a_slot_waits_for_a_database_that_is_gone_and_no_longer_than_it_is_wanted() {
         work
     });
     wait_until("it waits", || drive_waits(&drive));
-    assert!(wait(store.slots(0)).is_err() && wait(store.beat(0, "a", "h", Refused::new())).is_err());
+    assert!(wait(store.slots()).is_err() && wait(store.beat("a", "h", "h", Refused::new())).is_err());
     server.run();
     let mut work = working.join().unwrap();
     assert_eq!(totxegun::files::drive::Drive::under_way(&*drive), Duration::ZERO);

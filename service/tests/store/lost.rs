@@ -12,8 +12,8 @@ use totxegun::store::postgres::{Copies, PostgresStore};
 
 fn made() -> Option<(Server, PostgresStore)> {
     let server = Server::start("")?;
-    make(&[&server.address()]);
-    let store = open(&[&server.address()], Copies::One);
+    make(&server.address());
+    let store = open(&server.address(), Copies::One);
     Some((server, store))
 }
 

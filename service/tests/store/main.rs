@@ -25,28 +25,26 @@ const SLOTS: u16 = 64;
 const STRAYS: &str = "select count(*) from totxegun_store.piece
     where (slot, file) not in (select slot, file from totxegun_store.file)";
 
-fn open(addresses: &[&str], copies: Copies) -> PostgresStore {
-    let servers: Vec<_> = addresses.iter().map(|text| address(text).unwrap()).collect();
-    opened(&servers, copies, "whole=auto").unwrap()
+fn open(text: &str, copies: Copies) -> PostgresStore {
+    opened(&address(text).unwrap(), copies, "whole=auto").unwrap()
 }
 
 /// As by an instance that reads posts so.
-fn opened(servers: &[StoreServer], copies: Copies, reading: &str) -> Result<PostgresStore, StoreFault> {
-    let store = PostgresStore::join(servers, copies)?;
+fn opened(server: &StoreServer, copies: Copies, reading: &str) -> Result<PostgresStore, StoreFault> {
+    let store = PostgresStore::join(server, copies)?;
     store.agree(reading)?;
     Ok(store)
 }
 
-fn make(addresses: &[&str]) {
-    let servers: Vec<_> = addresses.iter().map(|text| address(text).unwrap()).collect();
-    PostgresStore::make(&servers, SLOTS).unwrap();
+fn make(text: &str) {
+    PostgresStore::make(&address(text).unwrap(), SLOTS).unwrap();
 }
 
 #[test]
 fn a_drive_is_as_a_map_has_it_and_the_next_owner_finds_what_was_synced() {
     let Some(server) = Server::start("") else { return };
-    make(&[&server.address()]);
-    let store = open(&[&server.address()], Copies::One);
+    make(&server.address());
+    let store = open(&server.address(), Copies::One);
     let (mut owners, mut syncs) = (0, 0);
     for seed in 0..runs(4, 12) {
         let slot = (seed % 3) as u16;

@@ -30,8 +30,8 @@ fn works(mut work: Work, most: u64, said: Arc<Mutex<Contents>>) -> thread::JoinH
 fn an_owner_that_is_stopped_in_any_step_writes_no_more_once_another_has_the_slot() {
     let Some(server) = Server::start("") else { return };
     let proxy = Proxy::start(server.port);
-    make(&[&server.address()]);
-    let (through, direct) = (open(&[&proxy.address()], Copies::One), open(&[&server.address()], Copies::One));
+    make(&server.address());
+    let (through, direct) = (open(&proxy.address(), Copies::One), open(&server.address(), Copies::One));
     let (mut lost, mut later) = (0, 0);
     let rounds = runs(13, 40);
     for round in 0..rounds {
@@ -66,9 +66,9 @@ fn an_owner_that_is_stopped_in_any_step_writes_no_more_once_another_has_the_slot
 fn what_comes_late_of_a_broken_connection_is_not_done() {
     let Some(server) = Server::start("") else { return };
     let proxy = Proxy::start(server.port);
-    make(&[&server.address()]);
-    let store = open(&[&proxy.address()], Copies::One);
-    let direct = open(&[&format!("{}?application_name=direct", server.address())], Copies::One);
+    make(&server.address());
+    let store = open(&proxy.address(), Copies::One);
+    let direct = open(&format!("{}?application_name=direct", server.address()), Copies::One);
     let backends = "select coalesce(string_agg(pid::text, ','), '0') from pg_stat_activity where application_name = 'totxegun'";
     let mut chance = Chance(7);
     let mut held = 0;
@@ -101,8 +101,8 @@ fn what_comes_late_of_a_broken_connection_is_not_done() {
 #[test]
 fn who_had_a_slot_writes_no_more_though_nothing_is_left_of_the_next_owner() {
     let Some(server) = Server::start("") else { return };
-    make(&[&server.address()]);
-    let store = open(&[&server.address()], Copies::One);
+    make(&server.address());
+    let store = open(&server.address(), Copies::One);
     for is_handed_over in [false, true] {
         let slot = u16::from(is_handed_over);
         let mut first = Work::take(&store, slot, 1);
@@ -126,8 +126,8 @@ fn who_had_a_slot_writes_no_more_though_nothing_is_left_of_the_next_owner() {
 #[test]
 fn a_long_sync_is_there_wholly_or_not_at_all() {
     let Some(server) = Server::start("") else { return };
-    make(&[&server.address()]);
-    let store = open(&[&server.address()], Copies::One);
+    make(&server.address());
+    let store = open(&server.address(), Copies::One);
     let (drive, _) = take(&store, 0);
     let (name, mut chance) = (Path::new("journal/1"), Chance(1));
     let file = drive.create(name).unwrap();
@@ -152,8 +152,8 @@ fn a_long_sync_is_there_wholly_or_not_at_all() {
 #[test]
 fn one_of_those_that_take_a_slot_has_it() {
     let Some(server) = Server::start("") else { return };
-    make(&[&server.address()]);
-    let store = Arc::new(open(&[&server.address()], Copies::One));
+    make(&server.address());
+    let store = Arc::new(open(&server.address(), Copies::One));
     for term in 0..20 {
         let takers: Vec<_> = ["a", "b", "c", "d"]
             .map(|name| {
@@ -165,7 +165,7 @@ fn one_of_those_that_take_a_slot_has_it() {
         let won: Vec<_> = taken.iter().filter(|(_, term)| term.is_some()).collect();
         assert_eq!(won.len(), 1, "{taken:?}");
         assert_eq!(won[0].1, Some(term + 1));
-        let slots = wait(store.slots(0)).unwrap();
+        let slots = wait(store.slots()).unwrap();
         assert_eq!((slots[5].term, &slots[5].owner[..]), (term + 1, won[0].0));
     }
 }
@@ -173,30 +173,30 @@ fn one_of_those_that_take_a_slot_has_it() {
 #[test]
 fn beats_go_up_and_a_slot_is_given_away() {
     let Some(server) = Server::start("") else { return };
-    make(&[&server.address()]);
-    let store = open(&[&server.address()], Copies::One);
+    make(&server.address());
+    let store = open(&server.address(), Copies::One);
     for _ in 0..3 {
-        wait(store.beat(0, "a", "h1:1", Refused::new())).unwrap();
+        wait(store.beat("a", "h1:1", "h1:1", Refused::new())).unwrap();
     }
-    wait(store.beat(0, "b", "h2:1", Refused::new())).unwrap();
-    let mut instances = wait(store.instances(0)).unwrap();
+    wait(store.beat("b", "h2:1", "h2:1", Refused::new())).unwrap();
+    let mut instances = wait(store.instances()).unwrap();
     instances.sort_by(|one, other| one.name.cmp(&other.name));
     let seen: Vec<_> = instances.iter().map(|one| (&one.name[..], &one.address[..], one.beat)).collect();
     assert_eq!(seen, [("a", "h1:1", 3), ("b", "h2:1", 1)]);
-    wait(store.leave(0, "b")).unwrap();
-    assert_eq!(wait(store.instances(0)).unwrap().len(), 1);
-    wait(store.beat(0, "c", "h3:1", Refused::new())).unwrap();
-    assert!(!wait(store.forget(0, "c", 0)).unwrap(), "it has beaten since");
-    assert!(wait(store.forget(0, "c", 1)).unwrap() && !wait(store.forget(0, "c", 1)).unwrap());
-    assert_eq!(wait(store.instances(0)).unwrap().len(), 1);
-    wait(store.beat(0, "c", "h3:1", Refused::new())).unwrap();
-    assert_eq!(wait(store.instances(0)).unwrap().len(), 2, "it comes back");
-    wait(store.leave(0, "c")).unwrap();
+    wait(store.leave("b")).unwrap();
+    assert_eq!(wait(store.instances()).unwrap().len(), 1);
+    wait(store.beat("c", "h3:1", "h3:1", Refused::new())).unwrap();
+    assert!(!wait(store.forget("c", 0)).unwrap(), "it has beaten since");
+    assert!(wait(store.forget("c", 1)).unwrap() && !wait(store.forget("c", 1)).unwrap());
+    assert_eq!(wait(store.instances()).unwrap().len(), 1);
+    wait(store.beat("c", "h3:1", "h3:1", Refused::new())).unwrap();
+    assert_eq!(wait(store.instances()).unwrap().len(), 2, "it comes back");
+    wait(store.leave("c")).unwrap();
     assert_eq!(wait(store.take(1, 0, "a")).unwrap(), Some(1));
     wait(store.release(1, 0)).unwrap();
-    assert_eq!(wait(store.slots(0)).unwrap()[1].owner, "a", "of another term");
+    assert_eq!(wait(store.slots()).unwrap()[1].owner, "a", "of another term");
     wait(store.release(1, 1)).unwrap();
-    let slot = wait(store.slots(0)).unwrap().swap_remove(1);
+    let slot = wait(store.slots()).unwrap().swap_remove(1);
     assert_eq!((slot.term, &slot.owner[..]), (1, ""));
     assert!(store.drive(1, 0).is_err(), "it has another term");
 }
@@ -206,13 +206,13 @@ fn beats_go_up_and_a_slot_is_given_away() {
 fn a_question_to_a_silent_server_ends_soon_and_the_next_one_is_asked_anew() {
     let Some(server) = Server::start("") else { return };
     let proxy = Proxy::start(server.port);
-    make(&[&server.address()]);
-    let store = open(&[&proxy.address()], Copies::One);
+    make(&server.address());
+    let store = open(&proxy.address(), Copies::One);
     type Question = fn(&PostgresStore) -> bool;
     let questions: [Question; 3] = [
-        |store| wait(store.slots(0)).is_ok(),
-        |store| wait(store.instances(0)).is_ok(),
-        |store| wait(store.copies(0)).is_ok(),
+        |store| wait(store.slots()).is_ok(),
+        |store| wait(store.instances()).is_ok(),
+        |store| wait(store.copies()).is_ok(),
     ];
     for question in questions {
         assert!(question(&store), "it has a connection");

@@ -191,10 +191,6 @@ impl Server {
         done(&mut self.psql(query))
     }
 
-    pub fn ask_of(&self, database: &str, query: &str) -> String {
-        done(self.psql(query).args(["-d", database]))
-    }
-
     pub fn address(&self) -> String {
         self.address_of("postgres")
     }

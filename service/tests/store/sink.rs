@@ -17,8 +17,8 @@ impl Memory for OfStore {
         Ok(())
     }
 
-    fn databases(&self) -> Vec<Option<String>> {
-        self.0.databases()
+    fn store_database(&self) -> Option<String> {
+        self.0.identity()
     }
 }
 
@@ -59,8 +59,8 @@ const TOTALS: &str =
 #[test]
 fn a_request_and_what_says_that_it_was_delivered_are_one_transaction_under_the_term() {
     let Some(server) = Server::start("") else { return };
-    make(&[&server.address()]);
-    let store = Arc::new(open(&[&server.address()], Copies::One));
+    make(&server.address());
+    let store = Arc::new(open(&server.address(), Copies::One));
     let by_other_name = server.address().replace("127.0.0.1", "localhost");
     let sink = sink(&by_other_name, &store);
     let first = take(&store, 3).0;
@@ -101,31 +101,22 @@ fn a_request_and_what_says_that_it_was_delivered_are_one_transaction_under_the_t
 #[test]
 fn a_sink_elsewhere_has_keys_alone_whatever_its_address() {
     let Some(server) = Server::start("") else { return };
-    for name in ["one", "other", "sink"] {
-        server.ask(&format!("create database {name}"));
-    }
-    let [one, other, elsewhere] = ["one", "other", "sink"].map(|name| server.address_of(name));
-    make(&[&one, &other]);
-    let store = Arc::new(open(&[&one, &other], Copies::One));
-    let [here, there] = [3, 4].map(|slot| take(&store, slot).0.term());
-    let in_second = sink(&other, &store);
-    assert_eq!(deliver(&in_second, &request(3, 1, 10), here), Fate::Taken);
-    assert_eq!(deliver(&in_second, &request(4, 1, 10), there), Fate::Taken, "its slot is in the first");
-    let noted = |name: &str| {
-        server.ask_of(name, "select coalesce(string_agg(slot::text, ' '), '') from totxegun_store.delivered")
-    };
-    assert_eq!((noted("one"), noted("other")), (String::new(), "3".into()));
-    let apart = sink(&elsewhere, &store);
-    assert_eq!(deliver(&apart, &request(3, 1, 10), here), Fate::Taken);
+    server.ask("create database sink");
+    make(&server.address());
+    let store = Arc::new(open(&server.address(), Copies::One));
+    let term = take(&store, 3).0.term();
+    let apart = sink(&server.address_of("sink"), &store);
+    assert_eq!(deliver(&apart, &request(3, 1, 10), term), Fate::Taken);
     assert_eq!(deliver(&apart, &request(3, 2, 20), 0), Fate::Taken, "nobody looks at a term there");
+    assert_eq!(server.ask(NOTED), "");
 }
 
 /// As a start finds it where the answer of the sink, and with it the acknowledgement, was lost.
 #[test]
 fn what_was_noted_is_not_sent_again() {
     let Some(server) = Server::start("") else { return };
-    make(&[&server.address()]);
-    let store = Arc::new(open(&[&server.address()], Copies::One));
+    make(&server.address());
+    let store = Arc::new(open(&server.address(), Copies::One));
     let first = take(&store, 0).0;
     let term = first.term();
     let (journal, outbox, _dead) = drive::open(first as Arc<dyn Drive>, "e").unwrap();

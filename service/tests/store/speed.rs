@@ -58,8 +58,8 @@ fn run(writers: usize, size: usize, put: impl Fn(&[u8], u64) + Sync) -> (f64, f6
 fn syncs_a_second() {
     let Some(server) = Server::start("") else { return };
     let standby = server.standby();
-    make(&[&server.address()]);
-    let store = open(&[&server.address()], Copies::Two);
+    make(&server.address());
+    let store = open(&server.address(), Copies::Two);
     let folder = tempfile::tempdir().unwrap();
     let file = std::fs::File::create(folder.path().join("a")).unwrap();
     let wal = || server.ask("select pg_wal_lsn_diff(pg_current_wal_lsn(), '0/0')").parse::<f64>().unwrap();

@@ -1,8 +1,8 @@
-//! Short writes of several slots, which are one transaction.
+//! Writes of several slots, which are one transaction.
 
 use super::proxy::Proxy;
 use super::server::{wait_until, Server};
-use super::work::{contents, take};
+use super::work::{contents, take, Chance};
 use super::{make, open, STRAYS};
 use std::path::Path;
 use std::sync::Arc;
@@ -11,7 +11,6 @@ use std::time::{Duration, Instant};
 use totxegun::files::drive::{is_lost, Drive};
 use totxegun::store::postgres::{Copies, PostgresDrive, PostgresStore};
 
-/// They share a connection.
 const SLOTS: [u16; 4] = [0, 2, 4, 6];
 
 /// From a slot's thread to the one that writes.
@@ -37,7 +36,7 @@ impl Owner {
     fn write(&self, text: &str) -> std::io::Result<()> {
         let end = self.drive.length(self.file)?;
         self.drive.write_at(self.file, text.as_bytes(), end)?;
-        self.drive.sync()
+        self.drive.sync().map(drop)
     }
 
     /// On a thread of its own, which waits for the store once this returns.
@@ -57,46 +56,95 @@ impl Owner {
 
 /// As the journal's thread and the outbox do it: neither keeps the other waiting, nor other slots.
 #[test]
-fn who_comes_aboard_and_who_syncs_meanwhile_both_go_on() {
+fn who_syncs_and_who_syncs_meanwhile_both_go_on() {
     let Some(server) = Server::start("") else { return };
-    make(&[&server.address()]);
-    let store = open(&[&server.address()], Copies::One);
+    make(&server.address());
+    let store = open(&server.address(), Copies::One);
     let owners = SLOTS.map(|slot| Owner::of(&store, slot));
     let until = Instant::now() + 4 * LONG;
-    let works = |owner: &Owner, boards: bool| {
+    let works = |owner: &Owner, length: usize| {
         let owner = owner.clone();
         thread::spawn(move || {
             while Instant::now() < until {
-                owner.drive.write_at(owner.file, b"x", 0).unwrap();
-                if boards {
-                    owner.drive.board();
-                }
+                owner.drive.write_at(owner.file, &vec![b'x'; length], 0).unwrap();
                 owner.drive.sync().unwrap();
             }
         })
     };
-    let all: Vec<_> = owners
-        .iter()
-        .flat_map(|owner| [works(owner, true), works(owner, true), works(owner, false)])
-        .collect();
+    // One of them by the long lane.
+    let all: Vec<_> =
+        owners.iter().flat_map(|owner| [1, 1, 1 << 20].map(|length| works(owner, length))).collect();
     wait_until("all are done", || all.iter().all(JoinHandle::is_finished));
     all.into_iter().for_each(|one| one.join().unwrap());
-    // One that comes aboard and is lost before it syncs is not waited for.
-    owners[0].drive.board();
+    // One that is lost while it waits is not waited for.
+    let syncs = owners[0].clone();
+    let waiting = thread::spawn(move || syncs.write("y"));
     owners[0].drive.lose();
+    let _ = waiting.join().unwrap();
     owners[1].write("y").unwrap();
-    // Nor one that does not sync at all.
-    owners[2].drive.board();
-    owners[2].drive.leave();
-    owners[1].write("z").unwrap();
+    assert!(is_lost(&owners[0].write("z").unwrap_err()));
 }
 
-/// It is aboard and can't write: its connection is used by a read, which waits for the slot's row.
+/// Else each of them would wait for it, as for one that waits for its standby.
+#[test]
+fn a_slot_whose_row_is_locked_keeps_no_other_slot_waiting() {
+    let Some(server) = Server::start("") else { return };
+    make(&server.address());
+    let store = open(&server.address(), Copies::One);
+    let owners = SLOTS.map(|slot| Owner::of(&store, slot));
+    thread::scope(|scope| {
+        let lock = "select 1 from totxegun_store.slot where slot = 0 for update; select pg_sleep(5)";
+        scope.spawn(|| server.ask(lock));
+        wait_until("the row is locked", || server.ask(&waiting("PgSleep")) == "1");
+        let locked = owners[0].writes("b");
+        thread::sleep(LONG / 2);
+        let begun = Instant::now();
+        for owner in &owners[1..] {
+            owner.write("c").unwrap();
+            owner.replace_file(); // by the long lane
+        }
+        assert!(begun.elapsed() < 4 * LONG, "it took {:?}", begun.elapsed());
+        assert!(!locked.is_finished());
+        assert_eq!(server.ask(&waiting("PgSleep")), "1", "the row was locked all the time");
+        locked.join().unwrap().unwrap();
+    });
+    assert_eq!(take(&store, SLOTS[0]).1[Path::new("journal/1")], b"ab");
+}
+
+#[test]
+fn a_long_write_holds_up_no_short_ones() {
+    let Some(server) = Server::start("") else { return };
+    make(&server.address());
+    let store = open(&server.address(), Copies::One);
+    let owners = SLOTS.map(|slot| Owner::of(&store, slot));
+    server.ask(
+        "create function slow() returns trigger language plpgsql as $$ begin
+            if new.length > 100000 then perform pg_sleep(5); end if; return new; end $$",
+    );
+    server.ask(
+        "create trigger slow before insert on totxegun_store.piece for each row execute function slow()",
+    );
+    let mut chance = Chance(3);
+    let long: Vec<u8> = (0..300_000).map(|_| chance.below(256) as u8).collect();
+    let (drive, file) = (owners[0].drive.clone(), owners[0].file);
+    let writing = thread::spawn(move || {
+        drive.write_at(file, &long, 1).unwrap();
+        drive.sync().unwrap();
+    });
+    wait_until("the long one is on its way", || server.ask(&waiting("PgSleep")) == "1");
+    let begun = Instant::now();
+    owners[1..].iter().for_each(|owner| owner.write("b").unwrap());
+    assert!(begun.elapsed() < 4 * LONG, "it took {:?}", begun.elapsed());
+    assert!(!writing.is_finished());
+    writing.join().unwrap();
+}
+
+/// The slot's row is locked, and a read waits for it.
 #[test]
 fn who_is_read_meanwhile_keeps_no_other_slot_waiting() {
     let Some(server) = Server::start("") else { return };
-    make(&[&server.address()]);
-    let store = open(&[&server.address()], Copies::One);
+    make(&server.address());
+    let store = open(&server.address(), Copies::One);
     let [read, other] = [SLOTS[0], SLOTS[1]].map(|slot| Owner::of(&store, slot));
     // The first piece is not in memory any more, nor there: the server that writes is asked for it.
     read.drive.write_at(read.file, &vec![7; 6 << 20], 1).unwrap();
@@ -106,8 +154,9 @@ fn who_is_read_meanwhile_keeps_no_other_slot_waiting() {
         let lock = "select 1 from totxegun_store.slot where slot = 0 for update; select pg_sleep(5)";
         scope.spawn(|| server.ask(lock));
         wait_until("the row is locked", || server.ask(&waiting("PgSleep")) == "1");
-        scope.spawn(|| read.drive.read_at(read.file, &mut [0], 0).unwrap_err());
-        wait_until("the read waits", || server.ask(&waiting("transactionid")) == "1");
+        let reading = scope.spawn(|| read.drive.read_at(read.file, &mut [0], 0).unwrap_err());
+        thread::sleep(LONG);
+        assert!(!reading.is_finished(), "it waits");
         let writing = read.writes("b");
         thread::sleep(LONG);
         let begun = Instant::now();
@@ -126,9 +175,9 @@ fn waiting(event: &str) -> String {
 fn writes_of_several_slots_are_one_transaction_and_each_is_fenced_by_itself() {
     let Some(server) = Server::start("") else { return };
     let proxy = Proxy::start(server.port);
-    make(&[&server.address()]);
-    let store = open(&[&proxy.address()], Copies::One);
-    let direct = open(&[&server.address()], Copies::One);
+    make(&server.address());
+    let store = open(&proxy.address(), Copies::One);
+    let direct = open(&server.address(), Copies::One);
     let owners = SLOTS.map(|slot| Owner::of(&store, slot));
     proxy.stop_after(0);
     let [text, texts @ ..] = ["b", "c", "d", "e"];
@@ -159,17 +208,16 @@ fn writes_of_several_slots_are_one_transaction_and_each_is_fenced_by_itself() {
 fn what_comes_late_of_a_transaction_of_several_slots_is_done_for_none() {
     let Some(server) = Server::start("") else { return };
     let proxy = Proxy::start(server.port);
-    make(&[&server.address()]);
-    let store = open(&[&proxy.address()], Copies::One);
+    make(&server.address());
+    let store = open(&proxy.address(), Copies::One);
     let owners = SLOTS.map(|slot| Owner::of(&store, slot));
     for owner in &owners {
-        // By a connection of its own, which is not cut.
         owner.drive.create(Path::new("journal/0")).unwrap();
         owner.drive.sync().unwrap();
         owner.write("b").unwrap();
     }
     let together =
-        "select string_agg(pid::text, ',') from pg_stat_activity where query like '%new.write = mine.write%'
+        "select string_agg(pid::text, ',') from pg_stat_activity where query like '%new.slot = mine.slot%'
         and pid != pg_backend_pid()";
     let together = server.ask(together);
     proxy.stop_after(0);

@@ -90,7 +90,7 @@ impl Work {
         let begun = self.now.clone();
         self.begun = Some(begun);
         match self.drive.sync() {
-            Ok(()) => {
+            Ok(_) => {
                 self.synced = self.begun.take().unwrap();
                 self.syncs += 1;
                 true
@@ -180,9 +180,8 @@ pub fn taken(store: &PostgresStore, slot: u16) -> Arc<PostgresDrive> {
 }
 
 fn term_of(store: &PostgresStore, slot: u16) -> u64 {
-    let database = usize::from(slot) % store.names().len();
     loop {
-        if let Ok(slots) = wait(store.slots(database)) {
+        if let Ok(slots) = wait(store.slots()) {
             return slots.iter().find(|owned| owned.slot == slot).unwrap().term;
         }
         std::thread::sleep(std::time::Duration::from_millis(50));

@@ -1,5 +1,3 @@
-mod databases;
-
 use super::*;
 use crate::cluster::owners::Whose;
 use crate::cluster::terms::{Doing, Instance, Refused, Row, Seen, Stay};
@@ -10,7 +8,7 @@ use tokio::time::timeout;
 
 pub const SLOTS: u16 = 6;
 
-/// A store in memory, or a database of one. While it is silent its calls wait.
+/// A store in memory. While it is silent its calls wait.
 pub struct Store {
     pub rows: Mutex<(BTreeMap<String, Instance>, Vec<Row>)>,
     is_silent: AtomicBool,
@@ -18,13 +16,9 @@ pub struct Store {
 
 impl Store {
     pub fn new() -> Arc<Store> {
-        Store::of(0..SLOTS)
-    }
-
-    fn of(slots: impl Iterator<Item = u16>) -> Arc<Store> {
         let row = |slot| Row { slot, term: 0, owner: String::new() };
         Arc::new(Store {
-            rows: Mutex::new((BTreeMap::new(), slots.map(row).collect())),
+            rows: Mutex::new((BTreeMap::new(), (0..SLOTS).map(row).collect())),
             is_silent: AtomicBool::new(false),
         })
     }
@@ -50,10 +44,6 @@ impl Store {
     }
 }
 
-fn row_of(rows: &mut [Row], slot: u16) -> &mut Row {
-    rows.iter_mut().find(|row| row.slot == slot).unwrap()
-}
-
 /// The store as one instance asks it, which has this address.
 pub struct Of(pub Arc<Store>, pub &'static str, pub String);
 
@@ -63,6 +53,7 @@ impl Terms for Of {
         let mut rows = self.0.rows.lock().unwrap();
         let new = Instance {
             name: self.1.into(),
+            operate: String::new(),
             address: String::new(),
             version: "1".into(),
             beat: 0,
@@ -86,7 +77,7 @@ impl Terms for Of {
     async fn take(&self, slot: u16, seen: u64) -> Result<Option<u64>, Silence> {
         self.0.answers().await;
         let mut rows = self.0.rows.lock().unwrap();
-        let row = row_of(&mut rows.1, slot);
+        let row = &mut rows.1[usize::from(slot)];
         if row.term != seen {
             return Ok(None);
         }
@@ -97,7 +88,7 @@ impl Terms for Of {
     async fn release(&self, slot: u16, term: u64) -> Result<(), Silence> {
         self.0.answers().await;
         let mut rows = self.0.rows.lock().unwrap();
-        let row = row_of(&mut rows.1, slot);
+        let row = &mut rows.1[usize::from(slot)];
         if row.term == term {
             row.owner.clear();
         }
@@ -170,9 +161,13 @@ struct Node {
 }
 
 fn start(store: &Arc<Store>, name: &'static str) -> Node {
-    let (cluster, told) = (Cluster::new(name, 1), Arc::new(Told::default()));
-    let beats =
-        Beats::new(cluster.clone(), 0, Arc::new(Of(store.clone(), name, format!("{name}:1"))), told.clone());
+    start_at(store, name, BEAT)
+}
+
+fn start_at(store: &Arc<Store>, name: &'static str, beat: Duration) -> Node {
+    let (cluster, told) = (Cluster::new(name), Arc::new(Told::default()));
+    let terms = Arc::new(Of(store.clone(), name, format!("{name}:1")));
+    let beats = Beats::new(cluster.clone(), terms, told.clone()).each(beat);
     let (stop, stopped) = watch::channel(false);
     Node { cluster, told, stop, runs: tokio::spawn(beats.run(stopped)) }
 }
@@ -227,7 +222,7 @@ async fn a_store_that_is_silent_is_seen_at_the_door_and_moves_nothing() {
     assert!(!a.cluster.is_stalled());
     store.is_silent.store(true, SeqCst);
     sleep(STALL + BEAT + Duration::from_millis(200)).await;
-    assert!(a.cluster.is_stalled() && a.cluster.status().beat_age() > Some(STALL));
+    assert!(a.cluster.is_stalled() && a.cluster.status().beat_age > Some(STALL));
     let terms = a.cluster.status().terms;
     store.is_silent.store(false, SeqCst);
     let answers = async {
@@ -278,4 +273,29 @@ async fn a_slot_is_served_by_nobody_until_its_book_is_filled() {
     a.told.filling.lock().unwrap().clear();
     until(|| a.cluster.status().without_owner == 0).await;
     assert_eq!(a.cluster.status().longest_without_owner, Duration::ZERO);
+}
+
+#[tokio::test(flavor = "multi_thread", worker_threads = 2)]
+async fn who_has_not_come_back_for_long_is_forgotten_and_comes_back_all_the_same() {
+    const FAST: Duration = Duration::from_millis(50);
+    let store = Store::new();
+    let (a, b) = (start_at(&store, "a", FAST), start_at(&store, "b", FAST));
+    let has = |name: &str| store.owners().iter().any(|owner| owner == name);
+    until(|| has("a") && has("b")).await;
+    b.runs.abort();
+    store.are_owners(|owner| owner == "a", SOON).await;
+    let is_known = || store.rows.lock().unwrap().0.contains_key("b");
+    assert!(is_known() && a.cluster.status().others.len() == 1);
+    let forgotten = async {
+        while is_known() || !a.cluster.status().others.is_empty() {
+            sleep(FAST).await;
+        }
+    };
+    timeout(FAST * 4 * crate::cluster::owners::FORGOTTEN, forgotten).await.unwrap();
+    let b = start_at(&store, "b", FAST);
+    until(|| {
+        has("b") && b.cluster.places().borrow().values().any(|whose| matches!(whose, Whose::Here { .. }))
+    })
+    .await;
+    assert!(is_known());
 }

@@ -65,7 +65,7 @@ impl<H: Here> Internal<H> {
         if self.cluster.whose(head.slot) != (Whose::Here { term: head.term }) {
             return Err(owner_answer::not_mine());
         }
-        if self.cluster.is_stalled_for(head.slot) {
+        if self.cluster.is_stalled() {
             return Err(owner_answer::answer(&Reason::StoreSilent.into()));
         }
         let body = request.into_body();

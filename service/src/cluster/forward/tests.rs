@@ -8,7 +8,7 @@ use super::*;
 use crate::core::Refused;
 use crate::otlp::{Causes, Encoding, Off, OffClock, Reading, Rejection, Resources};
 use bytes::Bytes;
-use peers::{ends_after_one, half_deaf, posted, receiver, secret, slow_way, strange, there, Peer, Slots};
+use peers::{ends_after_one, posted, receiver, secret, slow_way, strange, there, Peer, Slots};
 use std::sync::atomic::Ordering::SeqCst;
 use tokio::net::TcpListener;
 use tokio::time::sleep;
@@ -313,7 +313,7 @@ async fn not_mine_is_asked_again_a_bounded_number_of_times() {
 /// Else each post would look for an owner for three seconds.
 #[tokio::test]
 async fn without_beats_a_post_is_turned_away_at_the_door() {
-    let forward = Forward::<Slots>::new(Cluster::new("receiver", 1), secret("of all"), None);
+    let forward = Forward::<Slots>::new(Cluster::new("receiver"), secret("of all"), None);
     let slots = |forward: Arc<Forward<Slots>>| {
         let resources = Resources::new(8, Arc::default());
         crate::slot::Slots::<crate::slot::Slot>::several(resources, Some(forward))
@@ -340,25 +340,21 @@ async fn without_beats_a_post_is_turned_away_at_the_door() {
 
 /// Else it would look for an owner for three seconds, or wait for one that waits.
 #[tokio::test]
-async fn of_a_database_that_is_silent_a_post_is_turned_away_at_once_and_others_go_on() {
+async fn while_the_store_is_silent_a_post_is_turned_away_at_once() {
     let peer = Peer::here().await;
-    peer.cluster.knows(&[(4, Whose::Here { term: 5 })]);
     for whose in [Whose::Nobody, Whose::Here { term: 5 }, peer.whose()] {
-        let forward = half_deaf(&[(3, whose), (4, peer.whose())]);
+        let forward = receiver(whose, secret("of all"));
+        forward.cluster.is_silent_for(Duration::from_secs(10));
         let began = Instant::now();
         assert_eq!(posted(&forward, "{}").await, Reason::StoreSilent.into());
         assert!(began.elapsed() < LOOKED_FOR / 3);
-        let part = Original { encoding: Encoding::Json, body: Bytes::new() };
-        assert_eq!(forward.post(4, "web-1", part).await, Outcome::taken(0));
-        // One that is here is taken for elsewhere, where it is turned away.
-        let resources = Resources::new(8, Arc::default());
-        let slots = crate::slot::Slots::several(resources, Some(forward.clone()));
-        for slot in [3, 4] {
-            slots.set(slot, Some(Arc::new(())));
-        }
-        assert!(slots.unavailable().is_none() && slots.here(4).is_some() && slots.here(3).is_none());
     }
-    assert_eq!(peer.slots.count(), 3);
+    assert_eq!(peer.slots.count(), 0);
+    // So is one that another instance brings.
+    peer.cluster.is_silent_for(Duration::from_secs(10));
+    let forward = receiver(peer.whose(), secret("of all"));
+    assert_eq!(posted(&forward, "{}").await, Reason::StoreSilent.into());
+    assert_eq!(peer.slots.count(), 0);
 }
 
 #[tokio::test]

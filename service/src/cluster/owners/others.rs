@@ -32,6 +32,7 @@ impl Other {
             shown.address = address.into();
         }
         shown.version = read.map(|read| read.version.clone()).unwrap_or_default();
+        shown.operate = read.map(|read| read.operate.clone()).unwrap_or_default();
         self.refused = read.map(|read| read.refused.clone()).unwrap_or_default();
         self.beat = beat;
     }

@@ -14,6 +14,12 @@ impl Owners {
         self.others.shown().collect()
     }
 
+    /// Where operators ask one of these, if they can from other machines.
+    pub fn operate(&self, name: &str) -> Option<String> {
+        let found = self.others.shown().find(|other| other.name == name)?;
+        (!found.operate.is_empty()).then_some(found.operate)
+    }
+
     /// How many of these may have slots.
     pub fn staying(&self) -> usize {
         self.others.staying().count()

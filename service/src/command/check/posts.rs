@@ -63,11 +63,8 @@ struct Series(HashMap<u64, Option<(Box<RawValue>, Kind)>>);
 /// Prints those of a folder.
 pub(super) fn print(copy: &Path) -> Result<(), Ended> {
     let folder = Folder::open(copy, Durability::Process)?;
-    for number in 0..folder.slots() {
-        let (journal, outbox) = folder.slot(number)?;
-        put_lines(&journal, &outbox, show)?;
-    }
-    Ok(())
+    let (journal, outbox) = folder.slot()?;
+    put_lines(&journal, &outbox, show)
 }
 
 /// In the order in which a start puts them into the book, but for those of quarantined senders.

@@ -40,6 +40,7 @@ fn what_is_in_a_store_is_shown_by_the_status() -> Result<()> {
 fn checked(data: &Path) -> Result<Vec<u8>, Ended> {
     let temporary = tempdir().unwrap();
     let _kept_still = lock(data)?;
+    Folder::check_usable(data)?;
     let copy = Copy::made(temporary.path())?;
     copy.fill(data, temporary.path())?;
     let found = found(&copy.0).map_err(|failure| in_the_original(failure, &copy.0, data))?;
@@ -49,7 +50,7 @@ fn checked(data: &Path) -> Result<Vec<u8>, Ended> {
 /// A folder with a group of two requests, of a service that was killed.
 fn killed(data: &Path) -> Result<()> {
     let folder = Folder::open(data, Durability::Disk).unwrap();
-    let (journal, outbox) = folder.slot(0)?;
+    let (journal, outbox) = folder.slot()?;
     let (next, _) = journal.turn();
     let request = br#"{"resourceMetrics":[]}"#.to_vec();
     outbox.commit(&[request.clone(), request], next)?;
@@ -121,7 +122,7 @@ fn a_lock_that_is_gone_or_a_version_alone_are_as_a_start_takes_them() -> Result<
     assert!(!data.path().join("lock").exists(), "nothing is changed");
     std::fs::rename(data.path().join("slot-0"), data.path().join("aside"))?;
     let checked = checked(data.path()).unwrap_err().to_string();
-    let started = Folder::open(data.path(), Durability::Disk).unwrap().slot(0);
+    let started = Folder::open(data.path(), Durability::Disk).unwrap().slot();
     assert_eq!(checked, started.err().unwrap().to_string());
     Ok(())
 }
@@ -139,7 +140,7 @@ fn a_request_that_was_changed_is_a_fault_and_the_rest_is_told() -> Result<()> {
     assert!(matches!(error, Ended::Changed(_)));
     let text = error.to_string();
     assert!(text.contains(path.to_str().unwrap()) && text.contains("request 2"), "{text}");
-    let outbox = Folder::open(data.path(), Durability::Disk).unwrap().slot(0)?.1;
+    let outbox = Folder::open(data.path(), Durability::Disk).unwrap().slot()?.1;
     assert_eq!(outbox.waiting().0, 2, "a start goes on");
     Ok(())
 }
@@ -148,7 +149,7 @@ fn a_request_that_was_changed_is_a_fault_and_the_rest_is_told() -> Result<()> {
 fn units_that_decide_nothing_are_told() -> Result<()> {
     let data = tempdir()?;
     killed(data.path())?;
-    let outbox = Folder::open(data.path(), Durability::Disk).unwrap().slot(0)?.1;
+    let outbox = Folder::open(data.path(), Durability::Disk).unwrap().slot()?.1;
     outbox.put_beside(&[("a\nb".to_string(), "ms".to_string())])?;
     drop(outbox);
     let text = String::from_utf8(checked(data.path()).unwrap())?;
@@ -222,7 +223,7 @@ impl Names for Two {
 fn posts_are_told_by_the_names_of_their_series_and_with_their_values() -> Result<()> {
     let data = tempdir()?;
     let folder = Folder::open(data.path(), Durability::Process).unwrap();
-    let (journal, outbox) = folder.slot(0)?;
+    let (journal, outbox) = folder.slot()?;
     let mut points = Points::default();
     points.push(0, 10, 20, [-7i64 as u64]);
     points.push(1, 30, 40, [3, 1, 12, 1, 2]);
@@ -250,19 +251,11 @@ fn posts_are_told_by_the_names_of_their_series_and_with_their_values() -> Result
     Ok(())
 }
 
-/// No totxegun of several slots has points by number, so a start does not take them for those of another slot.
+/// Nobody would deliver what is in it.
 #[test]
-fn a_copy_of_a_slot_beside_it_is_named_as_a_start_names_it() -> Result<()> {
+fn another_slot_in_a_folder_is_named_as_a_start_names_it() -> Result<()> {
     let data = tempdir()?;
-    {
-        let folder = Folder::open(data.path(), Durability::Process).unwrap();
-        let (journal, outbox) = folder.slot(0)?;
-        let mut points = Points::default();
-        points.push(0, 10, 20, [7]);
-        let post = Post { sender: "a".into(), foreign: 0, body: Body::Points(points) };
-        journal.write(journal.append(&post, &Two))?;
-        outbox.quarantine("a")?;
-    }
+    killed(data.path())?;
     assert!(checked(data.path()).is_ok());
     let copied = std::process::Command::new("cp")
         .args(["-a", "slot-0", "slot-1"])
@@ -270,11 +263,7 @@ fn a_copy_of_a_slot_beside_it_is_named_as_a_start_names_it() -> Result<()> {
         .status()?;
     assert!(copied.success());
     let refused = checked(data.path()).map(|_| ()).unwrap_err().to_string();
-    let folder = Folder::open(data.path(), Durability::Process).unwrap();
-    let of_start = move_held(&folder).unwrap_err().to_string();
-    assert!(
-        refused == of_start && refused.contains("the journal of slot 1 has points by number"),
-        "{refused}"
-    );
+    let of_start = Folder::open(data.path(), Durability::Process).err().unwrap().to_string();
+    assert!(refused == of_start && refused.contains("slot-1 is no part of a folder"), "{refused}");
     Ok(())
 }

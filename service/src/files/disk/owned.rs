@@ -11,8 +11,7 @@ use tokio::sync::watch;
 
 pub struct Owned {
     drive: Arc<dyn Drive>,
-    /// How many changes were made, and how many of these are durable.
-    made: AtomicU64,
+    /// So many changes are durable.
     durable: AtomicU64,
     /// When the call began that last found that it is this instance's.
     ours: Mutex<Instant>,
@@ -21,21 +20,11 @@ pub struct Owned {
     failure: OnceLock<String>,
 }
 
-/// A sync is to follow. Where none does, as behind a write that failed, others wait for it no longer than this is there.
-pub struct Aboard(Arc<Owned>);
-
-impl Drop for Aboard {
-    fn drop(&mut self) {
-        self.0.drive.leave(); // also where it is lost
-    }
-}
-
 impl Owned {
     /// Of a drive that was taken just now.
     pub fn new(drive: Arc<dyn Drive>) -> Owned {
         Owned {
             drive,
-            made: AtomicU64::new(0),
             durable: AtomicU64::new(0),
             ours: Mutex::new(Instant::now()),
             lost: watch::channel(false).0,
@@ -55,24 +44,26 @@ impl Owned {
         done
     }
 
-    /// A call that changes files.
-    pub fn change<T>(&self, does: impl FnOnce(&dyn Drive) -> io::Result<T>) -> io::Result<T> {
-        let done = self.call(does)?;
-        self.made.fetch_add(1, SeqCst);
-        Ok(done)
+    pub fn changes(&self) -> u64 {
+        self.drive.changes()
     }
 
-    pub fn board(self: &Arc<Self>) -> Aboard {
-        if !self.is_lost() {
-            self.drive.board();
-        }
-        Aboard(self.clone())
+    pub fn touch(&self) -> u64 {
+        self.drive.touch()
+    }
+
+    pub fn durable(&self) -> u64 {
+        self.durable.load(SeqCst)
     }
 
     pub fn sync(&self) -> io::Result<()> {
-        let (made, began) = (self.made.load(SeqCst), Instant::now());
-        self.call(|drive| drive.sync())?;
-        self.durable.fetch_max(made, SeqCst);
+        let began = Instant::now();
+        let durable = self.call(|drive| drive.sync())?;
+        // What was changed since it was closed never reached the drive, and may be among these.
+        if self.is_lost() {
+            return Err(lost());
+        }
+        self.durable.fetch_max(durable, SeqCst);
         let mut ours = locked(&self.ours);
         *ours = began.max(*ours);
         Ok(())
@@ -92,7 +83,7 @@ impl Owned {
 
     /// Whether there is something to sync.
     pub fn is_behind(&self) -> bool {
-        self.durable.load(SeqCst) < self.made.load(SeqCst) && !self.is_lost()
+        self.durable() < self.changes() && !self.is_lost()
     }
 
     /// How long ago it was certainly this instance's.

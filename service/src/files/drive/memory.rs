@@ -7,7 +7,6 @@ use std::collections::{BTreeMap, HashMap};
 use std::ffi::OsString;
 use std::io::{self, ErrorKind};
 use std::path::{Path, PathBuf};
-use std::sync::atomic::{AtomicBool, Ordering::SeqCst};
 use std::sync::{Arc, Mutex};
 use std::time::Duration;
 
@@ -34,8 +33,6 @@ pub(crate) enum Step {
     Write,
     Rename,
     Remove,
-    /// Before the journal's thread comes aboard.
-    Board,
     /// Before a sync is a commit.
     Sync,
     /// It is one, and its answer may be lost.
@@ -54,7 +51,6 @@ pub(crate) struct Owner {
     /// One at a time: an older view must not take the place of a later one.
     syncing: Mutex<()>,
     waiting: UnderWay,
-    aboard: AtomicBool,
 }
 
 /// The files as this owner has left them.
@@ -63,6 +59,7 @@ struct View {
     names: BTreeMap<PathBuf, u64>,
     files: HashMap<u64, Bytes>,
     last: u64,
+    changes: u64,
 }
 
 impl Store {
@@ -87,7 +84,6 @@ impl Store {
             view: Mutex::new(view),
             syncing: Mutex::new(()),
             waiting: UnderWay::default(),
-            aboard: AtomicBool::new(false),
         })
     }
 
@@ -109,6 +105,7 @@ impl Store {
 
 impl View {
     fn put(&mut self, name: &Path, bytes: Bytes) -> u64 {
+        self.changes += 1;
         self.last += 1;
         self.names.insert(name.into(), self.last);
         self.files.insert(self.last, bytes);
@@ -125,6 +122,7 @@ impl View {
 
     fn remove(&mut self, name: &Path) -> io::Result<()> {
         let number = self.number(name)?;
+        self.changes += 1;
         self.names.remove(name);
         self.files.remove(&number);
         Ok(())
@@ -170,6 +168,7 @@ impl Drive for Owner {
     fn write_at(&self, file: u64, bytes: &[u8], at: u64) -> io::Result<()> {
         (self.hook)(Step::Write)?;
         let mut view = locked(&self.view);
+        view.changes += 1;
         let there = view.files.get_mut(&file).ok_or(ErrorKind::NotFound)?;
         let (there, at) = (Arc::make_mut(there), at as usize);
         assert!(at <= there.len(), "a hole before {at}, behind {}", there.len());
@@ -183,6 +182,7 @@ impl Drive for Owner {
         (self.hook)(Step::Rename)?;
         let mut view = locked(&self.view);
         let number = view.number(from)?;
+        view.changes += 1;
         let _ = view.remove(to); // where there is none nothing is replaced
         view.names.remove(from);
         view.names.insert(to.into(), number);
@@ -194,17 +194,17 @@ impl Drive for Owner {
         locked(&self.view).remove(name)
     }
 
-    fn board(&self) {
-        let _ = (self.hook)(Step::Board); // it may wait, and never fails
-        self.aboard.store(true, SeqCst);
+    fn changes(&self) -> u64 {
+        locked(&self.view).changes
     }
 
-    fn leave(&self) {
-        self.aboard.store(false, SeqCst);
+    fn touch(&self) -> u64 {
+        let mut view = locked(&self.view);
+        view.changes += 1;
+        view.changes
     }
 
-    fn sync(&self) -> io::Result<()> {
-        self.leave();
+    fn sync(&self) -> io::Result<u64> {
         let _noted = self.waiting.note();
         self.commit()
     }
@@ -219,18 +219,13 @@ impl Drive for Owner {
 }
 
 impl Owner {
-    /// Whether others wait for a sync of it.
-    pub fn is_aboard(&self) -> bool {
-        self.aboard.load(SeqCst)
-    }
-
-    fn commit(&self) -> io::Result<()> {
-        let _one = locked(&self.syncing);
+    fn commit(&self) -> io::Result<u64> {
         (self.hook)(Step::Sync)?;
-        let now: BTreeMap<_, _> = {
+        let _one = locked(&self.syncing);
+        let (now, changes): (BTreeMap<_, _>, u64) = {
             let view = locked(&self.view);
             let file = |(name, number): (&PathBuf, &u64)| (name.clone(), view.files[number].clone());
-            view.names.iter().map(file).collect()
+            (view.names.iter().map(file).collect(), view.changes)
         };
         {
             let mut kept = locked(&self.store.0);
@@ -239,7 +234,7 @@ impl Owner {
             }
             kept.files = now;
         }
-        (self.hook)(Step::Committed)
+        (self.hook)(Step::Committed).map(|()| changes)
     }
 }
 

@@ -156,6 +156,72 @@ async fn a_refusal_waits_for_a_sync_of_its_own() {
     assert_eq!(journal.durable(journal.now()).await, Err(Lost));
 }
 
+/// Else it would wait for another one.
+#[tokio::test]
+async fn what_is_appended_before_a_commit_begins_is_in_it() {
+    let (store, opened) = (Arc::new(Store::default()), Arc::new(std::sync::OnceLock::<Arc<Journal>>::new()));
+    let (comes, ticket) = (Arc::new(AtomicBool::new(false)), Arc::new(std::sync::Mutex::new(None)));
+    let (journal, coming, appended) = (opened.clone(), comes.clone(), ticket.clone());
+    let syncs = Arc::new(AtomicUsize::new(0));
+    let counted = syncs.clone();
+    let owner = store.take_with(move |step| {
+        counted.fetch_add(usize::from(step == Step::Sync), SeqCst);
+        if step == Step::Sync && coming.swap(false, SeqCst) {
+            *appended.lock().unwrap() = Some(append(journal.get().unwrap(), "A", "two"));
+        }
+        Ok(())
+    });
+    let (journal, _outbox, _dead) = open_of(owner);
+    let journal = opened.get_or_init(|| Arc::new(journal));
+    let before = syncs.load(SeqCst);
+    comes.store(true, SeqCst);
+    journal.durable(append(journal, "A", "one")).await.unwrap();
+    let ticket = ticket.lock().unwrap().unwrap();
+    journal.durable(ticket).await.unwrap();
+    assert_eq!(syncs.load(SeqCst), before + 1);
+    let (journal, _outbox, _dead) = open_of(store.take());
+    assert_eq!(texts(&journal, 1), ["one", "two"]);
+}
+
+/// As where its write was the only thing that changed since.
+#[tokio::test]
+async fn a_post_that_a_lost_slot_could_not_write_is_never_durable() {
+    let store = Arc::new(Store::default());
+    let fails = Arc::new(AtomicBool::new(false));
+    let failing = fails.clone();
+    let owner = store.take_with(move |step| match step {
+        Step::Write if failing.load(SeqCst) => Err(lost()),
+        _ => Ok(()),
+    });
+    let (journal, outbox, _dead) = open_of(owner);
+    append(&journal, "A", "one");
+    outbox.quarantine("B").unwrap(); // durable, with changes of its own
+    fails.store(true, SeqCst);
+    assert_eq!(journal.durable(append(&journal, "A", "two")).await, Err(Lost));
+}
+
+/// Its change is counted, though it reached nothing, and the commit that was under way ends well.
+#[tokio::test]
+async fn a_post_that_comes_after_a_close_within_a_commit_is_never_durable() {
+    let (store, opened) = (Arc::new(Store::default()), Arc::new(std::sync::OnceLock::<Arc<Journal>>::new()));
+    let (comes, ticket) = (Arc::new(AtomicBool::new(false)), Arc::new(std::sync::Mutex::new(None)));
+    let (journal, coming, appended) = (opened.clone(), comes.clone(), ticket.clone());
+    let owner = store.take_with(move |step| {
+        if step == Step::Sync && coming.swap(false, SeqCst) {
+            let journal = journal.get().unwrap();
+            journal.close("a piece is damaged");
+            *appended.lock().unwrap() = Some(append(journal, "A", "two"));
+        }
+        Ok(())
+    });
+    let (journal, _outbox, _dead) = open_of(owner);
+    let journal = opened.get_or_init(|| Arc::new(journal));
+    comes.store(true, SeqCst);
+    let _ = journal.durable(append(journal, "A", "one")).await;
+    let ticket = ticket.lock().unwrap().unwrap();
+    assert_eq!(journal.durable(ticket).await, Err(Lost));
+}
+
 /// Of a folder the process ends by it.
 #[tokio::test]
 async fn a_drive_that_fails_ends_its_slot_alone_and_nothing_reaches_it_any_more() {

@@ -79,7 +79,7 @@ impl Display for KnownSink {
 }
 
 impl Folder {
-    /// The one that an earlier start has met; none in a new folder, and in one of 0.5.0.
+    /// The one that an earlier start has met; none in a new folder.
     pub fn sink(&self) -> Option<KnownSink> {
         locked(&self.version).sink.clone()
     }

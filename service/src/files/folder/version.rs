@@ -1,37 +1,32 @@
 //! What the file `version` says.
 
-use super::{io_fault, Fault, KnownSink, Mark, MOST_SLOTS};
-use std::collections::BTreeMap;
+use super::{io_fault, Fault, FolderFault, KnownSink};
 use std::fs::File;
 use std::os::unix::fs::MetadataExt;
 use std::path::Path;
 use std::time::UNIX_EPOCH;
 
-/// Of the folder: which files there are, and where. A folder is of the second once it had another number of slots than 1.
-const VERSION: u32 = 2;
-/// Of one with a mark: no earlier totxegun may start on it.
-const MARKED: u32 = 3;
-const UNREADABLE: &str = "has no epoch, no inode of the lock, no number of slots, or says otherwise what was begun, which sink it has or where it was moved: put a copy of this file in its place";
+/// Of the folder: which files there are, and where.
+const VERSION: u32 = 1;
+const UNREADABLE: &str = "has no epoch, no inode of the lock, or says otherwise what was begun or which sink it has: put a copy of this file in its place";
 
 /// Its lines.
 #[derive(Clone, Default)]
 pub struct Version {
     pub epoch: String,
     pub lock: Identity,
-    /// None in a folder of version 1, which has one.
-    pub slots: Option<u16>,
-    /// The journal's segment that the last start of a slot has begun: so far the slot was made, durably.
-    pub begun: BTreeMap<u16, u64>,
+    /// The journal's segment that the last start has begun: so far the slot was made, durably.
+    pub begun: Option<u64>,
     pub sink: Option<KnownSink>,
-    pub mark: Option<Mark>,
+    /// The address of the store that has all of it, without a secret, on one line.
+    pub moved: Option<String>,
 }
 
 /// By which a file is told from its copies.
 #[derive(Clone, Copy, Default)]
 pub struct Identity {
     pub inode: u64,
-    /// In nanoseconds since 1970. No copy of a file gets it. None where the file system does not know it, or an earlier
-    /// totxegun wrote `version`.
+    /// In nanoseconds since 1970. No copy of a file gets it. None if the file system does not know it.
     pub born: Option<u128>,
 }
 
@@ -50,23 +45,14 @@ impl Identity {
 
 impl Version {
     pub fn text(&self) -> String {
-        let Version { epoch, lock, slots, begun, sink, mark } = self;
-        let inode = lock.inode;
-        let number = match (slots, mark) {
-            (_, Some(_)) => MARKED,
-            (Some(_), None) => VERSION,
-            (None, None) => 1,
-        };
-        let slots = (number > 1).then(|| format!("slots {}\n", slots.unwrap_or(1)));
-        let text = format!("totxegun {number}\nepoch {epoch}\nlock {inode}\n{}", slots.unwrap_or_default());
-        // The last lines: an earlier totxegun passes over them.
+        let Version { epoch, lock, begun, sink, moved } = self;
+        let first = format!("totxegun {VERSION}\nepoch {epoch}\nlock {}\n", lock.inode);
         let born = lock.born.map(|born| format!("born {born}\n"));
-        let begun: Vec<String> = begun.iter().map(|(slot, segment)| format!(" {slot}:{segment}")).collect();
-        let begun = (!begun.is_empty()).then(|| format!("begun{}\n", begun.concat()));
+        let begun = begun.map(|segment| format!("begun {segment}\n"));
         let sink = sink.as_ref().map(KnownSink::line);
-        let mark = mark.as_ref().map(Mark::line);
-        let lines = [born, begun, sink, mark].into_iter().flatten();
-        text + &lines.collect::<String>()
+        let moved = moved.as_ref().map(|store| format!("moved {store}\n"));
+        let lines = [born, begun, sink, moved].into_iter().flatten();
+        first + &lines.collect::<String>()
     }
 
     pub fn read(folder: &Path) -> Result<Option<Version>, Fault> {
@@ -79,46 +65,38 @@ impl Version {
         let first = text.lines().next();
         let number: Option<u32> = first.and_then(|line| line.strip_prefix("totxegun ")?.parse().ok());
         let what = match number {
-            Some(number @ 1..=MARKED) => match Version::of(number, &text) {
+            Some(VERSION) => match Version::of(&text) {
                 Some(version) => return Ok(Some(version)),
                 None => UNREADABLE.into(),
             },
-            Some(number) if number > MARKED => format!(
-                "the folder is of format version {number}, and this totxegun reads up to {MARKED}: start the later totxegun that wrote it"
+            Some(number) => format!(
+                "the folder is of format version {number}, and this totxegun reads {VERSION} alone: start the totxegun that wrote it, \
+                 or give another --data"
             ),
             _ => "is no version of a folder of totxegun: put a copy of this file in its place".into(),
         };
         Err(Fault::Damaged { path, at: 0, what })
     }
 
-    /// By the lines behind the first.
-    fn of(number: u32, text: &str) -> Option<Version> {
-        let mut lines = text.lines().skip(1);
-        let mut value = |name: &str| lines.next()?.strip_prefix(name)?.strip_prefix(' ');
-        let epoch = value("epoch").filter(|epoch| epoch.len() == 16 && is_hexadecimal(epoch))?;
-        let inode = value("lock")?.parse().ok()?;
-        let slots = match number {
-            1 => None,
-            _ => Some(value("slots")?.parse().ok().filter(|slots| (1..=MOST_SLOTS).contains(slots))?),
-        };
-        let last = |name: &str| text.lines().find_map(|line| line.strip_prefix(name));
-        let born = last("born ").and_then(|born| born.parse().ok());
-        let begun = last("begun ").map_or(Some(BTreeMap::new()), begun_of)?;
-        let sink = last("sink ").map_or(Some(None), |line| KnownSink::read(line).map(Some))?;
-        let mark = last("move ").map_or(Some(None), |line| Mark::read(line).map(Some))?;
-        let version =
-            Version { epoch: epoch.into(), lock: Identity { inode, born }, slots, begun, sink, mark };
-        (version.mark.is_some() == (number == MARKED)).then_some(version)
+    pub fn check_here(&self, path: &Path) -> Result<(), FolderFault> {
+        let Version { epoch, moved, .. } = self;
+        match moved.clone() {
+            None => Ok(()),
+            Some(store) => Err(FolderFault::Moved { path: path.into(), epoch: epoch.clone(), store }),
+        }
     }
-}
 
-/// Of what follows `begun `.
-fn begun_of(text: &str) -> Option<BTreeMap<u16, u64>> {
-    let of_slot = |one: &str| {
-        let (slot, segment) = one.split_once(':')?;
-        Some((slot.parse().ok()?, segment.parse().ok()?))
-    };
-    text.split(' ').map(of_slot).collect()
+    /// By the lines behind the first.
+    fn of(text: &str) -> Option<Version> {
+        let line = |name: &str| text.lines().find_map(|line| line.strip_prefix(name));
+        let epoch = line("epoch ").filter(|epoch| epoch.len() == 16 && is_hexadecimal(epoch))?;
+        let inode = line("lock ")?.parse().ok()?;
+        let born = line("born ").and_then(|born| born.parse().ok());
+        let begun = line("begun ").map_or(Some(None), |segment| segment.parse().ok().map(Some))?;
+        let sink = line("sink ").map_or(Some(None), |line| KnownSink::read(line).map(Some))?;
+        let moved = line("moved ").map(String::from);
+        Some(Version { epoch: epoch.into(), lock: Identity { inode, born }, begun, sink, moved })
+    }
 }
 
 /// Each of its characters.

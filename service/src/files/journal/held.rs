@@ -126,7 +126,7 @@ impl Shared {
                 return Err(io_fault(&place.segment.path)(source));
             }
             place.segment.put(&record).map_err(|fault| self.disk.fail(fault))?; // while nobody else can write
-            place.ticket += 1;
+            self.set_ticket(place);
             place.kept = place.ticket;
             Ok(())
         })?;

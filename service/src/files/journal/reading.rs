@@ -1,7 +1,7 @@
 //! The posts of the journal, in order.
 
 use super::record::{Posts, Wanted};
-use super::{held, locked, Journal, Replayed, Shared, COPY, HELD};
+use super::{held, locked, Journal, Replayed, Shared, HELD};
 use crate::files::records::{self, Next, Reader, Which};
 use crate::files::{segment, Fault};
 
@@ -47,7 +47,7 @@ impl Shared {
                 continue;
             }
             let written = (number == last).then_some(at);
-            if !self.posts_of(number, written, number == first, Posts::new(wanted), each)? {
+            if !self.posts_of(number, written, Posts::new(wanted), each)? {
                 break;
             }
         }
@@ -59,7 +59,6 @@ impl Shared {
         &self,
         number: u64,
         written: Option<u64>,
-        is_first: bool,
         mut posts: Posts,
         each: &mut Each,
     ) -> Result<bool, Fault> {
@@ -74,8 +73,7 @@ impl Shared {
                 Next::Record { at, kind, bytes } => {
                     let read = posts.read(kind, bytes);
                     let read = read.map_err(|what| reader.damaged(at, what))?;
-                    let counts = kind != COPY || is_first;
-                    if let Some((since, post)) = read.filter(|_| counts) {
+                    if let Some((since, post)) = read {
                         if !each(since, post)? {
                             return Ok(false);
                         }

@@ -3,7 +3,7 @@
 use super::by_number::NumberSet;
 use super::name_records::NameReader;
 use super::post::{Body, Points, Post, Replayed};
-use super::{packed, COPY, NAME, NAME_AFTER, POINTS, POST, RUNS};
+use super::{packed, NAME, NAME_AFTER, POINTS, POST, RUNS};
 use crate::files::{records, torn_tail};
 use bytes::Bytes;
 
@@ -33,7 +33,7 @@ pub(super) fn put(out: &mut Vec<u8>, since: u64, post: &Post) {
 /// When a post was appended, by its record; `None` where it is none.
 pub(super) fn since(kind: u8, mut bytes: &[u8]) -> Option<u64> {
     match kind {
-        POST | COPY => records::take_number(&mut bytes),
+        POST => records::take_number(&mut bytes),
         POINTS | RUNS => packed::take_number(&mut bytes),
         _ => None,
     }
@@ -74,7 +74,7 @@ impl Posts {
                 self.named.push(name);
                 return Ok(None);
             }
-            POST | COPY => text(bytes).ok_or(NO_POST)?,
+            POST => text(bytes).ok_or(NO_POST)?,
             POINTS | RUNS if self.wanted == Wanted::Requests => {
                 points(&bytes, |_| Some(Points::default())).ok_or(NO_POST)?
             }

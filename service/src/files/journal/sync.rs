@@ -1,5 +1,5 @@
-//! The journal's threads. The syncer makes all durable that others wait for, by one `fdatasync` for all. Where posts are only
-//! written, the writer writes for all that wait: a thread that serves senders would wait for a disk that stalls.
+//! The journal's threads. The syncer makes all durable that others wait for, by one `fdatasync` for all. If posts are only written,
+//! the writer writes for those that wait on other threads than the ones that serve senders, which write by themselves.
 
 use super::watermark::Wanted;
 use super::{locked, Journal, Shared};
@@ -33,7 +33,6 @@ impl Shared {
 
     /// The same, for who has the journal alone.
     pub(super) fn try_sync(&self) -> Result<(), Fault> {
-        let _aboard = self.disk.board();
         let (ended, file, path, number, at, named, ticket) = self.written(|place| {
             let segment = &place.segment;
             (
@@ -64,7 +63,8 @@ impl Shared {
                 place.named = true;
             }
         }
-        self.durable.reach(ticket);
+        // Of a drive, up to where the commit began: what was appended meanwhile is in it.
+        self.durable.reach(self.disk.durable().unwrap_or(ticket));
         Ok(())
     }
 

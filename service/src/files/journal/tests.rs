@@ -57,21 +57,6 @@ fn append(journal: &Journal, text: &str) -> Ticket {
     ticket
 }
 
-/// As totxegun 0.5.0 wrote posts of quarantined senders into the next segment.
-fn append_copy(journal: &Journal, text: &str) {
-    let post = post(text);
-    let name = post.sender.as_bytes();
-    let numbers = [seconds(), post.foreign, name.len() as u64].map(u64::to_le_bytes);
-    let mut record = Vec::new();
-    records::put(&mut record, COPY, &[numbers.as_flattened(), name, text.as_bytes()]);
-    let mut place = locked(&journal.shared.place);
-    place.segment.put(&record).unwrap();
-    place.ticket += 1;
-    if let Some(size) = locked(&journal.shared.sizes).last_mut() {
-        size.bytes += record.len() as u64;
-    }
-}
-
 fn texts(journal: &Journal, first: u64) -> Vec<String> {
     let (mut texts, mut reading) = (Vec::new(), Reading::default());
     let each = |found: Replayed| {
@@ -121,19 +106,18 @@ fn starts_that_end_at_once_leave_one_segment() {
 }
 
 #[test]
-fn posts_come_back_in_order_and_copies_only_where_they_are_first() {
+fn posts_come_back_in_order() {
     let folder = tempfile::tempdir().unwrap();
     let journal = open(folder.path());
     append(&journal, "a");
     append(&journal, "bb");
     let (second, before) = journal.turn();
     assert_eq!((second, journal.now()), (2, before));
-    append_copy(&journal, "bb");
-    assert!(journal.now() > before);
     append(&journal, "ccc");
+    assert!(journal.now() > before);
     let check = |journal: &Journal| {
         assert_eq!(texts(journal, 1), ["a", "bb", "ccc"]);
-        assert_eq!(texts(journal, 2), ["bb", "ccc"]);
+        assert_eq!(texts(journal, 2), ["ccc"]);
     };
     check(&journal);
     kill(journal);
@@ -151,8 +135,7 @@ fn posts_come_back_in_order_and_copies_only_where_they_are_first() {
         .unwrap();
     assert_eq!(some, [1]);
     journal.forget(2).unwrap();
-    assert_eq!(texts(&journal, 0), ["ccc"], "copies count where their segment is the first that is replayed");
-    assert_eq!(texts(&journal, 2), ["bb", "ccc"]);
+    assert_eq!(texts(&journal, 0), ["ccc"]);
 }
 
 #[test]
@@ -174,20 +157,16 @@ fn it_is_as_a_list_in_memory_over_any_calls_and_starts() {
         let folder = tempfile::tempdir().unwrap();
         let open = |reach| open_from(&Disk::default(), folder.path(), Durability::Process, reach).unwrap();
         let mut journal = open(1);
-        let mut model: Vec<(u64, bool, String)> = Vec::new();
+        let mut model: Vec<(u64, String)> = Vec::new();
         let (mut segment, mut reach) = (1, 1);
         // A last segment without a post makes room for the next one.
-        let begun = |model: &[(u64, bool, String)], reach| model.last().map_or(1, |one| one.0 + 1).max(reach);
+        let begun = |model: &[(u64, String)], reach| model.last().map_or(1, |one| one.0 + 1).max(reach);
         for step in 0..60 {
             let text = format!("{step:a>width$}", width = numbers.below(900) as usize);
             match numbers.below(10) {
-                0..=3 => {
+                0..=4 => {
                     append(&journal, &text);
-                    model.push((segment, false, text));
-                }
-                4 => {
-                    append_copy(&journal, &text);
-                    model.push((segment, true, text));
+                    model.push((segment, text));
                 }
                 5 => segment = journal.turn().0,
                 6 => {
@@ -218,8 +197,7 @@ fn it_is_as_a_list_in_memory_over_any_calls_and_starts() {
                 }
             }
             let first = numbers.below(segment + 1);
-            let counts = |one: &&(u64, bool, String)| one.0 >= first && (!one.1 || one.0 == first);
-            let expected: Vec<_> = model.iter().filter(counts).map(|one| &one.2).collect();
+            let expected: Vec<_> = model.iter().filter(|one| one.0 >= first).map(|one| &one.1).collect();
             assert_eq!(
                 texts(&journal, first).iter().collect::<Vec<_>>(),
                 expected,

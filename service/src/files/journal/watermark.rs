@@ -57,12 +57,13 @@ impl Watermark {
         self.reached.load(SeqCst) >= ticket
     }
 
-    /// Returns once all before a ticket is there. The thread is woken once `others` have had their turn, whatever becomes of this
-    /// future: so it does at once what they need too.
+    /// Returns once all before a ticket is there. Unless `is_begun` says that another has begun it, the thread is woken once `others` have
+    /// had their turn, whatever becomes of this future: so it does at once what they need too.
     pub async fn wait_for(
         &self,
         ticket: u64,
         disk: &Disk,
+        is_begun: impl FnOnce() -> bool,
         others: impl Future<Output = ()>,
     ) -> Result<(), Lost> {
         if self.has(ticket) {
@@ -71,7 +72,7 @@ impl Watermark {
         let Some(done) = self.join(ticket, disk)? else {
             return Ok(());
         };
-        {
+        if !is_begun() {
             let _in_any_case = Wakes(self);
             others.await;
         }
@@ -106,9 +107,9 @@ impl Watermark {
         }
     }
 
-    /// All before a ticket is there.
+    /// All before a ticket is there. Two that reach a place may say so in any order.
     pub fn reach(&self, ticket: u64) {
-        self.reached.store(ticket, SeqCst);
+        self.reached.fetch_max(ticket, SeqCst);
         let due: Vec<Waiter> = {
             let list = &mut locked(&self.waiters).list;
             let (due, later) = std::mem::take(list).into_iter().partition(|one| one.ticket <= ticket);

@@ -2,6 +2,7 @@
 
 use super::{locked, Journal, Place, Shared, Ticket};
 use crate::files::drive::Lost;
+use crate::work::own_call::OwnCall;
 
 /// What is left of a write's memory for the next one.
 const KEPT: usize = 64 << 10;
@@ -41,9 +42,16 @@ impl Shared {
         writes(&mut locked(&self.place))
     }
 
-    /// Writes all that was appended until now: what `see` says of the place up to there. Who appends meanwhile does not wait.
-    /// Where that fails the process ends while nobody else can write: what is behind a hole is there for no start.
+    /// Writes all that was appended until now, and says so to those that wait: what `see` says of the place up to there.
     pub fn written<T>(&self, see: impl FnOnce(&mut Place) -> T) -> Result<T, Lost> {
+        let (seen, ticket) = self.put_appended(see)?;
+        self.written.reach(ticket);
+        Ok(seen)
+    }
+
+    /// Writes all that was appended until now: what `see` says of the place up to there, and its ticket. Who appends meanwhile does not
+    /// wait. Where that fails the process ends while nobody else can write: what is behind a hole is there for no start.
+    fn put_appended<T>(&self, see: impl FnOnce(&mut Place) -> T) -> Result<(T, u64), Lost> {
         let mut bytes = locked(&self.writing);
         let mut place = locked(&self.place);
         let (seen, ticket) = (see(&mut place), place.ticket);
@@ -56,7 +64,17 @@ impl Shared {
             bytes.clear();
             bytes.shrink_to(KEPT);
         }
-        self.written.reach(ticket);
-        Ok(seen)
+        Ok((seen, ticket))
+    }
+}
+
+impl OwnCall for Shared {
+    fn make(&self) -> u64 {
+        let put = self.put_appended(|_| ());
+        put.map_or(0, |((), ticket)| ticket) // if it fails the process ends: only a folder is written so
+    }
+
+    fn tell(&self, reached: u64) {
+        self.written.reach(reached);
     }
 }

@@ -65,7 +65,7 @@ impl Outbox {
     pub fn begin_with(&self, beginning: Beginning) -> Result<(), Fault> {
         self.renew(|state| {
             (state.facts.next, state.facts.acknowledged) = (beginning.next, beginning.next - 1);
-            (state.facts.quarantined, state.facts.since) = (beginning.quarantined, Some(beginning.since));
+            (state.facts.quarantined, state.facts.since) = (beginning.quarantined, beginning.since);
             (state.facts.beside, state.facts.forgotten) = (beginning.beside, beginning.forgotten);
             state.adopt(beginning.series);
         })

@@ -1,32 +1,14 @@
-//! Series that leave an outbox, those that another slot had, and those whose ends are put back.
+//! Series that leave an outbox, and those whose ends are put back.
 
 use super::changes::Change;
 use super::state::State;
 use super::table::Table;
-use super::{Outbox, Series};
+use super::Outbox;
 use crate::files::{locked, Fault};
 use crate::otlp::series::SeriesKey;
 use std::collections::BTreeSet;
 
 impl Outbox {
-    /// Leaves out the series whose owners post to another slot: how many.
-    pub fn leave(&self, is_others: impl Fn(&str) -> bool) -> Result<usize, Fault> {
-        let left = self.leave_out(|series| {
-            let others =
-                series.iter().filter(|(_, known)| known.series.owner.as_deref().is_some_and(&is_others));
-            others.map(|(id, _)| id).collect()
-        });
-        left.map(|left| left.len())
-    }
-
-    /// Takes over what other slots know of series. Durable when this returns, and all or none of them.
-    pub fn adopt(&self, series: Vec<(SeriesKey, Series)>) -> Result<(), Fault> {
-        if series.is_empty() {
-            return Ok(());
-        }
-        self.renew(|state| state.adopt(series))
-    }
-
     /// These end here from now on, where they ended later. Durable when this returns, and all or none of them.
     pub fn put_back(&self, series: &[SeriesKey], to: u64) -> Result<(), Fault> {
         self.renew(|state| state.put_back(series, to))
@@ -50,6 +32,11 @@ impl Outbox {
         let last = ahead.iter().max().map(|(_, id)| *id);
         let last = state.series.keys(last.into_iter()).next();
         (ahead.len(), last)
+    }
+
+    pub fn ends_after(&self, series: &SeriesKey, time: u64) -> bool {
+        let known = locked(&self.state);
+        known.series.get(&series.digest()).is_some_and(|known| known.series.frontier > time)
     }
 
     /// Leaves these out.

@@ -8,7 +8,7 @@ use crate::files::disk::Disk;
 use crate::files::free_space::FreeSpace;
 use crate::files::records::{Reader, Which};
 use crate::files::segment::{self, Ahead, Segment};
-use crate::files::{locked, nanoseconds, Dropped, Fault};
+use crate::files::{locked, Dropped, Fault};
 use std::path::{Path, PathBuf};
 use std::sync::atomic::AtomicU64;
 use std::sync::{Arc, Mutex};
@@ -40,12 +40,6 @@ impl Outbox {
         segment::settle(disk, folder, numbers.last().copied().unwrap_or(0), |_| 0)?;
         let EarlierRun { mut state, has_requests, ended, dropped } = read_all(disk, folder, &numbers, epoch)?;
         state.facts.epoch = epoch.into();
-        // 0.5.0 did not say when it was made (0 is not known), also where it says what it has forgotten, by whatever clock.
-        let since = state.facts.since.get_or_insert_default();
-        if since.made == 0 {
-            since.made = nanoseconds();
-            since.forgotten = since.forgotten.min(since.made);
-        }
         // A segment without a request is replaced: starts that end at once would leave one each.
         let number = numbers.last().map_or(1, |last| last + u64::from(has_requests));
         let segment = Segment::create(disk, folder, Which::Outbox, number, Ahead::Nothing, None)?;

@@ -32,14 +32,9 @@ struct Content {
     journal: u64,
     quarantined: BTreeSet<String>,
     series: Table,
-    /// None in an outbox of version 1, and so it has no runs.
-    #[serde(default)]
-    since: Option<Since>,
-    #[serde(default)]
+    since: Since,
     runs: Vec<RunRow>,
-    #[serde(default)]
     beside: BTreeSet<UnitOfMetric>,
-    #[serde(default)]
     forgotten: Forgotten,
 }
 

@@ -4,7 +4,7 @@ use super::changes::{Change, Group, UnitOfMetric};
 use super::snapshot::Snapshot;
 use super::table::{KnownSeries, Table};
 use super::{Series, Waiting};
-use crate::files::seconds;
+use crate::files::{nanoseconds, seconds};
 use crate::otlp::series::{Digest, SeriesKey};
 use crate::runs::{Forgotten, Since};
 use std::collections::{BTreeSet, HashSet, VecDeque};
@@ -90,8 +90,7 @@ pub struct Facts {
     pub journal: u64,
     pub quarantined: BTreeSet<String>,
     pub beside: BTreeSet<UnitOfMetric>,
-    /// None until the outbox is opened.
-    pub since: Option<Since>,
+    pub since: Since,
     pub forgotten: Forgotten,
 }
 
@@ -106,7 +105,8 @@ pub struct State {
 
 impl State {
     pub fn new(epoch: &str) -> State {
-        let facts = Facts { epoch: epoch.into(), next: 1, journal: 1, ..Facts::default() };
+        let since = Since { made: nanoseconds(), forgotten: 0 };
+        let facts = Facts { epoch: epoch.into(), next: 1, journal: 1, since, ..Facts::default() };
         State { facts, ..State::default() }
     }
 
@@ -165,7 +165,7 @@ impl State {
 
     fn forget(&mut self, ids: &[u32]) {
         let ends = self.series.forget(ids);
-        self.facts.forgotten.note(ends, self.facts.since.get_or_insert_default());
+        self.facts.forgotten.note(ends, &mut self.facts.since);
     }
 
     /// A snapshot has to follow: no record says this. What a run has come to stays, so its next point adds what is more.

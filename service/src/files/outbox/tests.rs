@@ -10,7 +10,6 @@ mod size;
 
 use super::*;
 use crate::files::disk::Call;
-use crate::files::records::{self, Which};
 use crate::files::test_random::TestRandom;
 use crate::files::test_runs::runs;
 use crate::runs::{EndedRun, Point};
@@ -259,46 +258,5 @@ fn what_was_forgotten_is_known_by_when_it_ended() {
         let (outbox, wanted) = (open(folder.path()), Since { made, forgotten: 0 });
         let ends = ["a", "b", "c"].map(|key| outbox.forgotten().of(&key_of(key).digest()));
         assert_eq!((ends, outbox.since()), ([40, 70, 0], wanted), "by series");
-    }
-}
-
-/// It has what says that it is of version 2.
-#[test]
-fn an_outbox_of_version_2_has_no_units_beside_others() {
-    let folder = tempfile::tempdir().unwrap();
-    let snapshot = r#"{"epoch":"e","next":1,"acknowledged":0,"journal":1,"quarantined":["q"],"series":[["a",7,6,"A"]],"since":{"made":3,"forgotten":2},"runs":[]}"#;
-    let header: [&[u8]; 4] = [b"totxegun", &2u16.to_le_bytes(), &[Which::Outbox as u8], &1u64.to_le_bytes()];
-    let mut bytes = Vec::new();
-    records::put(&mut bytes, records::HEADER, &header);
-    records::put(&mut bytes, rows::SNAPSHOT, &[&rows::deflated(snapshot.as_bytes())]);
-    std::fs::write(segment::path(folder.path(), 1), bytes).unwrap();
-    for _ in 0..2 {
-        let outbox = open(folder.path());
-        assert_eq!((outbox.quarantined(), outbox.beside()), (["q".to_string()].into(), BTreeSet::new()));
-        assert_eq!(
-            (outbox.since(), outbox.frontier(&key_of("a").digest())),
-            (Since { made: 3, forgotten: 2 }, 7)
-        );
-    }
-}
-
-/// 0.5.0 did not note it, and forgot series too: of a run that is older only what comes from now on counts. What it forgot may
-/// end where a wrong clock has put it.
-#[test]
-fn an_outbox_of_version_1_begins_now_also_where_it_has_forgotten_series() {
-    const AHEAD: u64 = 4_000_000_000_000_000_000;
-    for end in [70, AHEAD] {
-        let folder = tempfile::tempdir().unwrap();
-        let snapshot = format!(
-            r#"{{"epoch":"e","next":1,"acknowledged":0,"journal":1,"quarantined":[],"series":[["a",{end},6,"A"],["b",9,6,"A"]]}}"#
-        );
-        let mut bytes = records::header(Which::Outbox, 1);
-        records::put(&mut bytes, rows::SNAPSHOT, &[&rows::deflated(snapshot.as_bytes())]);
-        records::put(&mut bytes, rows::FORGET, &[&rows::packed(&[0u32])]);
-        std::fs::write(segment::path(folder.path(), 1), bytes).unwrap();
-        let since = open(folder.path()).since();
-        assert!((1_700_000_000_000_000_000..AHEAD).contains(&since.made), "{since:?}");
-        let outbox = open(folder.path());
-        assert_eq!((outbox.since(), outbox.forgotten().of(&key_of("a").digest())), (since, end));
     }
 }

@@ -79,6 +79,8 @@ fn the_first_thing_that_is_wrong_is_answered() {
         ("POST", "/v1/metrics", &[("content-type", "text/plain")], 415),
         ("POST", "/v1/metrics", &[JSON, ("content-encoding", "br")], 415),
         ("POST", "/v1/metrics", &[JSON, ("content-encoding", "gzip, gzip")], 415),
+        ("POST", "/v1/metrics", &[JSON, ("content-encoding", "gzip, zstd")], 415),
+        ("POST", "/v1/metrics", &[JSON, ("content-encoding", "deflate")], 415),
         ("POST", "/v1/metrics", &[JSON, ("content-encoding", "gzip"), ("content-encoding", "gzip")], 415),
         ("POST", "/v1/metrics", &[JSON, ("content-encoding", "deflate")], 415),
         ("POST", "/v1/metrics", &[JSON], 411),

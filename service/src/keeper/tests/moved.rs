@@ -369,7 +369,9 @@ async fn who_waits_is_answered_before_the_slot_is_handed_over() {
     let (store, is_held) = (Arc::new(Store::default()), Arc::new(AtomicBool::new(false)));
     let held = is_held.clone();
     let owner = store.take_with(move |step| {
-        while step == Step::Board && held.load(SeqCst) {
+        // The journal's thread alone: the checkpoint is durable before.
+        let is_its = step == Step::Sync && std::thread::current().name() == Some("journal");
+        while is_its && held.load(SeqCst) {
             std::thread::sleep(Duration::from_millis(1));
         }
         Ok(())

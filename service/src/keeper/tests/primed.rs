@@ -5,7 +5,7 @@ use crate::files::Runs;
 
 /// As a kill leaves it behind a commit: what says whose its series are has not come.
 fn committed_without_owners(folder: &Folder) {
-    let (journal, outbox) = folder.slot(0).unwrap();
+    let (journal, outbox) = folder.slot().unwrap();
     let core = Core::new(1).unwrap();
     let mut read = core.read("A".into(), point("a", 10).into()).unwrap();
     core.lock().admit(&mut read).unwrap();
@@ -36,7 +36,7 @@ async fn a_book_is_primed_once_all_owners_are_known() {
 async fn who_is_told_to_stop_while_it_is_primed_ends_soon() {
     let place = tempfile::tempdir().unwrap();
     let folder = Folder::open(&place.path().join("data"), Durability::Process).unwrap();
-    let (journal, outbox) = folder.slot(0).unwrap();
+    let (journal, outbox) = folder.slot().unwrap();
     let (core, outbox) = (Core::new(1).unwrap(), Arc::new(outbox));
     let held = core.lock();
     let priming = Priming::begin(&core, &outbox, false);

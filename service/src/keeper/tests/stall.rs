@@ -1,7 +1,9 @@
 //! A disk that stalls: who comes later is told at once, and all goes on after it.
 
 use super::*;
+use crate::intake::Threads;
 use crate::otlp::Reason;
+use tokio::runtime::Handle;
 
 /// The disk answers again, also where a check fails: the end of a test waits for it.
 struct Thaw(Arc<AtomicBool>);
@@ -103,18 +105,19 @@ async fn run_with_stalling_writes(place: &Path) -> (Run, Thaw) {
     (run, Thaw(stalls))
 }
 
-/// Such a thread would serve nobody until the disk goes on, also those whose posts are turned away.
-#[tokio::test]
-async fn a_thread_that_serves_waits_for_no_write() {
+/// A thread that waited would serve nobody until the disk goes on, also those whose posts are turned away.
+async fn waits_for_no_write(thread: &Handle) {
     let place = tempfile::tempdir().unwrap();
     let (run, thaw) = run_with_stalling_writes(place.path()).await;
     let (slot, began) = (run.slot.clone(), Instant::now());
-    let first = tokio::spawn(async move { post_of(&slot, 2).await });
+    let first = thread.spawn(async move { post_of(&slot, 2).await });
     while run.slot.unavailable().is_none() {
         assert!(began.elapsed() < Duration::from_secs(3), "nobody is told");
         tokio::time::sleep(Duration::from_millis(5)).await;
     }
-    let late = run.slot.post("S".into(), point("s", 1).into()).await;
+    let slot = run.slot.clone();
+    let late = thread.spawn(async move { slot.post("S".into(), point("s", 1).into()).await });
+    let late = late.await.unwrap();
     assert_eq!(
         (late.status(), late.refusal(), first.is_finished()),
         (503, Some(Reason::DiskSilent.text()), false)
@@ -122,6 +125,18 @@ async fn a_thread_that_serves_waits_for_no_write() {
     drop(thaw);
     assert_eq!(first.await.unwrap(), Outcome::taken(0));
     run.end().await;
+}
+
+#[tokio::test]
+async fn a_thread_that_serves_waits_for_no_write() {
+    let threads = Threads::new(1).unwrap();
+    waits_for_no_write(&threads.place().0).await;
+}
+
+/// Posts come there from other instances.
+#[tokio::test]
+async fn another_thread_waits_for_no_write() {
+    waits_for_no_write(&Handle::current()).await;
 }
 
 /// Posts would wait for that lock, on the threads that serve.

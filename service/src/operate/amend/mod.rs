@@ -12,8 +12,8 @@ use super::{Actor, Desk, ANYWAY};
 use crate::log::{since_1970, utc};
 use crate::otlp::series::SeriesKey;
 use crate::sinks::periods::{hour_shown, seconds_of};
-use crate::sinks::sqlite::by_hour::Hour;
-use crate::sinks::sqlite::totals::SeriesTotal;
+use crate::sinks::sql::totals::Hour;
+use crate::sinks::sql::totals::SeriesTotal;
 use sought::{InAllSlots, Meant};
 use std::sync::Arc;
 
@@ -47,13 +47,42 @@ impl Desk {
             return Err(flushed);
         }
         let found = self.in_all_slots(&who, &Command::Find(sought.clone())).await.all()?;
-        let meant = InAllSlots::read(&found)?.meant(&sought).map_err(|why| Answer::told(409, &why))?;
-        let command = Command::Amend(meant.sought.clone());
-        let answers = self.in_slots(&who, &command, meant.slots.iter().copied()).await.all()?;
-        match answers.iter().find(|(_, answer)| answer.status != 200) {
-            Some((_, refused)) => Err(refused_by(refused, &answers)),
-            None => Ok(Answer::told(200, &self.told(&sought, &meant).await)),
+        let meant_in = |found: &[(u16, Answer)], sought: &Sought| {
+            InAllSlots::read(found)?.meant(sought).map_err(|why| Answer::told(409, &why))
+        };
+        let all = meant_in(&found, &sought)?;
+        let (here, there): (Vec<u16>, Vec<u16>) =
+            all.slots.iter().partition(|slot| self.units.get(**slot).is_some());
+        let rest = there.first().and_then(|slot| self.unit_here(*slot).err());
+        let told = match here.is_empty() {
+            true => String::new(),
+            false => {
+                self.amended_here(&here, &all.sought).await?;
+                let of_here: Vec<_> = found.into_iter().filter(|(slot, _)| here.contains(slot)).collect();
+                self.told(&sought, &meant_in(&of_here, &all.sought)?).await
+            }
+        };
+        match rest {
+            None => Ok(Answer::told(200, &told)),
+            Some(rest) if told.is_empty() => Err(rest),
+            Some(rest) => {
+                let told = format!("{told}\nothers are elsewhere: {}", rest.message());
+                Err(Answer { location: rest.location, ..Answer::told(rest.status, &told) })
+            }
         }
+    }
+
+    /// Changes what these slots know, one after the other.
+    async fn amended_here(&self, slots: &[u16], sought: &Sought) -> Result<(), Answer> {
+        for (number, slot) in slots.iter().enumerate() {
+            let unit = self.unit_here(*slot)?;
+            let moved = || Answer::told(503, &format!("slot {slot} is being moved: give the order again"));
+            let answer = sought.clone().amended_in(&unit).await.unwrap_or_else(moved);
+            if answer.status != 200 {
+                return Err(refused_by(&answer, &slots[..number]));
+            }
+        }
+        Ok(())
     }
 
     async fn told(&self, sought: &Sought, meant: &Meant) -> String {
@@ -77,7 +106,7 @@ impl Desk {
                 "\nwhat is posted from then on counts, beside what the sink has after it: `totxegun correct` takes out what is wrong"
             }
             (Some(_), None) => {
-                "\nwhat is posted again of that time is taken again; the sink leaves out what overlaps a span that it has (dead/)"
+                "\nwhat is posted again of that time is taken again; the sink adds nothing that begins before the series ends there (dead/)"
             }
             (None, _) => "\nwhat is posted again of that time counts twice",
         }
@@ -98,11 +127,9 @@ impl Desk {
     }
 }
 
-/// What a slot has refused, and what others have done.
-fn refused_by(refused: &Answer, answers: &[(u16, Answer)]) -> Answer {
-    let done = answers.iter().filter(|(_, answer)| answer.status == 200);
-    let done: Vec<u16> = done.map(|(slot, _)| *slot).collect();
-    match &done[..] {
+/// What a slot has refused, and which others have done it.
+fn refused_by(refused: &Answer, done: &[u16]) -> Answer {
+    match done {
         [] => refused.clone(),
         done => {
             let why = format!("{}; it is done in {}", refused.message(), slots_shown(done));
@@ -177,10 +204,9 @@ mod tests {
 
     #[test]
     fn what_is_refused_in_one_slot_says_where_it_is_done() {
-        let (done, held) = (Answer::new(200, "{}"), Answer::told(409, "a has posts"));
-        let of = |answers: &[(u16, Answer)]| refused_by(&held, answers);
-        assert_eq!(of(&[(3, held.clone())]), held);
-        let both = of(&[(1, done.clone()), (3, held.clone()), (4, done.clone())]);
+        let held = Answer::told(409, "a has posts");
+        assert_eq!(refused_by(&held, &[]), held);
+        let both = refused_by(&held, &[1, 4]);
         assert_eq!(both, Answer::told(409, "a has posts; it is done in slots 1 and 4"));
     }
 }

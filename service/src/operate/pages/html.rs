@@ -1,5 +1,6 @@
 //! Markup that is put together: what stands in the program goes in as it is, and all else escaped.
 
+use crate::command::values::grouped;
 use crate::log::{all_shown, cut};
 use std::fmt::{Display, Write};
 
@@ -7,7 +8,7 @@ use std::fmt::{Display, Write};
 const SHOWN: usize = 400;
 
 /// How many rows a table has at most, where there may be any number.
-pub const ROWS: usize = 50;
+const ROWS: usize = 50;
 
 /// A page, or a part of one. Only a text of the program itself can be markup.
 #[derive(Default)]
@@ -66,15 +67,17 @@ impl Html {
         self.markup("</section>\n")
     }
 
-    /// A table of the first rows, and how many more there are.
+    /// A table of the first rows, and how many more there are: of these, and besides.
     pub fn first_rows(
         &mut self,
         caption: &'static str,
         heads: &[&'static str],
-        rows: impl ExactSizeIterator<Item = Vec<Cell>>,
+        rows: Vec<Vec<String>>,
+        besides: usize,
     ) -> &mut Html {
-        let more = rows.len().saturating_sub(ROWS);
-        self.table(caption, heads, rows.take(ROWS).collect());
+        let more = rows.len().saturating_sub(ROWS) + besides;
+        let cells = |row: Vec<String>| row.into_iter().map(Cell::Text).collect();
+        self.table(caption, heads, rows.into_iter().take(ROWS).map(cells).collect());
         if more > 0 {
             self.markup("<p class=note>").text(grouped(more)).markup(" more</p>");
         }
@@ -155,23 +158,6 @@ impl Cell {
     }
 }
 
-/// A whole number in groups of three digits.
-pub fn grouped(number: impl Display) -> String {
-    let text = number.to_string();
-    let (sign, digits) = match text.strip_prefix('-') {
-        Some(digits) => ("-", digits),
-        None => ("", &text[..]),
-    };
-    let mut grouped = sign.to_string();
-    for (place, digit) in digits.chars().enumerate() {
-        if place > 0 && (digits.len() - place) % 3 == 0 {
-            grouped.push(',');
-        }
-        grouped.push(digit);
-    }
-    grouped
-}
-
 #[cfg(test)]
 mod tests {
     use super::*;
@@ -200,11 +186,5 @@ mod tests {
              </thead><tbody>\n<tr><td data-head=\"name\">&lt;i&gt;</td><td class=n data-head=\"total\">\
              <a href=\"series?id=a%26b\">n</a></td></tr>\n</tbody></table></div>\n<p class=none>none</p>\n"
         );
-    }
-
-    #[test]
-    fn numbers_are_in_groups() {
-        let numbers = ["0", "999", "1000", "-1234567", "18446744073709551616"].map(grouped);
-        assert_eq!(numbers, ["0", "999", "1,000", "-1,234,567", "18,446,744,073,709,551,616"]);
     }
 }

@@ -4,20 +4,14 @@
 //! `html` escapes all that the program has not written itself; nothing is loaded from elsewhere, and the policy forbids
 //! it.
 
-mod cluster;
-mod counting;
 mod html;
 mod overview;
 mod plot;
-mod pulse;
 mod series;
 
-pub use pulse::Pulse;
-
 use super::query::Query;
-use super::status::Status;
+use super::status::Shown;
 use super::{reply, Desk};
-use crate::command::values::seconds_shown;
 use html::Html;
 use hyper::header::X_CONTENT_TYPE_OPTIONS;
 use hyper::header::{HeaderName, HeaderValue, CACHE_CONTROL, CONTENT_SECURITY_POLICY, REFERRER_POLICY};
@@ -42,8 +36,6 @@ const HEADERS: [(HeaderName, &str); 4] = [
 #[derive(Clone, Copy, Debug, PartialEq, Eq)]
 pub enum Page {
     Overview,
-    /// The same, of dead requests only how many they are: where they are not listed.
-    Levels,
     Series,
     Style,
     Script,
@@ -53,14 +45,7 @@ impl Desk {
     /// `query` is what stands behind the path.
     pub(super) async fn page(self: &Arc<Self>, page: Page, query: Query<'_>) -> Response<Body> {
         let mut response = match page {
-            Page::Overview | Page::Levels => {
-                let status = self.status_of_all().await;
-                let letters = match page {
-                    Page::Overview => self.few_letters(status.dead).await,
-                    _ => Vec::new(),
-                };
-                reply(200, PAGE, self.overview(status, letters))
-            }
+            Page::Overview => reply(200, PAGE, overview::page(&self.status_of_all().await)),
             Page::Series => reply(200, PAGE, self.series_page(query).await),
             Page::Style => reply(200, "text/css", include_str!("page.css")),
             Page::Script => reply(200, "text/javascript", include_str!("page.js")),
@@ -73,7 +58,7 @@ impl Desk {
 }
 
 /// A whole page around what it is of. It leads to the other one.
-fn frame(page: Page, status: &Status, body: Html) -> String {
+fn frame(page: Page, shown: &Shown, body: Html) -> String {
     let mut html = Html::default();
     html.markup("<!doctype html><html lang=en><head><meta charset=utf-8><title>totxegun</title>");
     html.markup("<meta name=viewport content=\"width=device-width, initial-scale=1\"><meta name=color-scheme content=\"light dark\">");
@@ -89,14 +74,13 @@ fn frame(page: Page, status: &Status, body: Html) -> String {
     html.markup("<a href=series")
         .markup(current(Page::Series))
         .markup(">Series</a></nav></header>\n<div class=bar role=status>");
-    match &status.unavailable {
+    match &shown.alarm {
         None => html.markup("<p id=state class=\"state good\">takes posts</p>"),
-        Some(why) => html.markup("<p id=state class=\"state bad\">posts get 503: ").text(why).markup("</p>"),
+        Some(alarm) => html.markup("<p id=state class=\"state bad\">").text(alarm.join(": ")).markup("</p>"),
     };
-    html.markup("<p id=renewal></p></div>\n<main id=main>");
-    html.put(body).markup("</main><footer id=foot>totxegun ").text(&status.version);
-    html.markup(", up ").text(seconds_shown(status.uptime_seconds));
-    html.markup("; senders post to ").text(&status.listen).markup("; sink ").text(&status.sink);
+    html.markup("<p id=renewal></p></div>\n<main id=main>").put(body).markup("</main><footer id=foot>");
+    let places: Vec<String> = shown.places.iter().map(|line| line.join(" ")).collect();
+    html.text(shown.how.join(" ")).markup("; ").text(places.join("; "));
     html.markup("</footer></body></html>\n");
     html.into_text()
 }

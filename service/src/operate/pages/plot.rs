@@ -1,6 +1,7 @@
 //! Plots of a page, as SVG: lines over time, and a bar an hour.
 
-use super::html::{grouped, Html};
+use super::html::Html;
+use crate::command::values::grouped;
 use std::fmt::Display;
 
 const WIDTH: f64 = 720.0;

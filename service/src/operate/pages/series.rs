@@ -1,14 +1,16 @@
 //! `GET /series`: search by name and attribute, with each total as the sink has it now; and one series by itself.
 
-use super::html::{grouped, Cell, Html};
+use super::html::{Cell, Html};
 use super::plot::{self, Bar};
 use super::{frame, Desk, Page};
+use crate::command::values::grouped;
 use crate::log::{seconds, utc};
 use crate::operate::query::Query;
+use crate::operate::status::Shown;
 use crate::operate::totals::{identity, Totals};
-use crate::sinks::sqlite::by_hour::Hour;
-use crate::sinks::sqlite::totals::{text, Histogram, Kind, SeriesTotal};
-use crate::sinks::sqlite::Exact;
+use crate::sinks::sql::exact::Exact;
+use crate::sinks::sql::totals::Hour;
+use crate::sinks::sql::totals::{text, Histogram, Kind, SeriesTotal};
 use serde_json::{Map, Value};
 
 /// How many are shown at most.
@@ -53,7 +55,7 @@ impl Desk {
                 }
             },
         }
-        frame(Page::Series, &status, html)
+        frame(Page::Series, &Shown::of(&status), html)
     }
 }
 

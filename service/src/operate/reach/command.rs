@@ -3,31 +3,21 @@
 use super::Desk;
 use crate::keeper::{Done, Order};
 use crate::operate::amend::Sought;
-use crate::operate::{letters, Asked, Unit};
-use crate::otlp::{Encoding, Outcome, Reason};
-use crate::work::blocking;
+use crate::operate::{Asked, Unit};
+use crate::otlp::{Encoding, Outcome};
 use serde::{Deserialize, Serialize};
 use serde_json::{json, Value};
 use std::sync::Arc;
 
-/// What is asked of a slot.
+/// What is asked of all slots, wherever they are.
 #[derive(Clone, Debug, PartialEq, Eq, Serialize, Deserialize)]
 pub enum Command {
     Flush,
     /// Of a sender.
     Quarantine(String),
     Lift(String),
-    /// What its books say of themselves.
-    Report,
-    /// Which requests the sink refused for good.
-    Letters,
-    /// Of a key, which has the slot's number.
-    Letter(String),
-    Resend(String),
-    Drop(String),
     /// Which series are meant.
     Find(Sought),
-    Amend(Sought),
 }
 
 /// What a slot says to it: as it goes to who has asked.
@@ -36,11 +26,14 @@ pub struct Answer {
     pub status: u16,
     /// JSON, but for a report.
     pub body: String,
+    /// With 307: the operators' address at which the same is asked for.
+    #[serde(default, skip_serializing_if = "Option::is_none")]
+    pub location: Option<String>,
 }
 
 impl Answer {
     pub fn new(status: u16, body: impl Into<String>) -> Answer {
-        Answer { status, body: body.into() }
+        Answer { status, body: body.into(), location: None }
     }
 
     /// Why it was not done, or something that is told of it.
@@ -83,17 +76,9 @@ impl From<Outcome> for Answer {
 }
 
 impl Command {
-    /// Of which key it is: the slot that has that is asked alone.
-    pub fn key(&self) -> Option<&str> {
-        match self {
-            Command::Letter(key) | Command::Resend(key) | Command::Drop(key) => Some(key),
-            _ => None,
-        }
-    }
-
     /// Whether it changes something.
     pub fn changes(&self) -> bool {
-        !matches!(self, Command::Report | Command::Letters | Command::Letter(_) | Command::Find(_))
+        !matches!(self, Command::Find(_))
     }
 
     /// What is written down of it.
@@ -101,12 +86,7 @@ impl Command {
         Some(match self {
             Command::Quarantine(sender) => Asked::new("quarantine", sender),
             Command::Lift(sender) => Asked::new("lift", sender),
-            Command::Resend(key) => Asked::new("dead resend", key),
-            Command::Drop(key) => Asked::new("dead drop", key),
-            Command::Amend(sought) => sought.act(),
-            Command::Flush | Command::Report | Command::Letters | Command::Letter(_) | Command::Find(_) => {
-                return None
-            }
+            Command::Flush | Command::Find(_) => return None,
         })
     }
 }
@@ -123,13 +103,7 @@ impl Desk {
             }
             Command::Quarantine(sender) => ordered(&unit, Order::Quarantine(sender)).await,
             Command::Lift(sender) => ordered(&unit, Order::Lift(sender)).await,
-            Command::Report => Some(report(unit).await),
-            Command::Letters => Some(letters::answered(letters::of(&unit).await)),
-            Command::Letter(key) => Some(letters::answered(letters::body(&unit, &key).await)),
-            Command::Resend(key) => Some(letters::answered(self.resend(&unit, &key).await)),
-            Command::Drop(key) => Some(letters::answered(letters::dropped(&unit, &key).await)),
             Command::Find(sought) => Some(sought.found_in(&unit).await),
-            Command::Amend(sought) => sought.amended_in(&unit).await,
         }
     }
 }
@@ -140,16 +114,5 @@ async fn ordered(unit: &Unit, order: Order) -> Option<Answer> {
         Done::Answered(outcome) => Some(outcome.into()),
         // `amend` gives such orders itself.
         Done::Amended(_) => None,
-    }
-}
-
-/// The books' report: while one is filled nobody waits for it.
-async fn report(unit: Arc<Unit>) -> Answer {
-    if !unit.slot.is_ready() {
-        return Answer::told(503, unit.slot.unavailable().unwrap_or(Reason::Recovering).text());
-    }
-    match blocking(move || unit.slot.core().lock().report()).await {
-        Ok(report) => Answer::new(200, String::from_utf8_lossy(&report)),
-        Err(refused) => Answer::told(refused.status(), &refused.to_string()),
     }
 }

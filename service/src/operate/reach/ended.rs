@@ -28,7 +28,7 @@ impl Ended {
     }
 
     /// The answers that there are, in the order of their slots.
-    pub fn answers(self) -> Vec<(u16, Answer)> {
+    fn answers(self) -> Vec<(u16, Answer)> {
         let there = self.in_slot.into_iter();
         there.filter_map(|(slot, done)| Some((slot, done.ok()?))).collect()
     }
@@ -40,15 +40,6 @@ impl Ended {
         match left.is_empty() {
             true => Ok(self.answers()),
             false => Err(Answer::told(503, &self.told(&left))),
-        }
-    }
-
-    /// The same, where each slot answers 200; the error may be what the first other one says.
-    pub fn all_done(self) -> Result<Vec<(u16, Answer)>, Answer> {
-        let mut answers = self.all()?;
-        match answers.iter().position(|(_, answer)| answer.status != 200) {
-            None => Ok(answers),
-            Some(refused) => Err(answers.swap_remove(refused).1),
         }
     }
 

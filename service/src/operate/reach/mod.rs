@@ -1,4 +1,5 @@
-//! All slots from any instance: what is asked of a slot is done where it is.
+//! What is asked at any instance of all slots (`Command`) is done where they are. All else is done in the slots that are here;
+//! of another one 307 says where to ask (`elsewhere`).
 //!
 //! A slot's own instance does it (`command`), and says what came of it; one that is on its way is looked for, for some seconds
 //! (`places`). `answers` is what other instances ask of this one. All that changes something can be asked again: what is done
@@ -16,6 +17,7 @@ pub use places::Others;
 
 use super::{reply, Desk};
 use ended::Done;
+use hyper::header::{HeaderValue, LOCATION};
 use hyper::{Body, Response};
 use places::Place;
 use std::collections::{BTreeMap, BTreeSet};
@@ -44,17 +46,7 @@ type InSlot = (u16, Done);
 impl Desk {
     /// Has each slot do it, wherever it is.
     pub(super) async fn in_all_slots(self: &Arc<Self>, who: &str, command: &Command) -> Ended {
-        self.in_slots(who, command, 0..self.units.slots()).await
-    }
-
-    /// The same of some of them.
-    pub(super) async fn in_slots(
-        self: &Arc<Self>,
-        who: &str,
-        command: &Command,
-        slots: impl IntoIterator<Item = u16>,
-    ) -> Ended {
-        let mut left: BTreeSet<u16> = slots.into_iter().collect();
+        let mut left: BTreeSet<u16> = (0..self.units.slots()).collect();
         let (mut ended, mut until) = (Ended::of(command, left.len()), None);
         loop {
             for (slot, done) in self.round(who, command, &left).await {
@@ -145,6 +137,9 @@ impl Desk {
 
 impl From<Answer> for Response<Body> {
     fn from(answer: Answer) -> Response<Body> {
-        reply(answer.status, super::JSON, answer.body)
+        let mut response = reply(answer.status, super::JSON, answer.body);
+        let location = answer.location.and_then(|at| HeaderValue::from_str(&format!("http://{at}")).ok());
+        response.headers_mut().extend(location.map(|at| (LOCATION, at)));
+        response
     }
 }

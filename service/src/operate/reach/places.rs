@@ -1,9 +1,9 @@
 //! Where slots are, and how their instances are asked.
 
-use super::{Desk, Question};
+use super::{Answer, Desk, Question, ENDING, NOBODY};
 use crate::cluster::{Asks, Cluster, Whose};
 use crate::metrics::OfCluster;
-use crate::operate::Databases;
+use crate::operate::{StoreHealth, Unit};
 use serde::de::DeserializeOwned;
 use std::collections::{BTreeMap, BTreeSet};
 use std::sync::Arc;
@@ -17,7 +17,7 @@ const PAUSE: Duration = Duration::from_millis(200);
 pub struct Others {
     pub cluster: Arc<Cluster>,
     pub asks: Arc<dyn Asks>,
-    pub databases: Arc<Databases>,
+    pub database: Arc<StoreHealth>,
     pub metrics: OfCluster,
     /// This instance's name, and where others reach it.
     pub instance: String,
@@ -47,7 +47,33 @@ impl Desk {
     }
 }
 
+impl Desk {
+    /// A slot that is here; else where it is asked for.
+    pub(in crate::operate) fn unit_here(&self, slot: u16) -> Result<Arc<Unit>, Answer> {
+        self.units.get(slot).ok_or_else(|| match &self.others {
+            Some(others) => others.elsewhere(slot),
+            None => Answer::told(503, ENDING),
+        })
+    }
+}
+
 impl Others {
+    /// Where a slot is asked for that is not here.
+    fn elsewhere(&self, slot: u16) -> Answer {
+        let Place::At { name, address } = self.place(slot) else {
+            let why = "`totxegun status` shows who has which slot; ask again";
+            return Answer::told(503, &format!("slot {slot}: {NOBODY}; {why}"));
+        };
+        let location = self.cluster.operate_of(&name);
+        let ask = match &location {
+            Some(at) => format!("ask there, at {at}"),
+            None => format!(
+                "ask on its machine ({address}), since its operators' address is reached from no other: --operate can be"
+            ),
+        };
+        Answer { location, ..Answer::told(307, &format!("slot {slot} is at instance {name}: {ask}")) }
+    }
+
     fn place(&self, slot: u16) -> Place {
         match self.cluster.whose(slot) {
             Whose::There { name, address, .. } => Place::At { name, address },

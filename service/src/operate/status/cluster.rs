@@ -7,13 +7,13 @@ use crate::operate::Desk;
 use crate::otlp::Reason;
 use serde::{Deserialize, Serialize};
 
-/// The instances of a store, and its databases.
+/// The instances of a store, and its database.
 #[derive(Debug, Default, Serialize, Deserialize)]
 pub struct ClusterStatus {
     /// Who was asked.
     pub instance: String,
     pub instances: Vec<InstanceStatus>,
-    pub databases: Vec<DatabaseStatus>,
+    pub database: DatabaseStatus,
 }
 
 #[derive(Debug, Default, PartialEq, Eq, Serialize, Deserialize)]
@@ -67,22 +67,22 @@ impl Desk {
             name: others.instance.clone(),
             address: others.address.clone(),
             version: env!("CARGO_PKG_VERSION").into(),
-            beat_seconds: seen.beat_age().map(|age| age.as_secs()),
+            beat_seconds: seen.beat_age.map(|age| age.as_secs()),
             slots: self.units.all().len(),
             trouble: trouble.or_else(|| others.unanswering(&seen)),
         };
         Some(ClusterStatus {
             instance: others.instance.clone(),
             instances: vec![own],
-            databases: others.databases.status(&self.units, &seen.beat_ages),
+            database: others.database.status(&self.units, seen.beat_age),
         })
     }
 
     /// Sets the gauges of the cluster.
     pub(super) fn read_cluster(&self, others: &Others) {
         let seen = others.cluster.status();
-        let databases = others.databases.status(&self.units, &seen.beat_ages);
+        let database = others.database.status(&self.units, seen.beat_age);
         let own = self.units.all().len();
-        others.metrics.set(own, &seen, &databases, others.asks.forwarded(), &others.databases.counts);
+        others.metrics.set(own, &seen, &database, others.asks.forwarded(), &others.database.counts);
     }
 }

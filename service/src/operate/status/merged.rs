@@ -94,20 +94,16 @@ impl Status {
     }
 
     fn add_one(&mut self, other: Status, shown: &mut InstanceStatus) {
-        let Status { dead, books, slots, senders, rounded, cumulative, cluster, .. } = other;
+        let Status { dead, slots, shares: used, rounded, cumulative, cluster, .. } = other;
         if let Some(own) = cluster.and_then(|cluster| cluster.instances.into_iter().next()) {
             shown.slots = own.slots;
             shown.trouble = own.trouble.or(shown.trouble.take());
         }
         self.dead += dead;
-        // There may be as many series in each slot.
-        self.books.count += books.count;
-        self.books.memory_bytes += books.memory_bytes;
-        self.books.most_memory_bytes += books.most_memory_bytes;
         self.slots.extend(slots);
-        self.senders.extend(senders);
-        self.senders.sort_by(|one, other| other.part().total_cmp(&one.part()));
-        self.senders.truncate(shares::SHOWN);
+        self.shares.extend(used);
+        self.shares.sort_by(|one, other| other.part().total_cmp(&one.part()));
+        self.shares.truncate(shares::SHOWN);
         for one in rounded {
             self.add_rounded(one);
         }
@@ -161,7 +157,7 @@ fn shown(other: &OtherInstance, slots: &[OwnedSlot]) -> InstanceStatus {
 #[cfg(test)]
 mod tests {
     use super::*;
-    use crate::operate::{ClusterStatus, Stock};
+    use crate::operate::status::{ClusterStatus, Stock};
 
     fn slot(number: u16, owner: &str, term: u64, waiting: u64) -> SlotStatus {
         SlotStatus {
@@ -182,7 +178,7 @@ mod tests {
             cluster: Some(ClusterStatus {
                 instance: name.into(),
                 instances: vec![own],
-                databases: Vec::new(),
+                ..ClusterStatus::default()
             }),
             ..Status::default()
         }
@@ -192,6 +188,7 @@ mod tests {
         OtherInstance {
             name: name.into(),
             address: format!("{name}:1"),
+            operate: String::new(),
             version: "1".into(),
             still,
             is_gone: still > 5,

@@ -2,7 +2,7 @@
 //! Prometheus one with a further label is another series.
 
 use super::names;
-use crate::sinks::sqlite::totals::{text, SeriesTotal};
+use crate::sinks::sql::totals::{text, SeriesTotal};
 use serde_json::{json, Map, Value};
 use sha2::{Digest, Sha256};
 use std::collections::BTreeMap;

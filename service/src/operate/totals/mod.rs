@@ -13,8 +13,8 @@ pub(super) use labels::identity;
 
 use super::{message, reply, Desk, PROMETHEUS};
 use crate::sinks::postgres::{self, Server};
-use crate::sinks::sqlite::by_hour::Hour;
-use crate::sinks::sqlite::totals::{Filter, SeriesTotal};
+use crate::sinks::sql::totals::Hour;
+use crate::sinks::sql::totals::{Filter, SeriesTotal};
 use crate::sinks::{sqlite, Address};
 use crate::work::blocking;
 use hyper::{Body, Response};

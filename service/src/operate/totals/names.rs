@@ -1,6 +1,6 @@
 //! Names by OpenTelemetry's rules for Prometheus: `http.server.duration` in `s` is `http_server_duration_seconds`.
 
-use crate::sinks::sqlite::totals::Kind;
+use crate::sinks::sql::totals::Kind;
 
 const UNITS: [(&str, &str); 27] = [
     ("d", "days"),

@@ -2,7 +2,7 @@
 
 use super::labels::{self, Labels};
 use super::names;
-use crate::sinks::sqlite::totals::{Histogram, Kind, SeriesTotal};
+use crate::sinks::sql::totals::{Histogram, Kind, SeriesTotal};
 use std::collections::{BTreeMap, BTreeSet, HashSet};
 use std::fmt::Display;
 use std::io::{self, Write};

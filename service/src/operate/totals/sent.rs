@@ -2,7 +2,7 @@
 //! long, and no more of its text is there than a few parts.
 
 use super::page;
-use crate::sinks::sqlite::totals::SeriesTotal;
+use crate::sinks::sql::totals::SeriesTotal;
 use bytes::Bytes;
 use hyper::body::Sender;
 use hyper::Body;
@@ -63,7 +63,7 @@ impl Write for Parts {
 mod tests {
     use super::super::tests::series;
     use super::*;
-    use crate::sinks::sqlite::totals::Kind;
+    use crate::sinks::sql::totals::Kind;
     use hyper::body::{to_bytes, HttpBody};
     use serde_json::json;
     use std::sync::Arc;

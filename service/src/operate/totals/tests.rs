@@ -3,8 +3,8 @@
 use super::labels::identity;
 use super::names::{label, metric};
 use super::page::write;
-use crate::sinks::sqlite::totals::{Histogram, Kind, SeriesTotal};
-use crate::sinks::sqlite::Exact;
+use crate::sinks::sql::exact::Exact;
+use crate::sinks::sql::totals::{Histogram, Kind, SeriesTotal};
 use serde_json::{json, Map, Value};
 
 pub fn object(value: Value) -> Map<String, Value> {

@@ -64,6 +64,7 @@ fn of_intake() -> Vec<Outcome> {
         Refusal::Malformed,
         Refusal::HeadTooLong,
         Refusal::BadGzip,
+        Refusal::BadZstd,
         Refusal::TooLong,
         Refusal::Full(Full::Ever),
         Refusal::Full(Full::Now),

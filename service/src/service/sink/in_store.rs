@@ -76,8 +76,8 @@ impl Remembers for InStore {
         }
     }
 
-    fn databases(&self) -> Vec<Option<String>> {
-        self.store.databases()
+    fn store_database(&self) -> Option<String> {
+        self.store.identity()
     }
 
     fn refusal(&self, known: &KnownSink, found: &str) -> String {

@@ -31,14 +31,14 @@ impl Place {
     /// A start, which ends at once.
     fn start(&self, sink: &str, takes_new: bool) -> Result<Arc<dyn Sink>, String> {
         let folder = Arc::new(Folder::open(&self.file("data"), Durability::Disk).unwrap());
-        let (journal, outbox) = folder.slot(0).unwrap();
+        let (journal, outbox) = folder.slot().unwrap();
         if outbox.waiting().0 == 0 {
             let request = br#"{"resourceMetrics":[]}"#.to_vec();
             outbox.commit(&[request], journal.turn().0).unwrap();
         }
         let acts = Arc::new(Acts::in_folder(&self.file("data")));
         let told = Told { address: &sink.parse().unwrap(), retention: Retention::default(), takes_new, acts };
-        let place = InFolder { folder, outboxes: vec![Arc::new(outbox)] };
+        let place = InFolder { folder, outbox: Arc::new(outbox) };
         told.open(Box::new(place)).map_err(|ended| ended.to_string())
     }
 

@@ -14,7 +14,7 @@ pub fn unit(
     end: impl Future<Output = Result<(), Fault>> + Send + 'static,
 ) -> Unit {
     let folder = Folder::open(place, Durability::Process).unwrap();
-    let (journal, outbox) = folder.slot(0).unwrap();
+    let (journal, outbox) = folder.slot().unwrap();
     over((journal, outbox, folder.dead().unwrap()), number, end)
 }
 
@@ -38,11 +38,11 @@ pub fn over(
     let delivery = Arc::default();
     let undelivered = Undelivered { number, outbox, delivery };
     Unit {
-        of_desk: Arc::new(operate::Unit { slot, orders, undelivered, former: Vec::new(), dead }),
+        of_desk: Arc::new(operate::Unit { slot, orders, undelivered, dead }),
         keeper,
-        deliveries: JoinSet::new(),
+        delivery: JoinSet::new(),
         stop_keeper,
-        stop_deliveries: watch::channel(false).0,
+        stop_delivery: watch::channel(false).0,
     }
 }
 

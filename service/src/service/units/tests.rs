@@ -136,14 +136,12 @@ impl Service {
     async fn open(&self, number: u16) {
         let place = self.place.join(number.to_string());
         let folder = Folder::open(&place, Durability::Process).unwrap();
-        let (journal, outbox) = folder.slot(0).unwrap();
+        let (journal, outbox) = folder.slot().unwrap();
         self.begin(number, (journal, outbox, folder.dead().unwrap())).await;
     }
 
-    async fn begin(&self, number: u16, (journal, outbox, dead): (Journal, Outbox, Dead)) {
-        let (outbox, dead) = (Arc::new(outbox), Arc::new(dead));
-        let files = Files { number, journal, outbox, dead, former: Vec::new() };
-        self.units.open(files).await.unwrap();
+    async fn begin(&self, number: u16, files: (Journal, Outbox, Dead)) {
+        self.units.open(Files::of_drive(number, files)).await.unwrap();
         let is_ready = |unit: Arc<operate::Unit>| unit.slot.is_ready();
         while !self.desk.units.get(number).is_some_and(is_ready) {
             tokio::time::sleep(Duration::from_millis(1)).await;

@@ -4,13 +4,12 @@ use super::fault::Fault;
 use super::session;
 use super::totals::{number, parts_of, Odd, PATIENCE};
 use super::Server;
-use crate::sinks::sqlite::by_hour::Hour;
-use crate::sinks::sqlite::totals::SeriesTotal;
-use crate::sinks::sqlite::Exact;
+use crate::sinks::sql::exact::Exact;
+use crate::sinks::sql::totals::{Hour, SeriesTotal};
 use tokio::time::timeout;
 use tokio_postgres::{Client, Row};
 
-/// The hours of a series from this one on (since 1970), in order; none where the schema has no hours, or not this series.
+/// The hours of a series from this one on (since 1970), in order; none where the schema has not this series.
 pub async fn read(server: &Server, series: &SeriesTotal, from: u64) -> anyhow::Result<Option<Vec<Hour>>> {
     let late = |_| Fault::told(format!("no hours within {} s", PATIENCE.as_secs()));
     let rows = timeout(PATIENCE, rows(server, series, from)).await.map_err(late);
@@ -21,10 +20,6 @@ pub async fn read(server: &Server, series: &SeriesTotal, from: u64) -> anyhow::R
 
 async fn rows(server: &Server, series: &SeriesTotal, from: u64) -> Result<Option<Vec<Row>>, Fault> {
     let (client, _connection) = session::connect_to_read(server).await?;
-    let view = client.query_one("select to_regclass('totxegun.by_hour') is not null", &[]);
-    if !view.await?.get::<_, bool>(0) {
-        return Ok(None);
-    }
     let Some(id) = found(&client, series).await? else {
         return Ok(None);
     };

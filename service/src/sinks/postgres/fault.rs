@@ -1,16 +1,16 @@
 //! What can be wrong with the server, and what to do about it.
 
+use super::schema::KNOWN;
 use super::Server;
-use crate::otlp::series::NotForwarded;
 use crate::postgres::{shown, NotConnected};
+use crate::sinks::sql::NotTaken;
 use anyhow::anyhow;
 use tokio_postgres::Error;
 
 #[derive(Debug)]
 pub(super) enum Fault {
-    Later {
+    Version {
         found: i32,
-        known: i32,
     },
     Foreign,
     Encoding(String),
@@ -35,7 +35,7 @@ impl Fault {
     /// It says of which server it is.
     pub(super) fn at(self, server: &Server) -> anyhow::Error {
         match self {
-            Fault::Later { found, known } => anyhow!("the schema totxegun of {server} was written by a later version of totxegun (schema {found}; this one knows {known}): use that version, or another database"),
+            Fault::Version { found } => anyhow!("the schema totxegun of {server} was written by another version of totxegun (schema {found}; this one knows {KNOWN}): use that version, or another database"),
             Fault::Foreign => anyhow!("the schema totxegun of {server} is of another program: name another database"),
             Fault::Encoding(encoding) => anyhow!("the database of {server} is in {encoding}, which can't hold each text: make one with `encoding utf8`"),
             Fault::Another(what) => anyhow!(what),
@@ -60,37 +60,21 @@ impl From<NotConnected> for Fault {
     }
 }
 
-/// Why a request was not taken.
-#[derive(Debug)]
-pub(super) enum NotTaken {
-    /// It never will be.
-    Refused(String),
-    /// A limit was met, and nobody says whether it is one of the request or of the server, which may pass.
-    Failed(Fault),
-    Fault(Fault),
-}
-
-impl From<Fault> for NotTaken {
-    fn from(fault: Fault) -> NotTaken {
+impl From<Fault> for NotTaken<Fault> {
+    fn from(fault: Fault) -> NotTaken<Fault> {
         NotTaken::Fault(fault)
     }
 }
 
-impl From<Error> for NotTaken {
+impl From<Error> for NotTaken<Fault> {
     /// Content that no PostgreSQL takes (a data exception) is refused for good. A program's limit is met by content, but
     /// also by each request where a server has no number left for a transaction. All else may mend itself.
-    fn from(error: Error) -> NotTaken {
+    fn from(error: Error) -> NotTaken<Fault> {
         let code = error.code().map_or("", |code| code.code());
         match code.get(..2) {
             Some("22") => NotTaken::Refused(format!("no PostgreSQL takes it: {}", shown(&error))),
             Some("54") => NotTaken::Failed(error.into()),
             _ => NotTaken::Fault(error.into()),
         }
-    }
-}
-
-impl From<NotForwarded> for NotTaken {
-    fn from(error: NotForwarded) -> NotTaken {
-        NotTaken::Refused(error.to_string())
     }
 }

@@ -3,8 +3,8 @@
 //!
 //! The row is one beside the slot's: that one is locked by each sync of the journal, which would wait for the delivery.
 
-use super::fault::{Fault, NotTaken};
-use super::store::Writing;
+use super::fault::Fault;
+use super::store::{NotTaken, Writing};
 use crate::postgres::identity;
 use crate::sinks::Forwarded;
 use tokio_postgres::{Client, Error, Statement};
@@ -17,25 +17,15 @@ const DELIVERED: &str =
 
 pub(super) struct Fence {
     delivered: Statement,
-    /// Which of the store's databases this is, of how many.
-    place: usize,
-    databases: usize,
 }
 
 impl Fence {
-    /// None where the sink is in none of these databases.
-    pub async fn prepare(client: &Client, databases: &[Option<String>]) -> Result<Option<Fence>, Error> {
-        if databases.iter().all(Option::is_none) {
+    /// None unless the sink is in the store's database.
+    pub async fn prepare(client: &Client, store: Option<String>) -> Result<Option<Fence>, Error> {
+        if store.is_none() || identity(client).await? != store {
             return Ok(None);
         }
-        let here = identity(client).await?;
-        let place = databases.iter().position(|one| one.is_some() && *one == here);
-        let Some(place) = place else { return Ok(None) };
-        Ok(Some(Fence { delivered: client.prepare(DELIVERED).await?, place, databases: databases.len() }))
-    }
-
-    fn has(&self, slot: u16) -> bool {
-        usize::from(slot) % self.databases == self.place
+        Ok(Some(Fence { delivered: client.prepare(DELIVERED).await? }))
     }
 }
 
@@ -44,12 +34,11 @@ impl Writing<'_> {
     /// kept first: then the request comes again, and its key says the same.
     pub(super) async fn delivered(
         &self,
-        fence: Option<&Fence>,
         request: &Forwarded,
         term: Option<u64>,
         is_whole: bool,
     ) -> Result<(), NotTaken> {
-        let Some((fence, term)) = fence.filter(|fence| fence.has(request.slot)).zip(term) else {
+        let Some((fence, term)) = self.fence.zip(term) else {
             return Ok(());
         };
         let number = request.number - u64::from(!is_whole);

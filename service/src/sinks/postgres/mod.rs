@@ -1,4 +1,4 @@
-//! A sink that is a PostgreSQL database: a row a series, a row a span, exact totals, each key once.
+//! A sink that is a PostgreSQL database: a row a series, a row an interval, exact totals, each key once.
 //!
 //! It connects when it is needed and again after a fault, so whatever is wrong with the server is a reason to try
 //! again: no request is lost by it.
@@ -7,12 +7,8 @@ pub mod by_hour;
 pub mod export;
 mod fault;
 mod fence;
-mod metric_rows;
-mod overlap;
 mod periods;
 mod point_rows;
-mod repeat;
-mod rows;
 mod schema;
 mod series;
 mod series_rows;
@@ -27,13 +23,15 @@ pub use crate::postgres::Server;
 
 use super::left_out::LeftOut;
 use super::periods::{Deed, Told};
-use super::{Answer, Fate, Forwarded, Keys, Memory, Retention, Rewind, Sink};
+use super::sql::{Content, Sent};
+use super::{Answer, Fate, Forwarded, Keys, Memory, Retention, Sink};
 use crate::work::blocking;
-use fault::{Fault, NotTaken};
+use fault::Fault;
 use session::{within, Session};
 use std::sync::atomic::{AtomicBool, Ordering::Relaxed};
 use std::sync::Arc;
 use std::time::Duration;
+use store::NotTaken;
 use tokio::sync::Mutex;
 use upkeep::Upkeep;
 
@@ -84,14 +82,14 @@ impl PostgresSink {
     }
 
     /// By the session that is there, or by a new one, which may have to bring the schema up first.
-    async fn take(&self, request: &Forwarded, term: Option<u64>) -> Result<LeftOut, NotTaken> {
+    async fn take(&self, request: &Forwarded, sent: Sent, term: Option<u64>) -> Result<LeftOut, NotTaken> {
         let body = request.body.clone();
         // Milliseconds of work, too much for the runtime.
-        let content = blocking(move || rows::read(&body)).await?;
+        let content = blocking(move || Content::read(&body)).await?;
         // It is not the server that is late where other slots' requests go first.
         let mut place = self.session.lock().await;
         let mut session = self.session(&mut place).await?;
-        let taken = within(self.patience, store::take(&mut session, request, term, content)).await;
+        let taken = within(self.patience, store::take(&mut session, request, sent, term, content)).await;
         if matches!(taken, Ok(_) | Err(NotTaken::Refused(_))) {
             *place = Some(session);
         }
@@ -113,11 +111,8 @@ impl PostgresSink {
 
     /// As `take`, of several, which are all taken or none of them.
     async fn take_together(&self, all: &[Forwarded], term: Option<u64>) -> Result<bool, NotTaken> {
-        if all.iter().any(|one| Rewind::of(&one.body).is_some()) {
-            return Ok(false); // it has its place between the others
-        }
         let bodies: Vec<Vec<u8>> = all.iter().map(|one| one.body.clone()).collect();
-        let read = move || bodies.iter().map(|body| rows::read(body)).collect::<Result<Vec<_>, _>>();
+        let read = move || bodies.iter().map(|body| Content::read(body)).collect::<Result<Vec<_>, _>>();
         let contents = blocking(read).await?;
         let mut place = self.session.lock().await;
         let mut session = self.session(&mut place).await?;
@@ -128,9 +123,9 @@ impl PostgresSink {
         taken
     }
 
-    async fn send(&self, request: &Forwarded, term: Option<u64>) -> Fate {
+    async fn send(&self, request: &Forwarded, sent: Sent, term: Option<u64>) -> Fate {
         let reason = |fault: Fault| fault.at(&self.server).to_string();
-        match self.take(request, term).await {
+        match self.take(request, sent, term).await {
             Ok(left) => left.fate(&request.body),
             Err(NotTaken::Refused(reason)) => Fate::refused(reason),
             Err(NotTaken::Failed(fault)) => Fate::Failed { reason: reason(fault), after: None },
@@ -151,8 +146,12 @@ fn try_once(server: &Server, memory: Arc<dyn Memory>) -> anyhow::Result<Result<(
 }
 
 impl Sink for PostgresSink {
+    fn deliver<'a>(&'a self, request: &'a Forwarded) -> Answer<'a, Fate> {
+        Box::pin(self.send(request, Sent::ByHand, None))
+    }
+
     fn deliver_of<'a>(&'a self, request: &'a Forwarded, term: Option<u64>) -> Answer<'a, Fate> {
-        Box::pin(self.send(request, term))
+        Box::pin(self.send(request, Sent::InOrder, term))
     }
 
     fn most_together(&self) -> usize {
@@ -212,7 +211,8 @@ mod tests {
             body: br#"{"resourceMetrics":[]}"#.to_vec(),
         };
         let (one, other) = (request(0), request(1));
-        let fates = tokio::join!(sink.send(&one, None), sink.send(&other, None));
+        let fates =
+            tokio::join!(sink.send(&one, Sent::InOrder, None), sink.send(&other, Sent::InOrder, None));
         for fate in [fates.0, fates.1] {
             let Fate::Away { reason } = fate else { panic!("{fate:?}") };
             assert!(reason.ends_with("no answer within 0.3 s"), "{reason}");

@@ -1,12 +1,13 @@
 //! Periods that are closed, and corrections: by a connection of its own, between two requests of any service.
 
 use super::fault::Fault;
-use super::schema::{self, is_filling};
+use super::schema;
 use super::session;
 use super::statements;
 use super::store::commit;
 use super::Server;
-use crate::sinks::periods::{closed, Closed, Corrected, Correction, Deed, Period, Row, Told, NOT_FILLED};
+use crate::sinks::periods::{Closed, Corrected, Correction, Deed, Period, Row, Told};
+use crate::sinks::sql;
 use crate::sinks::Memory;
 use std::time::Duration;
 use tokio_postgres::{Error, Row as DatabaseRow, Transaction};
@@ -34,7 +35,7 @@ const CORRECT: &str = "insert into totxegun.corrections (series, of_hour, hour, 
 
 /// Where its hour is later than the last one of the series, that one is over.
 const LAST_HOUR: &str = "select hour from totxegun.series_total where series = $1::int8 for no key update";
-const BEGIN_HOUR: &str = "update totxegun.series_total set hour = $2::int4, hour_start_ns = null, before_points = points,
+const BEGIN_HOUR: &str = "update totxegun.series_total set hour = $2::int4, before_points = points,
         before_total = total, before_count = count, before_without_sum = without_sum, before_buckets = buckets,
         hour_corrections = null
     where series = $1::int8";
@@ -74,78 +75,58 @@ pub(super) async fn settle(server: &Server, memory: &dyn Memory, who: &str, deed
 
 async fn settled(server: &Server, memory: &dyn Memory, who: &str, deed: &Deed) -> Result<Told, Fault> {
     let (mut client, connection) = session::connect(server).await?;
-    if schema::version(&client).await? != schema::KNOWN {
-        return Err(Fault::told("the schema is not of this version yet: the log says why"));
+    if !schema::check(&client).await? {
+        return Err(Fault::told("there is no schema yet: nothing was delivered"));
     }
     let transaction = client.transaction().await?;
     transaction.query(ALONE, &[&LOCK]).await?;
     // A row that is locked makes the commit a write, which waits for the standby: also where nothing is done any more.
     let id = transaction.query_one("select id from totxegun.sink for update", &[]).await?;
     memory.admit(Some(id.get(0)), false).map_err(Fault::Another)?;
-    let told = carried_out(&transaction, who, deed).await?;
-    commit(transaction, &connection.warnings).await.map(|()| told)
+    let mut periods = Changing(transaction);
+    let told = sql::settle(&mut periods, who, deed).await?;
+    commit(periods.0, &connection.warnings).await.map(|()| told)
 }
 
-async fn carried_out(transaction: &Transaction<'_>, who: &str, deed: &Deed) -> Result<Told, Error> {
-    let all = closed_of(&transaction.query(statements::CLOSED, &[]).await?);
-    match deed {
-        Deed::Close(period) => close(transaction, &all, who, period).await,
-        Deed::Open(period) => open(transaction, &all, period).await,
-        Deed::Correct(correction) => correct(transaction, &all, who, correction).await,
-    }
-}
+struct Changing<'a>(Transaction<'a>);
 
-async fn close(
-    transaction: &Transaction<'_>,
-    all: &Closed,
-    who: &str,
-    period: &Period,
-) -> Result<Told, Error> {
-    if is_filling(transaction).await? {
-        return Ok(Told::Refused(NOT_FILLED.into()));
-    }
-    if let Err(told) = all.close(period) {
-        return Ok(told);
-    }
-    let (from, to) = (period.from as i32, period.to as i32);
-    let row = "insert into totxegun.closed (from_hour, to_hour, period, who)
-        values ($1::int4, $2::int4, $3::text, $4::text)";
-    transaction.execute(row, &[&from, &to, &period.to_string(), &who]).await?;
-    Ok(Told::Done(closed(period)))
-}
+impl sql::Periods for Changing<'_> {
+    type Fault = Error;
 
-async fn open(transaction: &Transaction<'_>, all: &Closed, period: &Period) -> Result<Told, Error> {
-    if let Err(told) = all.open(period) {
-        return Ok(told);
+    async fn closed(&mut self) -> Result<Closed, Error> {
+        Ok(closed_of(&self.0.query(statements::CLOSED, &[]).await?))
     }
-    let row = "delete from totxegun.closed where from_hour = $1::int4 and to_hour = $2::int4";
-    transaction.execute(row, &[&(period.from as i32), &(period.to as i32)]).await?;
-    Ok(Told::Done(all.opened(period)))
-}
 
-async fn correct(
-    transaction: &Transaction<'_>,
-    all: &Closed,
-    who: &str,
-    correction: &Correction,
-) -> Result<Told, Error> {
-    let Correction { series, hour, value, reason } = correction;
-    let of_hour = hour.from as i32;
-    let found = transaction.query_opt(OF_CORRECTION, &[series, &of_hour, value, reason]).await?;
-    if let Some(row) = found {
-        return Ok(correction.was_there(row.get(0), row.get(1)));
+    async fn close(&mut self, who: &str, period: &Period) -> Result<(), Error> {
+        let (from, to) = (period.from as i32, period.to as i32);
+        let row = "insert into totxegun.closed (from_hour, to_hour, period, who)
+            values ($1::int4, $2::int4, $3::text, $4::text)";
+        self.0.execute(row, &[&from, &to, &period.to_string(), &who]).await.map(drop)
     }
-    let row = transaction.query_one(IS_THERE, &[series, &of_hour]).await?;
-    let known =
-        Corrected { is_there: row.get(0), so_far: row.get(1), hours_from: row.get::<_, i32>(2).into() };
-    let counted_in = match correction.counted_in(&known, all) {
-        Ok(hour) => hour,
-        Err(told) => return Ok(told),
-    };
-    let hour = counted_in as i32;
-    transaction.execute(CORRECT, &[series, &of_hour, &hour, value, reason, &who]).await?;
-    add(transaction, *series, hour, *value).await?;
-    Ok(correction.made(counted_in))
+
+    async fn open(&mut self, period: &Period) -> Result<(), Error> {
+        let row = "delete from totxegun.closed where from_hour = $1::int4 and to_hour = $2::int4";
+        self.0.execute(row, &[&(period.from as i32), &(period.to as i32)]).await.map(drop)
+    }
+
+    async fn made_before(&mut self, correction: &Correction) -> Result<Option<(String, i64)>, Error> {
+        let Correction { series, hour, value, reason } = correction;
+        let row = self.0.query_opt(OF_CORRECTION, &[series, &(hour.from as i32), value, reason]).await?;
+        Ok(row.map(|row| (row.get(0), row.get(1))))
+    }
+
+    async fn corrected(&mut self, correction: &Correction) -> Result<Corrected, Error> {
+        let row = self.0.query_one(IS_THERE, &[&correction.series, &(correction.hour.from as i32)]).await?;
+        let hours_from: i32 = row.get(2);
+        Ok(Corrected { is_there: row.get(0), so_far: row.get(1), hours_from: hours_from.into() })
+    }
+
+    async fn correct(&mut self, who: &str, correction: &Correction, hour: i64) -> Result<(), Error> {
+        let Correction { series, hour: of_hour, value, reason } = correction;
+        let (of_hour, hour) = (of_hour.from as i32, hour as i32);
+        self.0.execute(CORRECT, &[series, &of_hour, &hour, value, reason, &who]).await?;
+        add(&self.0, *series, hour, *value).await
+    }
 }
 
 /// To an hour of a series and of its metric, made where nothing was counted.

@@ -1,14 +1,12 @@
-//! The rows of spans, and of what they come to.
+//! The rows of intervals, and of what they come to.
 
-use super::rows::{InHour, OfSeries};
-use super::series::StoredSeries;
+use super::series::Known;
 use super::values::{row, NewRow, Numeric};
 use crate::otlp::series::{ForwardedPoint, Value};
-use crate::sinks::periods::Closed;
-use crate::sinks::sums::Sums;
+use crate::sinks::sql::{by_metric, sums_of, Adding, InHour, Sums};
 
-/// A row of `totxegun.new_span`. Times from 2^63 on, in the year 2262, are less 2^64.
-pub(super) fn span_row(series: i64, point: &ForwardedPoint) -> NewRow<'_> {
+/// A row of `totxegun.new_interval`. Times from 2^63 on, in the year 2262, are less 2^64.
+pub(super) fn interval_row(series: i64, point: &ForwardedPoint) -> NewRow<'_> {
     row(move |write| {
         let (value, count, sum, counts) = match &point.value {
             Value::Sum(value) => (Some(*value), None, None, None),
@@ -42,127 +40,89 @@ fn packed(buckets: &[u64]) -> Vec<u8> {
     bytes
 }
 
-/// What a request adds to a series.
-#[derive(Debug)]
-pub(super) struct Adding<'a> {
-    pub(super) of: &'a OfSeries,
-    pub(super) known: &'a StoredSeries,
-    /// Its points by the hours in which they count, in order.
-    pub(super) hours: Vec<InHour<'a>>,
+/// The last hour of a series, with these points.
+pub(super) fn last_hour(adding: &Adding<'_, Known>) -> i32 {
+    let last = adding.hours.last().map(|last| last.hour as i32);
+    last.max(adding.stored.row.last_hour).unwrap_or(0)
 }
 
-impl<'a> Adding<'a> {
-    pub(super) fn of(of: &'a OfSeries, known: &'a StoredSeries, closed: &Closed) -> Adding<'a> {
-        let hours = of.by_hours(closed);
-        Adding { of, known, hours }
-    }
-
-    /// The last hour of the series, with these points.
-    pub(super) fn last_hour(&self) -> i32 {
-        let last = self.hours.last().map(|last| last.hour);
-        last.max(self.known.last_hour).unwrap_or(0)
-    }
-
-    /// What counts in earlier hours than that, and the others.
-    pub(super) fn parted(&self) -> (&[InHour<'a>], &[InHour<'a>]) {
-        let last = self.last_hour();
-        self.hours.split_at(self.hours.partition_point(|hour| hour.hour < last))
-    }
-}
-
-impl Adding<'_> {
-    /// What of it belongs to closed hours.
-    pub(super) fn late(&self) -> impl Iterator<Item = NewRow<'_>> {
-        let late = self.hours.iter().filter(|hour| hour.is_late());
-        late.map(|late| late_row(self.known.id, late))
-    }
-}
-
-pub(super) fn sums_of<'a>(points: impl IntoIterator<Item = &'a ForwardedPoint>) -> Sums {
-    Sums::of(points.into_iter().map(|point| &point.value))
-}
-
-fn points<'a>(hours: &'a [InHour]) -> impl Iterator<Item = &'a ForwardedPoint> {
-    hours.iter().flat_map(|hour| hour.points)
-}
-
-/// Those of hours that came in time for it.
-fn in_time<'a>(hours: &'a [InHour]) -> &'a [ForwardedPoint] {
-    let found = hours.iter().find(|hour| !hour.is_late());
-    found.map_or(&[], |hour| hour.points)
+/// What counts in earlier hours than the last one of its series.
+fn earlier<'a>(adding: &'a Adding<'_, Known>) -> &'a [InHour<'a>] {
+    let last = i64::from(last_hour(adding));
+    &adding.hours[..adding.hours.partition_point(|hour| hour.hour < last)]
 }
 
 /// A row of `totxegun.new_total`.
-pub(super) fn total_row<'a>(adding: &'a Adding<'a>) -> NewRow<'a> {
+pub(super) fn total_row<'a>(adding: &'a Adding<'a, Known>) -> NewRow<'a> {
     row(move |write| {
-        let (earlier, last) = adding.parted();
-        let points_of = &adding.of.points;
-        let (all, before) = (sums_of(points_of), sums_of(points(earlier)));
+        let (points, all, before) = (&adding.of.points, adding.sums(), sums_of(earlier(adding)));
         write(&[
-            &adding.known.id,
+            &adding.stored.row.id,
             &all.points,
-            &first_start(points_of),
-            &last_end(points_of),
+            &points.first().map(|point| Numeric::from(point.start)),
+            &points.last().map(|point| Numeric::from(point.end)),
             &Numeric(all.total),
             &Numeric(all.count),
             &all.without_sum,
-            &all.buckets.map(numerics),
-            &adding.last_hour(),
-            &first_start(in_time(last)),
+            &numerics(all.buckets),
+            &last_hour(adding),
             &before.points,
             &Numeric(before.total),
             &Numeric(before.count),
             &before.without_sum,
-            &before.buckets.map(numerics),
+            &numerics(before.buckets),
         ])
     })
 }
 
-/// A row of `totxegun.new_hour`: points of one series, at least one, that count in one hour.
-pub(super) fn hour_row<'a>(series: i64, hours: &'a [InHour<'a>]) -> NewRow<'a> {
-    row(move |write| {
-        let (all, in_time) = (sums_of(points(hours)), in_time(hours));
-        write(&[
-            &series,
-            &hours.first().map(|hour| hour.hour),
-            &all.points,
-            &first_start(in_time),
-            &last_end(in_time),
-            &Numeric(all.total),
-            &Numeric(all.count),
-            &all.without_sum,
-            &all.buckets.map(numerics),
-        ])
+/// Rows of `totxegun.new_hour`, for what counts in earlier hours than the last one.
+pub(super) fn hour_rows<'a>(adding: &'a Adding<'a, Known>) -> impl Iterator<Item = NewRow<'a>> {
+    let hours = earlier(adding).chunk_by(|one, next| one.hour == next.hour);
+    hours.map(move |hours| {
+        row(move |write| {
+            let (hour, all) = (hours.first().map(|hour| hour.hour as i32), sums_of(hours));
+            write(&[
+                &adding.stored.row.id,
+                &hour,
+                &all.points,
+                &Numeric(all.total),
+                &Numeric(all.count),
+                &all.without_sum,
+                &numerics(all.buckets),
+            ])
+        })
     })
 }
 
-/// A row of `totxegun.new_late`, of points that belong to a closed hour.
-fn late_row<'a>(series: i64, late: &'a InHour<'a>) -> NewRow<'a> {
-    row(move |write| {
-        let all = sums_of(late.points);
-        write(&[
-            &series,
-            &late.of,
-            &late.hour,
-            &all.points,
-            &first_start(late.points),
-            &last_end(late.points),
-            &Numeric(all.total),
-            &Numeric(all.count),
-            &all.without_sum,
-            &all.buckets.map(numerics),
-        ])
+/// Rows of `totxegun.new_late`, for what belongs to closed hours.
+pub(super) fn late_rows<'a>(adding: &'a Adding<'a, Known>) -> impl Iterator<Item = NewRow<'a>> {
+    adding.late().map(move |late| {
+        row(move |write| {
+            let all = late.sums();
+            write(&[
+                &adding.stored.row.id,
+                &(late.of as i32),
+                &(late.hour as i32),
+                &all.points,
+                &Numeric(all.total),
+                &Numeric(all.count),
+                &all.without_sum,
+                &numerics(all.buckets),
+            ])
+        })
     })
 }
 
-fn first_start(points: &[ForwardedPoint]) -> Option<Numeric> {
-    points.first().map(|point| point.start.into())
+/// Rows of `totxegun.new_metric_hour`.
+pub(super) fn metric_rows<'a>(all: &'a [Adding<'a, Known>]) -> Vec<NewRow<'a>> {
+    let of_row = |((metric, hour), sums): ((&'a str, i64), Sums)| {
+        row(move |write| {
+            write(&[&metric, &(hour as i32), &sums.points, &Numeric(sums.total), &Numeric(sums.count)])
+        })
+    };
+    by_metric(all, |known: &'a Known| &known.metric[..]).into_iter().map(of_row).collect()
 }
 
-fn last_end(points: &[ForwardedPoint]) -> Option<Numeric> {
-    points.last().map(|point| point.end.into())
-}
-
-fn numerics(numbers: Vec<i128>) -> Vec<Numeric> {
-    numbers.into_iter().map(Numeric).collect()
+fn numerics(numbers: Option<Vec<i128>>) -> Option<Vec<Numeric>> {
+    numbers.map(|numbers| numbers.into_iter().map(Numeric).collect())
 }

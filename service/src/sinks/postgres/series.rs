@@ -1,9 +1,9 @@
 //! The rows of a request's series: made where they are new, found, and locked.
 
-use super::fault::{Fault, NotTaken};
-use super::rows::OfSeries;
+use super::fault::Fault;
 use super::series_rows::Objects;
-use super::store::Writing;
+use super::store::{NotTaken, Writing};
+use crate::sinks::sql::{Ends, OfSeries, Stored};
 use std::collections::HashSet;
 use tokio_postgres::Row;
 
@@ -18,61 +18,60 @@ pub(super) struct Seen(HashSet<u64>);
 
 impl Seen {
     fn has(&self, series: &OfSeries) -> bool {
-        self.0.contains(&first_bytes(series))
+        self.0.contains(&Seen::first_bytes(series))
     }
 
     /// Once they are committed.
-    pub(super) fn add(&mut self, all: &[OfSeries]) {
+    pub(super) fn add(&mut self, all: Vec<u64>) {
         if self.0.len() > SEEN {
             self.0.clear();
         }
-        self.0.extend(all.iter().map(first_bytes));
+        self.0.extend(all);
     }
-}
 
-fn first_bytes(series: &OfSeries) -> u64 {
-    let first = series.digest.first_chunk();
-    first.map_or(0, |first| u64::from_be_bytes(*first))
+    pub(super) fn first_bytes(series: &OfSeries) -> u64 {
+        let first = series.digest.first_chunk();
+        first.map_or(0, |first| u64::from_be_bytes(*first))
+    }
 }
 
 /// What the server has of a series.
 #[derive(Clone, Debug)]
-pub(super) struct StoredSeries {
+pub(super) struct Known {
     pub(super) id: i64,
     /// Made by this transaction: nobody else sees it, and it has no total yet.
     pub(super) is_new: bool,
     /// The number of its metric.
     pub(super) metric: String,
-    /// Of its spans that were there.
-    pub(super) last_end: Option<u64>,
-    /// In which that is, in hours since 1970.
+    /// In which its last interval ends, or a correction counts, in hours since 1970.
     pub(super) last_hour: Option<i32>,
 }
 
-impl StoredSeries {
+impl Known {
     /// As it is found, before it is locked.
-    fn of(row: &Row, is_new: bool) -> StoredSeries {
-        StoredSeries { id: row.get(1), is_new, metric: row.get(2), last_end: None, last_hour: None }
+    fn of(row: &Row, is_new: bool) -> Known {
+        Known { id: row.get(1), is_new, metric: row.get(2), last_hour: None }
     }
 }
 
 /// By the places of the series in a request.
-type FoundSeries = Vec<Option<StoredSeries>>;
+type FoundSeries = Vec<Option<Known>>;
 
 impl Writing<'_> {
     /// What is known of each series, made where it is new. Nobody else adds to them until the transaction ends.
-    pub(super) async fn series(&self, all: &[OfSeries], seen: &Seen) -> Result<Vec<StoredSeries>, NotTaken> {
+    pub(super) async fn stored(&self, all: &[OfSeries]) -> Result<Vec<Stored<Known>>, NotTaken> {
         let mut found = vec![None; all.len()];
-        self.make(all, seen, &mut found).await?;
+        self.make(all, &mut found).await?;
         self.find(all, &mut found).await?;
-        let known: Option<Vec<StoredSeries>> = found.into_iter().collect();
+        let known: Option<Vec<Known>> = found.into_iter().collect();
         let known = known.ok_or_else(|| Fault::told("a series that was there is gone: it is made anew"))?;
-        self.lock(all, known).await
+        let stored = all.iter().zip(known).map(|(of, row)| Stored { row, buckets: of.buckets(), ends: None });
+        self.lock(stored.collect()).await
     }
 
     /// Makes those that were not seen, unless they are there, and the metrics of those that it makes.
-    async fn make(&self, all: &[OfSeries], seen: &Seen, found: &mut FoundSeries) -> Result<(), NotTaken> {
-        let new: Vec<&OfSeries> = all.iter().filter(|series| !seen.has(series)).collect();
+    async fn make(&self, all: &[OfSeries], found: &mut FoundSeries) -> Result<(), NotTaken> {
+        let new: Vec<&OfSeries> = all.iter().filter(|series| !self.seen.has(series)).collect();
         // While the server has one piece, the next one is written down here.
         let mut pieces = new.chunks(new.len().div_ceil(4).max(PIECE));
         let mut next = || self.make_piece(pieces.next().unwrap_or_default());
@@ -81,7 +80,7 @@ impl Writing<'_> {
         // They came back in the order in which they went.
         for (series, found) in all.iter().zip(&mut *found) {
             let is_of = |row: &Row| row.get::<_, &[u8]>(0) == series.digest;
-            *found = made.next_if(is_of).map(|row| StoredSeries::of(&row, true));
+            *found = made.next_if(is_of).map(|row| Known::of(&row, true));
         }
         if made.next().is_some() {
             return Err(Fault::told("new series came back in another order").into());
@@ -110,33 +109,34 @@ impl Writing<'_> {
         }
         let digests: Vec<&[u8]> = places.iter().map(|place| &all[*place].digest[..]).collect();
         for row in self.rows(&self.statements.find, &[&digests]).await? {
-            found[places[row.get::<_, i64>(0) as usize - 1]] = Some(StoredSeries::of(&row, false));
+            found[places[row.get::<_, i64>(0) as usize - 1]] = Some(Known::of(&row, false));
         }
         Ok(())
     }
 
-    /// Locks the totals of those that were there, and reads where their spans end.
-    async fn lock(
-        &self,
-        all: &[OfSeries],
-        mut known: Vec<StoredSeries>,
-    ) -> Result<Vec<StoredSeries>, NotTaken> {
-        let places: Vec<usize> = (0..all.len()).filter(|place| !known[*place].is_new).collect();
+    /// Locks the totals of those that were there, and reads where they end.
+    async fn lock(&self, mut stored: Vec<Stored<Known>>) -> Result<Vec<Stored<Known>>, NotTaken> {
+        let places: Vec<usize> = (0..stored.len()).filter(|place| !stored[*place].row.is_new).collect();
         if places.is_empty() {
-            return Ok(known);
+            return Ok(stored);
         }
-        let ids: Vec<i64> = places.iter().map(|place| known[*place].id).collect();
+        let ids: Vec<i64> = places.iter().map(|place| stored[*place].row.id).collect();
         let rows = self.rows(&self.statements.lock, &[&ids]).await?;
         if rows.len() != ids.len() {
             return Err(Fault::told("a series has no row in series_total").into());
         }
         for row in rows {
-            let place = places[row.get::<_, i64>(0) as usize - 1];
-            let (last_end, buckets): (Option<&str>, Option<i32>) = (row.get(1), row.get(2));
-            all[place].fits(buckets.map(|count| count as usize))?;
-            known[place].last_end = last_end.and_then(|end| end.parse().ok());
-            known[place].last_hour = row.get(3);
+            let one = &mut stored[places[row.get::<_, i64>(0) as usize - 1]];
+            one.buckets = row.get::<_, Option<i32>>(1).map(|count| count as usize);
+            one.row.last_hour = row.get(2);
+            one.ends = Some(Ends { life: row.get(3), floor: time(&row, 4)?, last: time(&row, 5)? });
         }
-        Ok(known)
+        Ok(stored)
     }
+}
+
+fn time(row: &Row, column: usize) -> Result<u64, Fault> {
+    let text: Option<&str> = row.get(column);
+    let time = text.and_then(|text| text.parse().ok());
+    time.ok_or_else(|| Fault::told("a row of series_total has no time of 64 bits"))
 }

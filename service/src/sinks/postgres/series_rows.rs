@@ -1,11 +1,11 @@
 //! The rows of new series.
 
-use super::fault::NotTaken;
-use super::rows::OfSeries;
+use super::store::NotTaken;
 use super::values::{row, Jsonb, NewRow};
 use crate::otlp::series::NotForwarded;
 use crate::sinks::attributes::object;
-use crate::sinks::sqlite::totals::Kind;
+use crate::sinks::sql::totals::Kind;
+use crate::sinks::sql::OfSeries;
 use serde_json::Value;
 use std::collections::HashMap;
 
@@ -43,7 +43,7 @@ impl Objects {
         let attributes = held_list(&parts.attributes, &mut is_exact)?;
         Ok(row(move |write| {
             write(&[
-                &series.digest,
+                &&series.digest[..],
                 &&*series.key.0,
                 &is_exact,
                 &name,

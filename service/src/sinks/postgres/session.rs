@@ -37,13 +37,11 @@ macro_rules! statements {
     ($($name:ident: $text:ident,)*) => {
         pub(super) struct Statements {
             $(pub(super) $name: Statement,)*
-            pub(super) before: Option<Before>,
         }
 
         impl Statements {
             async fn prepare(client: &Client) -> Result<Statements, tokio_postgres::Error> {
-                let before = Before::prepare(client).await?;
-                Ok(Statements { $($name: client.prepare(statements::$text).await?,)* before })
+                Ok(Statements { $($name: client.prepare(statements::$text).await?,)* })
             }
         }
     };
@@ -52,19 +50,16 @@ macro_rules! statements {
 statements! {
     hold_periods: HOLD_PERIODS,
     closed: CLOSED,
-    key: KEY,
-    keys: KEYS,
+    make_requests: MAKE_REQUESTS,
+    first_life: FIRST_LIFE,
+    begin_life: BEGIN_LIFE,
     is_taken: IS_TAKEN,
     set_left_out: SET_LEFT_OUT,
     make: MAKE,
     metrics: METRICS,
     find: FIND,
     lock: LOCK,
-    hours_beside: HOURS_BESIDE,
-    overlap: OVERLAP,
-    far_overlap: FAR_OVERLAP,
-    deleted: DELETED,
-    spans: SPANS,
+    intervals: INTERVALS,
     first_totals: FIRST_TOTALS,
     hours_over: HOURS_OVER,
     past_hours: PAST_HOURS,
@@ -74,15 +69,9 @@ statements! {
     rewind: REWIND,
 }
 
-/// For spans of version 4, where there are some.
-pub(super) struct Before {
-    pub(super) left: Statement,
-    pub(super) overlap: Statement,
-}
-
 impl Session {
-    /// `was_there` says that the schema has been seen before. A schema that is brought up takes as long as it takes; for
-    /// all else the server has so long.
+    /// `was_there` says that the schema has been seen before. A schema that is made takes as long as it takes; for all else
+    /// the server has so long.
     pub(super) async fn open(
         server: &Server,
         memory: &dyn Memory,
@@ -91,16 +80,16 @@ impl Session {
     ) -> Result<Session, Fault> {
         let connecting = async {
             let (client, connection) = connect(server).await?;
-            let version = schema::version(&client).await?;
-            Ok::<_, Fault>((client, connection, version))
+            let is_there = schema::check(&client).await?;
+            Ok::<_, Fault>((client, connection, is_there))
         };
         let late = |_| Fault::Away(no_answer(patience));
-        let (mut client, connection, version) = timeout(patience, connecting).await.map_err(late)??;
-        schema::migrate(&mut client, server, version, memory, was_there).await?;
+        let (mut client, connection, is_there) = timeout(patience, connecting).await.map_err(late)??;
+        schema::make(&mut client, server, is_there, memory, was_there).await?;
         let preparing = async {
             client.batch_execute(PLANS).await?;
             let statements = Statements::prepare(&client).await?;
-            Ok::<_, Fault>((statements, Fence::prepare(&client, &memory.databases()).await?))
+            Ok::<_, Fault>((statements, Fence::prepare(&client, memory.store_database()).await?))
         };
         let (statements, fence) = within(patience, preparing).await?;
         Ok(Session { client, statements, seen: Seen::default(), fence, connection })
@@ -129,17 +118,4 @@ pub(super) async fn connect_to_read(server: &Server) -> Result<(Client, Driver),
     let (client, driver) = connect(server).await?;
     client.batch_execute("set default_transaction_read_only = on").await?;
     Ok((client, driver))
-}
-
-impl Before {
-    async fn prepare(client: &Client) -> Result<Option<Before>, tokio_postgres::Error> {
-        let is_there = "select to_regclass('totxegun.span_before') is not null";
-        if !client.query_one(is_there, &[]).await?.get::<_, bool>(0) {
-            return Ok(None);
-        }
-        Ok(Some(Before {
-            left: client.prepare(statements::LEFT_BEFORE).await?,
-            overlap: client.prepare(statements::OVERLAP_BEFORE).await?,
-        }))
-    }
 }

@@ -4,8 +4,8 @@ use super::fault::Fault;
 use super::Server;
 use super::{schema, session};
 use crate::otlp::series::{NotForwarded, SeriesKey};
-use crate::sinks::sqlite::totals::SeriesTotal;
-use crate::sinks::sqlite::Exact;
+use crate::sinks::sql::exact::Exact;
+use crate::sinks::sql::totals::SeriesTotal;
 use crate::work::blocking;
 use std::time::Duration;
 use tokio::time::timeout;
@@ -35,9 +35,9 @@ pub async fn read(server: &Server) -> anyhow::Result<Vec<SeriesTotal>> {
 /// By a connection of its own: a delivery that waits holds nothing up here.
 async fn rows(server: &Server) -> Result<Vec<Row>, Fault> {
     let (client, _connection) = session::connect_to_read(server).await?;
-    match schema::version(&client).await? {
-        0 => Ok(Vec::new()),
-        _ => Ok(client.query(READ, &[]).await?),
+    match schema::check(&client).await? {
+        false => Ok(Vec::new()),
+        true => Ok(client.query(READ, &[]).await?),
     }
 }
 

@@ -1,23 +1,14 @@
 //! Reads what came of one series in its last hours, by the view `by_hour`.
 
 use super::fault::Fault;
-use super::store::SeriesRow;
-use super::totals::{odd, open, SeriesTotal};
-use super::wide_integers::Exact;
-use rusqlite::{Connection, OptionalExtension, Row};
+use super::series_row::SeriesRow;
+use super::totals::{odd, open};
+use crate::sinks::sql::exact::Exact;
+use crate::sinks::sql::totals::{Hour, SeriesTotal};
+use rusqlite::{Connection, Row};
 use std::path::Path;
 
-/// What came of a series in an hour (UTC).
-#[derive(Clone, Copy, Debug, PartialEq, Eq)]
-pub struct Hour {
-    /// When it begins, in hours since 1970.
-    pub hour: u64,
-    pub total: Exact,
-    /// Of a histogram.
-    pub count: Option<Exact>,
-}
-
-/// The hours of a series from this one on (since 1970), in order; none where the file has no hours, or not this series.
+/// The hours of a series from this one on (since 1970), in order; none where the file has not this series.
 pub fn read(path: &Path, series: &SeriesTotal, from: u64) -> anyhow::Result<Option<Vec<Hour>>> {
     let read = || -> Result<_, Fault> {
         let connection = open(path)?;
@@ -27,13 +18,9 @@ pub fn read(path: &Path, series: &SeriesTotal, from: u64) -> anyhow::Result<Opti
     read().map_err(|fault| fault.at(path))
 }
 
-/// A series' identifier, in a file that has hours.
+/// A series' identifier.
 fn found(connection: &Connection, series: &SeriesTotal) -> rusqlite::Result<Option<i64>> {
-    let view = "select 1 from sqlite_schema where type = 'view' and name = 'by_hour'";
-    match connection.query_row(view, [], |_| Ok(())).optional()? {
-        Some(()) => SeriesRow::of(series).find(connection),
-        None => Ok(None),
-    }
+    SeriesRow::of(series).find(connection)
 }
 
 /// An hour is a text there, which begins with its date.
@@ -59,19 +46,20 @@ fn exact(row: &Row, column: usize) -> rusqlite::Result<Option<Exact>> {
 
 #[cfg(test)]
 mod tests {
+    use super::super::schema;
     use super::super::totals::{row, READ};
     use super::*;
 
     /// Two series that differ in an attribute, and hours as `by_hour` has them.
     const ROWS: &str = r#"
-        insert into series values (7, 'm', '1', 'monotonic', '[]', '{"a":1}', '{}', '', '', '{}'),
-            (8, 'm', '1', 'monotonic', '[]', '{"a":"1"}', '{}', '', '', '{}'),
-            (9, 'm', '1', 'histogram', '[5]', '{"a":1}', '{}', '', '', '{}');
-        insert into series_total values (7, 1, 1, 2, 0, 5, 0, 0, 0, null), (8, 1, 1, 2, 0, 5, 0, 0, 0, null),
-            (9, 1, 1, 2, 0, 5, 0, 0, 0, '[1,2]');
+        insert into series values (7, 'm', '1', 'monotonic', '[]', '{"a":1}', '{}', '', '', '{}', null),
+            (8, 'm', '1', 'monotonic', '[]', '{"a":"1"}', '{}', '', '', '{}', null),
+            (9, 'm', '1', 'histogram', '[5]', '{"a":1}', '{}', '', '', '{}', null);
+        insert into series_total values (7, 1, 1, 2, 0, 5, 0, 0, 0, null, 1, 0),
+            (8, 1, 1, 2, 0, 5, 0, 0, 0, null, 1, 0), (9, 1, 1, 2, 0, 5, 0, 0, 0, '[1,2]', 1, 0);
     "#;
     const VIEW: &str = "
-        create view by_hour as select '2026-11-27 12:00' as hour, 5 as total, null as count, 7 as series
+        drop view by_hour; create view by_hour as select '2026-11-27 12:00' as hour, 5 as total, null as count, 7 as series
         union all select '2026-11-27 11:00', 6, null, 7 union all select '2026-11-25 00:00', 7, null, 7
         union all select '2026-11-27 12:00', '9223372036854775808', null, 8
         union all select '2026-11-27 12:00', -3, 4, 9";
@@ -82,8 +70,8 @@ mod tests {
     fn the_hours_of_one_series_are_read() {
         let folder = tempfile::tempdir().unwrap();
         let path = folder.path().join("metrics.db");
-        let connection = Connection::open(&path).unwrap();
-        connection.execute_batch(include_str!("version1.sql")).unwrap();
+        let mut connection = Connection::open(&path).unwrap();
+        schema::make(&mut connection).unwrap();
         connection.execute_batch(ROWS).unwrap();
         let all: Vec<SeriesTotal> = connection
             .prepare(READ)
@@ -92,7 +80,7 @@ mod tests {
             .unwrap()
             .collect::<rusqlite::Result<_>>()
             .unwrap();
-        assert_eq!(read(&path, &all[0], 0).unwrap(), None, "a file without hours");
+        assert_eq!(read(&path, &all[0], 0).unwrap(), Some(Vec::new()), "a file without hours");
         connection.execute_batch(VIEW).unwrap();
         let hours = |place: usize, from| {
             let hours = read(&path, &all[place], from).unwrap().unwrap().into_iter();

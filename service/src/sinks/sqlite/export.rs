@@ -1,51 +1,63 @@
-//! Reads what a file has of a month or a day, as of one moment.
+//! Reads what a file has in all, or of a month or a day, as of one moment.
 
 use super::fault::Fault;
 use super::horizon::Horizon;
-use super::schema::{self, STEPS};
-use super::totals::{json, open, Kind};
-use crate::sinks::export::{view_of, Each, Line};
-use crate::sinks::periods::{deleted, Closed, Period, NOT_FILLED};
+use super::schema;
+use super::totals::{json, open};
+use crate::sinks::periods::{deleted, Closed};
+use crate::sinks::sql::export::{view_of, Each, Line, Times, What};
+use crate::sinks::sql::totals::Kind;
 use rusqlite::{Row, Transaction};
 use serde_json::value::RawValue;
 use std::path::Path;
 
-/// Each line; and what of it is closed.
-pub fn read(path: &Path, period: &Period, each: Each<'_>) -> anyhow::Result<Closed> {
+const COLUMNS: &str =
+    "of.series, of.name, of.kind, of.unit, of.attributes, of.resource, of.scope_name, of.scope_version,
+    of.scope_attributes, points, cast(total as text), cast(corrections as text), cast(billed as text),
+    cast(count as text)";
+
+/// Each line; and what is closed.
+pub fn read(path: &Path, what: &What, each: Each<'_>) -> anyhow::Result<Closed> {
     let at = |fault: Fault| fault.at(path);
     let fault = |error: rusqlite::Error| at(error.into());
-    let told = |what: String| Err(at(Fault::Told(what)));
     let mut connection = open(path).map_err(at)?;
-    let known = STEPS.len() as i64;
-    if schema::check(&connection, known).map_err(at)? < known {
-        return told("it is of an older version: start the service, which updates it".into());
+    if !schema::check(&connection).map_err(at)? {
+        return Ok(Closed::default());
     }
     let transaction = connection.transaction().map_err(fault)?;
-    // The views lack what is not moved yet, and nobody would see it by the rows.
-    let horizon = Horizon::read(&transaction).map_err(fault)?;
-    if !horizon.is_filled() {
-        return told(NOT_FILLED.into());
+    if let What::Of(period) = what {
+        let horizon = Horizon::read(&transaction).map_err(fault)?;
+        if !horizon.has(period) {
+            return Err(at(Fault::Told(deleted(period, horizon.hours_from))));
+        }
     }
-    if !horizon.has(period) {
-        return told(deleted(period, horizon.hours_from));
-    }
-    lines(&transaction, period, each, &fault)?;
+    lines(&transaction, what, each, &fault)?;
     super::periods::read(&transaction).map_err(fault)
 }
 
 fn lines(
     transaction: &Transaction,
-    period: &Period,
+    what: &What,
     each: Each<'_>,
     fault: &dyn Fn(rusqlite::Error) -> anyhow::Error,
 ) -> anyhow::Result<()> {
-    let (time, at) = view_of(period);
-    let query = format!(
-        "select of.series, of.name, of.kind, of.unit, of.attributes, of.resource, of.scope_name, of.scope_version,
-         of.scope_attributes, points, cast(total as text), cast(corrections as text), cast(billed as text),
-         cast(count as text), bounds, buckets
-         from by_{time} as of join series on series.id = of.series where {time} = ?1 order by of.name, of.series"
-    );
+    let (query, at) = match what {
+        What::Totals => (
+            format!(
+                "select {COLUMNS}, bounds, buckets, since, until from totals as of where ?1 is null
+                 order by name, attributes, resource, series"
+            ),
+            None,
+        ),
+        What::Of(period) => {
+            let (time, at) = view_of(period);
+            let query = format!(
+                "select {COLUMNS}, bounds, buckets, null, null from by_{time} as of join series on series.id = of.series
+                 where {time} = ?1 order by of.name, of.series"
+            );
+            (query, Some(at))
+        }
+    };
     let mut query = transaction.prepare(&query).map_err(fault)?;
     for line in query.query_map([at], line).map_err(fault)? {
         each(line.map_err(fault)?)?;
@@ -54,7 +66,7 @@ fn lines(
 }
 
 /// Of the columns that `lines` asks for.
-pub(crate) fn line(row: &Row) -> rusqlite::Result<Line> {
+fn line(row: &Row) -> rusqlite::Result<Line> {
     let list = |column| json::<Box<RawValue>>(row, column);
     let object = |column| list(column).map(|found| found.unwrap_or_default());
     let kind = Kind::of(&row.get::<_, String>(2)?);
@@ -76,5 +88,12 @@ pub(crate) fn line(row: &Row) -> rusqlite::Result<Line> {
         count: row.get(13)?,
         bounds: list(14)?.filter(|_| is_histogram),
         buckets: list(15)?,
+        times: times(row)?,
     })
+}
+
+fn times(row: &Row) -> rusqlite::Result<Option<Times>> {
+    let time =
+        |column| row.get(column).map(|time: Option<String>| time.map(|time| time.replace(' ', "T") + "Z"));
+    Ok(time(16)?.zip(time(17)?).map(|(since, until)| Times { since, until }))
 }

@@ -1,6 +1,7 @@
 //! What can be wrong with the file, and what to do about it.
 
-use crate::otlp::series::NotForwarded;
+use super::schema::KNOWN;
+use crate::sinks::sql::NotTaken;
 use anyhow::anyhow;
 use nix::sys::statvfs::FsFlags;
 use rusqlite::ErrorCode;
@@ -8,9 +9,8 @@ use std::path::Path;
 
 #[derive(Debug)]
 pub(crate) enum Fault {
-    Later {
+    Version {
         found: i64,
-        known: i64,
     },
     Foreign,
     /// It says all by itself.
@@ -42,7 +42,7 @@ impl Fault {
     pub(crate) fn at(self, path: &Path) -> anyhow::Error {
         let file = path.display();
         match self {
-            Fault::Later { found, known } => anyhow!("{file} was written by a later version of totxegun (schema {found}; this one knows {known}): use that version, or another file"),
+            Fault::Version { found } => anyhow!("{file} was written by another version of totxegun (schema {found}; this one knows {KNOWN}): use that version, or another file"),
             Fault::Foreign => anyhow!("{file} is a database of another program: name another file"),
             Fault::Another(what) => anyhow!(what),
             Fault::Told(what) => anyhow!("{file}: {what}"),
@@ -104,33 +104,19 @@ fn sealed(folder: &Path) -> String {
     )
 }
 
-/// Why a request was not taken.
-#[derive(Debug)]
-pub(super) enum NotTaken {
-    /// It never will be.
-    Refused(String),
-    Fault(Fault),
-}
-
-impl From<Fault> for NotTaken {
-    fn from(fault: Fault) -> NotTaken {
+impl From<Fault> for NotTaken<Fault> {
+    fn from(fault: Fault) -> NotTaken<Fault> {
         NotTaken::Fault(fault)
     }
 }
 
-impl From<rusqlite::Error> for NotTaken {
+impl From<rusqlite::Error> for NotTaken<Fault> {
     /// Content that no SQLite takes is refused for good; all else may mend itself.
-    fn from(error: rusqlite::Error) -> NotTaken {
+    fn from(error: rusqlite::Error) -> NotTaken<Fault> {
         match error.sqlite_error_code() {
             Some(ErrorCode::TooBig) => NotTaken::Refused(format!("too long for SQLite: {error}")),
             _ => NotTaken::Fault(error.into()),
         }
-    }
-}
-
-impl From<NotForwarded> for NotTaken {
-    fn from(error: NotForwarded) -> NotTaken {
-        NotTaken::Refused(error.to_string())
     }
 }
 

@@ -1,4 +1,4 @@
-//! A sink that is a SQLite file: a row a series, a row a span, exact totals, each key once.
+//! A sink that is a SQLite file: a row a series, a row an interval, exact totals, each key once.
 //!
 //! One thread has the connection, since calls of SQLite wait for the disk. It opens the file when it is needed and
 //! again after a fault, so whatever is wrong with the file is a reason to try again: no request is lost by it.
@@ -8,24 +8,26 @@ mod cached;
 pub mod export;
 mod fault;
 mod horizon;
+mod hours;
 mod periods;
 mod schema;
+mod series_row;
 mod store;
+mod total;
 pub mod totals;
 mod upkeep;
-mod views;
 mod wide_integers;
+mod writing;
 
 #[cfg(test)]
 mod tests;
 
-pub use wide_integers::Exact;
-
 use super::periods::{Deed, Told};
+use super::sql::{NotTaken, Sent};
 use super::{Answer, Fate, Forwarded, Keys, Memory, Retention, Sink};
 use crate::core::give_back_of_thread;
 use anyhow::Context;
-use fault::{Fault, NotTaken};
+use fault::Fault;
 use std::path::{Path, PathBuf};
 use std::sync::mpsc::{self, RecvTimeoutError};
 use std::sync::Arc;
@@ -78,6 +80,12 @@ impl SqliteSink {
         Ok(SqliteSink { path: path.into(), jobs: Some(jobs), thread: Some(thread), keys: Keys::default() })
     }
 
+    fn send<'a>(&'a self, request: &Forwarded, sent: Sent) -> Answer<'a, Fate> {
+        let request = request.clone();
+        let fate = self.ask(move |writer| writer.take(&request, sent));
+        Box::pin(async { fate.await.unwrap_or_else(Fate::away) })
+    }
+
     /// What the thread answers.
     async fn ask<T: Send + 'static>(
         &self,
@@ -93,10 +101,12 @@ impl SqliteSink {
 }
 
 impl Sink for SqliteSink {
+    fn deliver<'a>(&'a self, request: &'a Forwarded) -> Answer<'a, Fate> {
+        self.send(request, Sent::ByHand)
+    }
+
     fn deliver_of<'a>(&'a self, request: &'a Forwarded, _term: Option<u64>) -> Answer<'a, Fate> {
-        let request = request.clone();
-        let fate = self.ask(move |writer| writer.take(&request));
-        Box::pin(async { fate.await.unwrap_or_else(Fate::away) })
+        self.send(request, Sent::InOrder)
     }
 
     fn most_together(&self) -> usize {
@@ -156,11 +166,7 @@ impl Writer {
         };
         let store = match open {
             Some(store) => store,
-            None => {
-                let store = Store::open(&self.path, &|id| self.memory.admit(id, self.was_replaced))?;
-                self.upkeep.begin_anew();
-                store
-            }
+            None => Store::open(&self.path, &|id| self.memory.admit(id, self.was_replaced))?,
         };
         self.was_replaced = false;
         Ok(self.store.insert(store))
@@ -178,7 +184,7 @@ impl Writer {
                 );
                 self.was_replaced = true;
             }
-            FileState::WithoutLog => match store.settle() {
+            FileState::WithoutLog => match store.copy_log() {
                 Ok(()) => tracing::error!(
                     "{path}-wal or -shm was deleted or replaced: what it had was copied into the file"
                 ),
@@ -257,8 +263,8 @@ impl Writer {
         self.store.as_ref().is_some_and(|store| store.file_state() == state)
     }
 
-    fn take(&mut self, request: &Forwarded) -> Fate {
-        match self.store().map_err(NotTaken::from).and_then(|store| store.take(request)) {
+    fn take(&mut self, request: &Forwarded, sent: Sent) -> Fate {
+        match self.store().map_err(NotTaken::from).and_then(|store| store.take(request, sent)) {
             // It is written where nobody will read it: the key says what there is to be done.
             Ok(_) if !self.is(FileState::Intact) => Fate::away(format!(
                 "{} or its -wal was deleted meanwhile: it is opened again",
@@ -266,7 +272,7 @@ impl Writer {
             )),
             Ok(left) => left.fate(&request.body),
             Err(NotTaken::Refused(reason)) => Fate::refused(reason),
-            Err(NotTaken::Fault(fault)) => {
+            Err(NotTaken::Failed(fault) | NotTaken::Fault(fault)) => {
                 self.close_after(&fault);
                 Fate::away(fault.at(&self.path).to_string())
             }
@@ -284,8 +290,7 @@ impl Writer {
 
     /// Where the file is opened anew meanwhile nothing is known of what was asked for: it may be asked for again.
     fn settle(&mut self, who: &str, deed: &Deed) -> Told {
-        let settle = |store: &mut Store| Ok(periods::settle(&mut store.connection, who, deed)?);
-        match self.store().and_then(settle) {
+        match self.store().and_then(|store| Ok(store.settle(who, deed)?)) {
             Ok(_) if !self.is(FileState::Intact) => {
                 Told::Later(format!("{} or its -wal was deleted meanwhile", self.path.display()))
             }

@@ -1,13 +1,13 @@
 //! Periods that are closed, and corrections.
 
 use super::cached;
-use super::horizon::Horizon;
-use super::store::hours;
-use crate::sinks::periods::{closed, Closed, Corrected, Correction, Deed, Period, Row, Told, NOT_FILLED};
-use rusqlite::{params, Connection, OptionalExtension, Transaction, TransactionBehavior};
+use super::hours;
+use crate::sinks::periods::{Closed, Corrected, Correction, Period, Row};
+use crate::sinks::sql;
+use rusqlite::{params, Error, Result, Transaction};
 
 /// What is closed, as a transaction sees it.
-pub(super) fn read(transaction: &Transaction) -> rusqlite::Result<Closed> {
+pub(super) fn read(transaction: &Transaction) -> Result<Closed> {
     let now = "select cast(strftime('%s', 'now') as integer)";
     let now: i64 = cached::one(transaction, now, [], |row| row.get(0))?;
     let rows = transaction
@@ -23,82 +23,51 @@ pub(super) fn read(transaction: &Transaction) -> rusqlite::Result<Closed> {
                 at: row.get(4)?,
             })
         })?
-        .collect::<rusqlite::Result<_>>()?;
+        .collect::<Result<_>>()?;
     Ok(Closed { rows, now: now / 3600 })
 }
 
-/// Carries a deed out, or leaves all as it was.
-pub(super) fn settle(connection: &mut Connection, who: &str, deed: &Deed) -> rusqlite::Result<Told> {
-    let transaction = connection.transaction_with_behavior(TransactionBehavior::Immediate)?;
-    let told = match deed {
-        Deed::Close(period) => close(&transaction, who, period)?,
-        Deed::Open(period) => open(&transaction, period)?,
-        Deed::Correct(correction) => correct(&transaction, who, correction)?,
-    };
-    transaction.commit()?;
-    Ok(told)
-}
+pub(super) struct Periods<'a>(pub(super) Transaction<'a>);
 
-fn close(transaction: &Transaction, who: &str, period: &Period) -> rusqlite::Result<Told> {
-    if !Horizon::read(transaction)?.is_filled() {
-        return Ok(Told::Refused(NOT_FILLED.into()));
-    }
-    if let Err(told) = read(transaction)?.close(period) {
-        return Ok(told);
-    }
-    transaction.execute(
-        "insert into closed values (?1, ?2, ?3, ?4, cast(strftime('%s', 'now') as integer))",
-        params![period.from, period.to, period.to_string(), who],
-    )?;
-    Ok(Told::Done(closed(period)))
-}
+impl sql::Periods for Periods<'_> {
+    type Fault = Error;
 
-fn open(transaction: &Transaction, period: &Period) -> rusqlite::Result<Told> {
-    let all = read(transaction)?;
-    if let Err(told) = all.open(period) {
-        return Ok(told);
+    async fn closed(&mut self) -> Result<Closed> {
+        read(&self.0)
     }
-    let row = [period.from, period.to];
-    transaction.execute("delete from closed where from_hour = ?1 and to_hour = ?2", row)?;
-    Ok(Told::Done(all.opened(period)))
-}
 
-fn correct(transaction: &Transaction, who: &str, correction: &Correction) -> rusqlite::Result<Told> {
-    let Correction { series, hour, value, reason } = correction;
-    if let Some((who, at)) = made_before(transaction, correction)? {
-        return Ok(correction.was_there(&who, at));
+    async fn close(&mut self, who: &str, period: &Period) -> Result<()> {
+        let insert = "insert into closed values (?1, ?2, ?3, ?4, cast(strftime('%s', 'now') as integer))";
+        let row = params![period.from, period.to, period.to_string(), who];
+        self.0.execute(insert, row).map(drop)
     }
-    let known = transaction.query_row(
-        "select exists (select 1 from metric cross join hour on hour.metric = metric.id where hour.hour = ?2 and series = ?1)
-            or exists (select 1 from late_hour where series = ?1 and of_hour = ?2),
-            (select coalesce(sum(abs(value)), 0) from corrections), hours_from from horizon",
-        [series, &hour.from],
-        |row| Ok(Corrected { is_there: row.get(0)?, so_far: row.get(1)?, hours_from: row.get(2)? }),
-    )?;
-    let counted_in = match correction.counted_in(&known, &read(transaction)?) {
-        Ok(hour) => hour,
-        Err(told) => return Ok(told),
-    };
-    transaction.execute(
-        "insert into corrections (series, of_hour, hour, value, reason, who, made_at)
-         values (?1, ?2, ?3, ?4, ?5, ?6, cast(strftime('%s', 'now') as integer))",
-        params![series, hour.from, counted_in, value, reason, who],
-    )?;
-    hours::correct(transaction, *series, counted_in, *value)?;
-    Ok(correction.made(counted_in))
-}
 
-/// By whom, and when.
-fn made_before(
-    transaction: &Transaction,
-    correction: &Correction,
-) -> rusqlite::Result<Option<(String, i64)>> {
-    let Correction { series, hour, value, reason } = correction;
-    transaction
-        .query_row(
-            "select who, made_at from corrections where series = ?1 and of_hour = ?2 and value = ?3 and reason = ?4",
-            params![series, hour.from, value, reason],
-            |row| Ok((row.get(0)?, row.get(1)?)),
-        )
-        .optional()
+    async fn open(&mut self, period: &Period) -> Result<()> {
+        let row = [period.from, period.to];
+        self.0.execute("delete from closed where from_hour = ?1 and to_hour = ?2", row).map(drop)
+    }
+
+    async fn made_before(&mut self, correction: &Correction) -> Result<Option<(String, i64)>> {
+        let Correction { series, hour, value, reason } = correction;
+        let query = "select who, made_at from corrections where series = ?1 and of_hour = ?2 and value = ?3 and reason = ?4";
+        let row = params![series, hour.from, value, reason];
+        cached::find(&self.0, query, row, |row| Ok((row.get(0)?, row.get(1)?)))
+    }
+
+    async fn corrected(&mut self, correction: &Correction) -> Result<Corrected> {
+        let query = "select exists (select 1 from metric cross join hour on hour.metric = metric.id where hour.hour = ?2 and series = ?1)
+                or exists (select 1 from late_hour where series = ?1 and of_hour = ?2),
+            (select coalesce(sum(abs(value)), 0) from corrections), hours_from from horizon";
+        cached::one(&self.0, query, [correction.series, correction.hour.from], |row| {
+            Ok(Corrected { is_there: row.get(0)?, so_far: row.get(1)?, hours_from: row.get(2)? })
+        })
+    }
+
+    async fn correct(&mut self, who: &str, correction: &Correction, hour: i64) -> Result<()> {
+        let insert = "insert into corrections (series, of_hour, hour, value, reason, who, made_at)
+            values (?1, ?2, ?3, ?4, ?5, ?6, cast(strftime('%s', 'now') as integer))";
+        let Correction { series, hour: of_hour, value, reason } = correction;
+        self.0.execute(insert, params![series, of_hour.from, hour, value, reason, who])?;
+        hours::correct(&self.0, *series, hour, *value)
+    }
 }

@@ -2,13 +2,14 @@
 //! `service/tests/postgres/main.rs`.
 
 mod hours;
-mod older;
 mod periods;
 mod trouble;
 mod upkeep;
 
-use super::totals::{read, Filter, SeriesTotal};
+use super::totals::read;
 use super::*;
+use crate::sinks::sql::exact::Exact;
+use crate::sinks::sql::totals::{Filter, SeriesTotal};
 
 fn forwarded(number: u64, body: String) -> Forwarded {
     Forwarded { slot: 0, epoch: "e".into(), number, body: body.into_bytes() }
@@ -63,7 +64,7 @@ impl Trial {
     }
 
     fn take(&mut self, number: u64, body: String) -> Fate {
-        self.writer.take(&forwarded(number, body))
+        self.writer.take(&forwarded(number, body), Sent::ByHand)
     }
 
     fn taken(&mut self, number: u64, body: String) {
@@ -151,28 +152,32 @@ fn gaps_between_keys_stay_open() {
     trial.taken(3, sum("a", 20, 30, 8));
     trial.taken(3, sum("a", 20, 30, 8));
     let other = Forwarded { slot: 1, ..forwarded(1, sum("b", 10, 20, 16)) };
-    assert_eq!(trial.writer.take(&other), Fate::Taken);
+    assert_eq!(trial.writer.take(&other, Sent::ByHand), Fate::Taken);
     let other = Forwarded { epoch: "f".into(), ..forwarded(1, sum("b", 20, 30, 32)) };
-    assert_eq!(trial.writer.take(&other), Fate::Taken);
+    assert_eq!(trial.writer.take(&other, Sent::ByHand), Fate::Taken);
     assert_eq!(trial.totals(), [("a".into(), 15, 4), ("b".into(), 48, 2)]);
 }
 
+/// In order nothing begins before its series ends: what does may be there.
 #[test]
-fn a_span_that_overlaps_is_refused() {
+fn what_begins_before_its_series_ends_is_refused() {
     let mut trial = Trial::new();
     trial.taken(1, sum("a", 100, 200, 1));
-    trial.taken(2, sum("a", 300, 400, 1));
+    trial.taken(4, sum("a", 300, 400, 1));
     for (number, (start, end)) in
-        (10..).zip([(100, 200), (150, 160), (50, 101), (199, 300), (250, 301), (1, 1000), (399, 500)])
+        (10..).zip([(100, 200), (150, 160), (50, 101), (199, 300), (200, 300), (1, 1000), (399, 500)])
     {
-        trial.refused(number, sum("a", start, end, 9), "overlaps");
+        let why = "is not added, since its series has points until 400";
+        trial.refused(number, sum("a", start, end, 9), why);
+        trial.refused(number, sum("a", start, end, 9), "was not added before");
     }
     assert_eq!(trial.totals(), only("a", 2, 2));
+    // Those that were put aside, and are sent again.
     trial.taken(3, sum("a", 200, 300, 1));
-    trial.taken(4, sum("a", 50, 100, 1));
+    trial.taken(2, sum("a", 50, 100, 1));
     trial.taken(5, sum("a", 400, 500, 1));
     assert_eq!(trial.totals(), only("a", 5, 5));
-    trial.refused(20, metrics(&sum_of("c", &[sum_point(1, 10, 20, 1), sum_point(1, 15, 25, 1)])), "overlaps");
+    trial.refused(30, metrics(&sum_of("c", &[sum_point(1, 10, 20, 1), sum_point(1, 15, 25, 1)])), "overlaps");
     assert_eq!(trial.totals(), only("a", 5, 5));
 }
 
@@ -254,11 +259,11 @@ fn histograms_add_up_by_bucket() {
 #[test]
 fn late_times_are_exact() {
     let mut trial = Trial::new();
-    trial.taken(1, sum("a", u64::MAX - 10, u64::MAX, 1));
-    trial.taken(2, sum("a", 10, 1 << 63, 1));
-    trial.refused(3, sum("a", (1 << 63) - 1, 1 << 63, 1), "overlaps");
-    trial.refused(3, sum("a", u64::MAX - 1, u64::MAX, 1), "overlaps");
-    trial.taken(3, sum("a", 1 << 63, u64::MAX - 10, 1));
+    trial.taken(1, sum("a", 10, 1 << 63, 1));
+    trial.refused(2, sum("a", (1 << 63) - 1, 1 << 63, 1), "is not added");
+    trial.taken(3, sum("a", u64::MAX - 10, u64::MAX, 1));
+    trial.refused(4, sum("a", u64::MAX - 1, u64::MAX, 1), "is not added");
+    trial.taken(0, sum("a", 1 << 63, u64::MAX - 10, 1));
     let rows = read(&trial.path(), &Filter::default()).expect("rows");
     assert_eq!((rows[0].start_ns, rows[0].end_ns, rows[0].points), (10, u64::MAX, 3));
 }

@@ -1,17 +1,11 @@
-//! What is done beside deliveries: hours of an older file are filled in, and what is too old is deleted. It goes in
-//! steps, each a short transaction of its own that is right by itself: so a delivery waits for one step at most, and a
+//! What is done beside deliveries: what is too old is deleted. It goes in steps, each a short transaction of its own that is right by itself: so a delivery waits for one step at most, and a
 //! kill behind any of them leaves a file that the next start goes on with.
-
-mod ended;
-mod fill;
 
 use super::cached;
 use super::horizon::Horizon;
 use super::wide_integers::Unsigned;
-use crate::sinks::retention::tell_of_spans;
 use crate::sinks::utc::{after_month, day_of, hour_of, month_of, HOUR_NS};
 use crate::sinks::Retention;
-use ended::Ended;
 use rusqlite::{params, Connection, OptionalExtension, Transaction, TransactionBehavior};
 use std::time::{Duration, Instant};
 
@@ -24,22 +18,16 @@ pub(super) struct Upkeep {
     retention: Retention,
     /// So many.
     pub(super) step: usize,
-    ended: Ended,
     due: Instant,
 }
 
 impl Upkeep {
     pub(super) fn new(retention: Retention) -> Upkeep {
-        Upkeep { retention, step: STEP, ended: Ended::default(), due: Instant::now() }
+        Upkeep { retention, step: STEP, due: Instant::now() }
     }
 
     pub(super) fn is_due(&self) -> bool {
         Instant::now() >= self.due
-    }
-
-    /// In a file that was just opened: it may be another one, whose series of the same numbers are others.
-    pub(super) fn begin_anew(&mut self) {
-        self.ended = Ended::default();
     }
 
     /// One step, at this time in nanoseconds since 1970. Whether another is to follow; else it is due some time later.
@@ -51,63 +39,39 @@ impl Upkeep {
             });
         let wait = if let Ok(true) = more { Duration::ZERO } else { EVERY };
         self.due = Instant::now() + wait;
-        if more.is_err() {
-            self.begin_anew(); // the file is not where this is
-        }
         more
     }
 
     fn of(&mut self, transaction: &Transaction, now: u64) -> rusqlite::Result<bool> {
         let mut horizon = Horizon::read(transaction)?;
-        if !horizon.is_filled() {
-            fill::step(transaction, horizon, self.step)?;
-            return Ok(true);
-        }
         let ago = |time: Duration| now.saturating_sub(u64::try_from(time.as_nanos()).unwrap_or(u64::MAX));
-        if let Some(time) = self.retention.spans {
-            if spans(transaction, horizon, time, ago(time), self.step)? {
+        if let Some(time) = self.retention.intervals {
+            if intervals(transaction, ago(time), self.step)? {
                 return Ok(true);
             }
         }
-        if let Some(time) = self.retention.hours {
-            come_back(transaction, &mut horizon, now)?;
-            if hours(transaction, horizon, ago(time), self.step)? {
-                return Ok(true);
+        match self.retention.hours {
+            Some(time) => {
+                come_back(transaction, &mut horizon, now)?;
+                hours(transaction, horizon, ago(time), self.step)
             }
-        }
-        match self.retention.series {
-            Some(time) => self.ended.step(transaction, horizon, ago(time), self.step),
             None => Ok(false),
         }
     }
 }
 
-/// Deletes the spans of requests all of whose spans ended by then, which is so long ago. The requests' keys stay.
-fn spans(
-    transaction: &Transaction,
-    mut horizon: Horizon,
-    kept: Duration,
-    until: u64,
-    step: usize,
-) -> rusqlite::Result<bool> {
-    let mut next = transaction.prepare_cached(
-        "select id, last_end_ns from request where has_spans and last_end_ns <= ?1 order by last_end_ns limit 1",
-    )?;
-    let mut delete = transaction.prepare_cached("delete from span_row where request = ?1")?;
-    let mut note = transaction.prepare_cached("update request set has_spans = 0 where id = ?1")?;
+/// Deletes the intervals of requests all of whose intervals ended by then, which is so long ago. The requests' keys stay.
+fn intervals(transaction: &Transaction, until: u64, step: usize) -> rusqlite::Result<bool> {
+    let mut next = transaction
+        .prepare_cached("select id from request where last_end_ns <= ?1 order by last_end_ns limit 1")?;
+    let mut delete = transaction.prepare_cached("delete from interval_row where request = ?1")?;
+    let mut note = transaction
+        .prepare_cached("update request set first_start_ns = null, last_end_ns = null where id = ?1")?;
     let mut done = 0;
     while done < step {
-        let found: Option<(i64, Unsigned)> =
-            next.query_row([Unsigned(until)], |row| Ok((row.get(0)?, row.get(1)?))).optional()?;
-        let Some((id, end)) = found else { break };
-        if horizon.spans_from == Unsigned(0) {
-            tell_of_spans(kept);
-        }
+        let found: Option<i64> = next.query_row([Unsigned(until)], |row| row.get(0)).optional()?;
+        let Some(id) = found else { break };
         done += delete.execute([id])? + note.execute([id])?;
-        horizon.spans_from = horizon.spans_from.max(end);
-    }
-    if done > 0 {
-        horizon.write(transaction)?;
     }
     Ok(done > 0)
 }
@@ -131,7 +95,7 @@ fn hours(transaction: &Transaction, mut horizon: Horizon, until: u64, step: usiz
     let last: Option<i64> = transaction.query_row("select max(hour) from hour", [], |row| row.get(0))?;
     let mut from = last.map_or(0, |last| last.min((until / HOUR_NS) as i64));
     if from > horizon.hours_from {
-        from = from.min(last_hour_of_spans(transaction)?);
+        from = from.min(last_hour_of_intervals(transaction)?);
     }
     if from > horizon.hours_from {
         horizon.hours_from = from;
@@ -164,7 +128,7 @@ fn come_back(transaction: &Transaction, horizon: &mut Horizon, now: u64) -> rusq
 }
 
 /// What came late, and corrections, count in an hour by the clock, so that one says nothing about it.
-fn last_hour_of_spans(transaction: &Transaction) -> rusqlite::Result<i64> {
+fn last_hour_of_intervals(transaction: &Transaction) -> rusqlite::Result<i64> {
     let last = "select max(last_end_ns) from series_total";
     let last: Option<Unsigned> = transaction.query_row(last, [], |row| row.get(0))?;
     Ok(last.map_or(0, |end| hour_of(end.0)))

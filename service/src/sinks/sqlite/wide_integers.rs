@@ -1,6 +1,7 @@
 //! Whole numbers past SQLite's own: 64 bits without sign, and totals of 128 bits.
 
-use crate::sinks::sums::Sums;
+use crate::sinks::sql::exact::Exact;
+use crate::sinks::sql::Sums;
 use rusqlite::types::{FromSql, FromSqlError, FromSqlResult, ToSql, ToSqlOutput, ValueRef};
 
 /// A number of 64 bits without sign. From 2^63 on it is a text of 20 digits: SQLite sorts texts behind integers, so
@@ -31,40 +32,21 @@ impl FromSql for Unsigned {
 
 const BASE: i128 = 1_000_000_000_000;
 
-/// An exact total. In a file it is two integers, high and low: total = high * 10^12 + low, 0 <= low < 10^12. So a
-/// query adds up both parts of a million rows and more without a carry.
-#[derive(Clone, Copy, Debug, Default, PartialEq, Eq, PartialOrd, Ord)]
-pub struct Exact(pub i128);
-
-impl Exact {
-    /// `None` from about 9 * 10^30 on.
-    pub(super) fn parts(self) -> Option<(i64, i64)> {
-        let high = i64::try_from(self.0.div_euclid(BASE)).ok()?;
-        let low = i64::try_from(self.0.rem_euclid(BASE)).ok()?;
-        Some((high, low))
-    }
-
-    pub(super) fn of_parts(high: i64, low: i64) -> Exact {
-        Exact(i128::from(high) * BASE + i128::from(low))
-    }
-
-    /// Of total and count; none where one of them is too great for two integers.
-    pub(super) fn parts_of(sums: &Sums) -> Option<[(i64, i64); 2]> {
-        Some([Exact(sums.total).parts()?, Exact(sums.count).parts()?])
-    }
+/// A total as two integers, high and low: total = high * 10^12 + low, 0 <= low < 10^12. So a query adds up both parts of a
+/// million rows and more without a carry. `None` from about 9 * 10^30 on.
+pub(super) fn parts(total: i128) -> Option<(i64, i64)> {
+    let high = i64::try_from(total.div_euclid(BASE)).ok()?;
+    let low = i64::try_from(total.rem_euclid(BASE)).ok()?;
+    Some((high, low))
 }
 
-impl std::fmt::Display for Exact {
-    fn fmt(&self, formatter: &mut std::fmt::Formatter<'_>) -> std::fmt::Result {
-        std::fmt::Display::fmt(&self.0, formatter)
-    }
+pub(super) fn of_parts(high: i64, low: i64) -> Exact {
+    Exact(i128::from(high) * BASE + i128::from(low))
 }
 
-/// A decimal string, as OTLP writes whole numbers: readers of JSON commonly round numbers past 2^53.
-impl serde::Serialize for Exact {
-    fn serialize<S: serde::Serializer>(&self, serializer: S) -> Result<S::Ok, S::Error> {
-        serializer.collect_str(self)
-    }
+/// Of total and count; none where one of them is too great for two integers.
+pub(super) fn parts_of(sums: &Sums) -> Option<[(i64, i64); 2]> {
+    Some([parts(sums.total)?, parts(sums.count)?])
 }
 
 #[cfg(test)]
@@ -93,21 +75,21 @@ mod tests {
 
     #[test]
     fn totals_have_two_parts() {
-        for (total, parts) in [
+        for (total, both) in [
             (0, (0, 0)),
             (-1, (-1, 999_999_999_999)),
             (5, (0, 5)),
             (1_000_000_000_000, (1, 0)),
             (-1_000_000_000_000, (-1, 0)),
         ] {
-            assert_eq!(Exact(total).parts(), Some(parts));
+            assert_eq!(parts(total), Some(both));
         }
         for total in
             [i128::from(i64::MIN), i128::from(u64::MAX) * 1_000_000, -12_345_678_901_234_567_890_123_456_789]
         {
-            let (high, low) = Exact(total).parts().expect("it fits");
-            assert_eq!(Exact::of_parts(high, low), Exact(total));
+            let (high, low) = parts(total).expect("it fits");
+            assert_eq!(of_parts(high, low), Exact(total));
         }
-        assert_eq!(Exact(i128::MAX).parts(), None);
+        assert_eq!(parts(i128::MAX), None);
     }
 }

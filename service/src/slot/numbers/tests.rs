@@ -269,7 +269,7 @@ fn a_post_asks_for_the_room_that_it_takes_in_the_journal() {
     const NAME: u64 = 16; // the record of one, beside its text
     let place = tempfile::tempdir().unwrap();
     let folder = Folder::open(place.path(), Durability::Process).unwrap();
-    let (journal, _) = folder.slot(0).unwrap();
+    let (journal, _) = folder.slot().unwrap();
     let segment = place.path().join("slot-0/journal/000000000001.seg");
     let written = || std::fs::metadata(&segment).unwrap().len();
     let (reading, mut by) = (Arc::new(Reading::default()), [0; 2]);

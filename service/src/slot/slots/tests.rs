@@ -153,7 +153,7 @@ impl Service {
         let all = (0..SLOTS).map(|number| {
             let place = place.join(number.to_string());
             let folder = Folder::open(&place, Durability::Process).unwrap();
-            let (journal, outbox) = folder.slot(0).unwrap();
+            let (journal, outbox) = folder.slot().unwrap();
             let core = Core::new(1000).unwrap();
             Slot::of(None, number, journal, Arc::new(outbox), core, &shared)
         });

@@ -1,128 +1,46 @@
-//! What there is to move.
+//! What a folder has to be moved.
 
-use super::{MoveFault, Moved};
+use super::MoveFault;
 use crate::core::Core;
-use crate::files::drive::{self, Drive};
-use crate::files::{Beginning, Dead, Fault, Folder, Journal, Outbox, Series, UnitOfMetric};
+use crate::files::{Beginning, Folder, Journal, Outbox, Series};
 use crate::keeper;
 use crate::metrics::Metrics;
 use crate::otlp::series::SeriesKey;
 use crate::otlp::slot_of_series;
-use crate::runs::{Forgotten, Since};
-use crate::service::{leave_others, move_held};
 use crate::slot::Slot;
-use crate::store::postgres::PostgresStore;
-use std::collections::{BTreeSet, HashMap};
+use std::collections::HashMap;
 use std::sync::Arc;
 
-/// A slot that is moved.
-pub struct From {
-    pub number: u16,
-    pub outbox: Arc<Outbox>,
-    /// None of a slot that an earlier totxegun had: its posts are another's.
-    pub journal: Option<Arc<Journal>>,
-}
-
-/// What all slots know together.
-#[derive(Default)]
 pub struct Content {
-    pub from: Vec<From>,
-    series: HashMap<SeriesKey, Series>,
-    quarantined: BTreeSet<String>,
-    beside: BTreeSet<UnitOfMetric>,
-    since: Since,
-    forgotten: Forgotten,
-}
-
-impl From {
-    /// Its files as a start would leave them: the owner of each series is known.
-    fn opened(number: u16, journal: Journal, outbox: Outbox) -> Result<From, MoveFault> {
-        let no_book = |why| MoveFault(format!("there is no book: {why}"));
-        let core = Core::new(1).map_err(no_book)?;
-        let metrics = Metrics::new().map_err(|why| MoveFault(format!("there are no metrics: {why}")))?;
-        let slot = Slot::new(number, journal, Arc::new(outbox), Arc::new(metrics), core);
-        keeper::settle(&slot)?;
-        Ok(From { number, outbox: slot.outbox.clone(), journal: Some(slot.journal.clone()) })
-    }
-
-    /// Of a store, under a term.
-    pub fn slot(store: &PostgresStore, number: u16, term: u64) -> Result<(From, Dead), MoveFault> {
-        let drive = store.drive(number, term).map_err(Fault::from)?;
-        let (journal, outbox, dead) = drive::open(drive as Arc<dyn Drive>, &store.cluster.epoch)?;
-        Ok((From::opened(number, journal, outbox)?, dead))
-    }
-
-    pub fn waits(&self) -> bool {
-        self.outbox.waiting().0 > 0
-    }
+    pub journal: Arc<Journal>,
+    pub outbox: Arc<Outbox>,
+    pub series: HashMap<SeriesKey, Series>,
 }
 
 impl Content {
-    /// Also of one that totxegun 0.5.0 has left.
+    /// The files as a start would leave them: the owner of each series is known.
     pub fn of_folder(folder: &Folder) -> Result<Content, MoveFault> {
-        let slots = folder.slots();
-        if slots == 1 {
-            move_held(folder).map_err(|ended| MoveFault(ended.to_string()))?;
-        }
-        let mut content = Content::default();
-        let mut numbers: BTreeSet<u16> = folder.slots_with_files()?.into_iter().collect();
-        numbers.extend(0..slots);
-        for number in numbers {
-            let from = if number < slots {
-                let (journal, outbox) = folder.slot(number)?;
-                leave_others(&outbox, number, slots)?;
-                From::opened(number, journal, outbox)?
-            } else {
-                let outbox = folder.outbox(number)?;
-                leave_others(&outbox, number, slots)?;
-                From { number, outbox: Arc::new(outbox), journal: None }
-            };
-            content.with(from);
-        }
-        Ok(content)
+        let (journal, outbox) = folder.slot()?;
+        let no_book = |why| MoveFault(format!("there is no book: {why}"));
+        let core = Core::new(1).map_err(no_book)?;
+        let metrics = Metrics::new().map_err(|why| MoveFault(format!("there are no metrics: {why}")))?;
+        let slot = Slot::new(0, journal, Arc::new(outbox), Arc::new(metrics), core);
+        keeper::settle(&slot)?;
+        let (journal, outbox) = (slot.journal.clone(), slot.outbox.clone());
+        Ok(Content { series: outbox.series(), journal, outbox })
     }
 
-    pub fn with(&mut self, from: From) -> &Content {
-        self.with_known(&from);
-        self.from.push(from);
-        self
-    }
-
-    /// The same, where the slot itself is let go.
-    pub fn with_known(&mut self, from: &From) {
-        for (key, series) in from.outbox.series() {
-            let is_known = self.series.get(&key).is_some_and(|known| known.frontier >= series.frontier);
-            if !is_known {
-                self.series.insert(key, series);
-            }
-        }
-        self.quarantined.extend(from.outbox.quarantined());
-        self.beside.extend(from.outbox.beside());
-        let since = from.outbox.since();
-        // All slots are one service, which began with the first: who moves may be the first to open another. 0 is not known.
-        let made = [self.since.made, since.made].into_iter().filter(|made| *made > 0);
-        self.since.made = made.min().unwrap_or_default();
-        self.since.forgotten = self.since.forgotten.max(since.forgotten);
-        let forgotten = from.outbox.forgotten();
-        self.forgotten.note(forgotten.each().map(|(series, end)| (*series, end)), &mut self.since);
-    }
-
-    pub fn moved(&self) -> Moved {
-        Moved { series: self.series.len(), ..Moved::default() }
-    }
-
-    /// What one of so many slots begins with.
+    /// What one of so many slots begins with. Requests go on in the first.
     pub fn beginning(&self, number: u16, slots: u16) -> Beginning {
         let is_its = |key: &SeriesKey| slot_of_series(key, slots).unwrap_or(0) == number;
         let series = self.series.iter().filter(|(key, _)| is_its(key));
-        let own = self.from.iter().find(|from| from.number == number);
         Beginning {
-            next: own.map_or(1, |from| from.outbox.first_number()),
+            next: if number == 0 { self.outbox.first_number() } else { 1 },
             series: series.map(|(key, series)| (key.clone(), series.clone())).collect(),
-            quarantined: self.quarantined.clone(),
-            beside: self.beside.clone(),
-            since: self.since,
-            forgotten: self.forgotten.clone(),
+            quarantined: self.outbox.quarantined(),
+            beside: self.outbox.beside(),
+            since: self.outbox.since(),
+            forgotten: self.outbox.forgotten(),
         }
     }
 }
@@ -131,42 +49,38 @@ impl Content {
 mod tests {
     use super::*;
     use crate::files::Durability;
+    use crate::runs::{Forgotten, Since};
 
-    fn from(number: u16, since: Since) -> From {
-        let mut forgotten = Forgotten::default();
-        forgotten.note([([7; 32], u64::from(number)), ([number as u8; 32], 5)], &mut Since::default());
+    /// Else what began since then, and posts for the first time behind the move, would count from its first point on alone; and a
+    /// start behind it would decide by units that decide nothing.
+    #[test]
+    fn each_slot_begins_with_what_holds_for_all_series() {
         let place = tempfile::tempdir().unwrap();
         let folder = Folder::open(place.path(), Durability::Process).unwrap();
-        let outbox = folder.outbox(number).unwrap();
-        let (next, series, quarantined) = (1, Vec::new(), BTreeSet::new());
-        let beside = [(format!("m{number}"), "ms".to_string())].into();
-        let beginning = Beginning { next, series, quarantined, beside, since, forgotten };
-        outbox.begin_with(beginning).unwrap();
-        From { number, outbox: Arc::new(outbox), journal: None }
-    }
-
-    /// Else what began since then, and posts for the first time behind the move, would count from its first point on alone.
-    #[test]
-    fn runs_count_from_their_start_that_began_since_the_first_slot_was_taken() {
-        let since = |made, forgotten| Since { made, forgotten };
-        let mut content = Content::default();
-        for (number, since) in [(3, since(70, 5)), (1, since(40, 9)), (2, since(900, 0)), (0, since(0, 2))] {
-            content.with(from(number, since));
-        }
-        let beginning = content.beginning(0, 1);
-        assert_eq!(beginning.since, since(40, 9));
-        assert_eq!([0, 1, 2, 3, 7, 8].map(|one| beginning.forgotten.of(&[one; 32])), [5, 5, 5, 5, 3, 0]);
-    }
-
-    /// Else a start behind the move would decide by them.
-    #[test]
-    fn units_that_decide_nothing_are_moved() {
-        let mut content = Content::default();
-        content.with(from(0, Since::default())).beginning(0, 1);
-        content.with_known(&from(1, Since::default()));
+        let mut forgotten = Forgotten::default();
+        forgotten.note([([7; 32], 3), ([8; 32], 5)], &mut Since::default());
+        let beside = [("m".to_string(), "ms".to_string())];
+        let (next, series, quarantined) = (4, Vec::new(), ["s".to_string()].into());
+        let since = Since { made: 40, forgotten: 9 };
+        let (_, outbox) = folder.slot().unwrap();
+        outbox
+            .begin_with(Beginning {
+                next,
+                series,
+                quarantined,
+                beside: beside.clone().into(),
+                since,
+                forgotten,
+            })
+            .unwrap();
+        drop(outbox);
+        let content = Content::of_folder(&folder).unwrap();
         for slot in [0, 1] {
-            let beside = content.beginning(slot, 2).beside;
-            assert_eq!(beside, ["m0", "m1"].map(|name| (name.to_string(), "ms".to_string())).into());
+            let beginning = content.beginning(slot, 2);
+            assert_eq!(beginning.next, if slot == 0 { 4 } else { 1 });
+            assert_eq!((beginning.since, &beginning.quarantined), (since, &["s".to_string()].into()));
+            assert_eq!(beginning.beside, beside.clone().into());
+            assert_eq!([7, 8, 9].map(|one| beginning.forgotten.of(&[one; 32])), [3, 5, 0]);
         }
     }
 }

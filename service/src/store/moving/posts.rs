@@ -1,6 +1,6 @@
 //! Posts that are in no group, each in parts for the slots of its resources.
 
-use super::content::From;
+use super::content::Content;
 use super::MoveFault;
 use crate::files::{Body, Fault, Names, Points, Post, Replayed};
 use crate::otlp::series::{only, posted};
@@ -35,11 +35,6 @@ impl Names for Named {
 }
 
 impl Named {
-    fn forget(&mut self) {
-        self.generation += 1;
-        self.texts.clear();
-    }
-
     fn note(&mut self, number: u64, text: Bytes, slots: u16) {
         let slot = only(&text).and_then(|key| slot_of_series(&key, slots)).unwrap_or(0);
         let before = self.texts.insert(number, (text.clone(), slot));
@@ -62,18 +57,14 @@ impl Posts {
         }
     }
 
-    /// Gives the posts of a slot, in their order: to each slot its part.
+    /// Gives the posts of a folder, in their order: to each slot its part.
     pub fn each(
         &mut self,
-        from: &From,
+        from: &Content,
         mut each: impl FnMut(u16, &Post, &dyn Names) -> Result<(), Fault>,
     ) -> Result<(), MoveFault> {
-        let Some(journal) = &from.journal else {
-            return Ok(());
-        };
-        self.named.forget();
         let mut ended = Ok(());
-        journal.posts(from.outbox.journal(), u64::MAX, |read| {
+        from.journal.posts(from.outbox.journal(), u64::MAX, |read| {
             self.count += 1;
             let parts = self.parts(read);
             ended = parts.iter().try_for_each(|(slot, post)| each(*slot, post, &self.named));

@@ -2,7 +2,7 @@
 
 use super::MoveFault;
 use crate::files::drive::{self, Drive};
-use crate::files::{Beginning, Dead, Fault, Folder, Journal, Names, Outbox, Post};
+use crate::files::{Dead, Fault, Journal, Names, Outbox, Post};
 use crate::store::postgres::{PostgresDrive, PostgresStore};
 use std::path::Path;
 use std::sync::Arc;
@@ -28,12 +28,6 @@ impl To {
         Ok(To { number, journal, outbox, dead, written: 0 })
     }
 
-    /// A folder that has nothing.
-    pub fn folder(folder: &Folder) -> Result<To, MoveFault> {
-        let (journal, outbox) = folder.slot(0)?;
-        Ok(To { number: 0, journal, outbox, dead: folder.dead()?, written: 0 })
-    }
-
     pub fn put(&mut self, post: &Post, names: &dyn Names) -> Result<(), Fault> {
         self.journal.append(post, names);
         self.written += post.body.bytes();
@@ -43,14 +37,10 @@ impl To {
         }
     }
 
-    /// Takes the letters that are wanted, by the slot of their keys: how many.
-    pub fn take_letters(&self, from: &Dead, is_wanted: impl Fn(u16) -> bool) -> Result<u64, Fault> {
+    /// Takes the letters of a folder: how many.
+    pub fn take_letters(&self, from: &Dead) -> Result<u64, Fault> {
         let mut letters = 0;
         from.each(|key, bytes| {
-            let slot = key.split('-').next().and_then(|slot| slot.parse().ok());
-            if !is_wanted(slot.unwrap_or(0)) {
-                return Ok(());
-            }
             letters += 1;
             self.dead.put(key, &bytes)
         })?;
@@ -80,28 +70,14 @@ pub fn go_on(to: &Outbox, from: &Outbox) -> Result<u64, Fault> {
     Ok(requests)
 }
 
-/// The requests of a slot that a folder does not have: it delivers them beside those of its own.
-pub fn former(folder: &Folder, number: u16, from: &Outbox) -> Result<u64, Fault> {
-    let to = folder.outbox(number)?;
-    to.begin_with(Beginning {
-        next: from.first_number(),
-        series: Vec::new(),
-        quarantined: Default::default(),
-        beside: Default::default(),
-        since: from.since(),
-        forgotten: from.forgotten(),
-    })?;
-    go_on(&to, from)
-}
-
 /// Deletes all files of a slot.
-pub fn wipe(drive: &Arc<PostgresDrive>) -> Result<(), MoveFault> {
+fn wipe(drive: &Arc<PostgresDrive>) -> Result<(), MoveFault> {
     let wiped = ["journal", "outbox", "dead"].into_iter().try_for_each(|folder| {
         let folder = Path::new(folder);
         let mut names = drive.list(folder)?.into_iter();
         names.try_for_each(|name| drive.remove(&folder.join(name)))
     });
-    let wiped = wiped.and_then(|()| drive.sync());
+    let wiped = wiped.and_then(|()| drive.sync()).map(drop);
     wiped.map_err(|source| {
         let path = format!("slot {}", drive.slot()).into();
         Fault::Io { path, source }.into()

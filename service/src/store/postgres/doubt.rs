@@ -16,6 +16,8 @@ pub enum Doubt {
     Warned(String),
     #[error("{}", shown(.0))]
     Said(Error),
+    #[error("the slot's row is locked, as by a write that waits for its standby")]
+    Locked,
     #[error("{0}")]
     NotConnected(String),
     /// The same, and it will be so until somebody changes something.
@@ -49,7 +51,8 @@ impl Doubt {
     pub fn next(&self) -> Next {
         match self {
             Doubt::Warned(_) => Same,
-            Doubt::Silent(_) | Doubt::NotConnected(_) | Doubt::Refused(_) => Another,
+            // Who holds the lock may wait for ever, where this server is no primary any more.
+            Doubt::Locked | Doubt::Silent(_) | Doubt::NotConnected(_) | Doubt::Refused(_) => Another,
             Doubt::Said(error) if error.is_closed() => Another,
             Doubt::Said(error) => after(error.code().map_or("", |state| state.code())),
         }
@@ -60,10 +63,20 @@ impl Doubt {
 const FOR_GOOD: [&str; 7] = ["0A", "22", "23", "28", "3D", "3F", "42"];
 
 impl Doubt {
+    /// Whether other connections to the server are of no use either, as far as is known.
+    pub fn is_of_server(&self) -> bool {
+        let begins = |state: &str| ["57P", "25", "08"].iter().any(|begin| state.starts_with(begin));
+        match self {
+            Doubt::Silent(_) | Doubt::NotConnected(_) | Doubt::Refused(_) => true,
+            Doubt::Warned(_) | Doubt::Locked => false,
+            Doubt::Said(error) => error.is_closed() || error.code().is_some_and(|state| begins(state.code())),
+        }
+    }
+
     /// Whether it may be otherwise later, without anybody's help.
     pub fn may_pass(&self) -> bool {
         match self {
-            Doubt::Silent(_) | Doubt::Warned(_) | Doubt::NotConnected(_) => true,
+            Doubt::Silent(_) | Doubt::Warned(_) | Doubt::Locked | Doubt::NotConnected(_) => true,
             Doubt::Refused(_) => false,
             Doubt::Said(error) => passes(error.code().map_or("", |state| state.code())),
         }

@@ -4,8 +4,6 @@ use super::doubt::Doubt;
 
 #[derive(Debug, thiserror::Error)]
 pub enum StoreFault {
-    #[error("no store's address is given")]
-    Nowhere,
     #[error(transparent)]
     Doubt(#[from] Doubt),
     #[error("{server}: {doubt}")]
@@ -16,15 +14,7 @@ pub enum StoreFault {
     IsThere(String),
     #[error("the store in {server} is of another version of totxegun (store {found}; this one knows {known}): use that version")]
     Version { server: String, found: i32, known: i32 },
-    #[error("the store has {has} databases, and {given} are given: name each of them by --store, in the order of `store init`")]
-    Databases { has: i32, given: usize },
-    #[error(
-        "{server} is database {found} of its store, not {expected}: name them in the order of `store init`"
-    )]
-    Place { server: String, found: i32, expected: usize },
-    #[error("{server} is of another store than {first}: correct the address")]
-    Another { server: String, first: String },
-    #[error("a store has 1 to {most} slots, and at least one for each database: not {given}")]
+    #[error("a store has 1 to {most} slots: not {given}")]
     Slots { given: u16, most: u16 },
     #[error("this instance reads posts by other rules than the store's instances. Here: {here}. There: {there}. Start it with the same; or stop all, and `update totxegun_store.cluster set reading = ''`")]
     Reading { here: String, there: String },

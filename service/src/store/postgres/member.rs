@@ -1,4 +1,4 @@
-//! An instance, as the rows of a database of the store have it.
+//! An instance, as the rows of the store have it.
 
 use super::doubt::Doubt;
 use super::PostgresStore;
@@ -7,16 +7,15 @@ use std::sync::Arc;
 
 pub struct Member {
     store: Arc<PostgresStore>,
-    /// The number of its database.
-    database: usize,
     name: String,
-    /// Where others forward posts to.
+    /// Where others forward posts to, and where operators of other machines ask.
     address: String,
+    operate: String,
 }
 
 impl Member {
-    pub fn new(store: &Arc<PostgresStore>, database: usize, name: &str, address: &str) -> Member {
-        Member { store: store.clone(), database, name: name.into(), address: address.into() }
+    pub fn new(store: &Arc<PostgresStore>, name: &str, address: &str, operate: &str) -> Member {
+        Member { store: store.clone(), name: name.into(), address: address.into(), operate: operate.into() }
     }
 }
 
@@ -32,15 +31,12 @@ impl Terms for Member {
             Stay::Here => self.address.as_str(),
             Stay::Leaves => "",
         };
-        self.store.beat(self.database, &self.name, address, refused).await?;
-        Ok(Seen {
-            instances: self.store.instances(self.database).await?,
-            slots: self.store.slots(self.database).await?,
-        })
+        self.store.beat(&self.name, address, &self.operate, refused).await?;
+        Ok(Seen { instances: self.store.instances().await?, slots: self.store.slots().await? })
     }
 
     async fn slots(&self) -> Result<Vec<Row>, Silence> {
-        Ok(self.store.slots(self.database).await?)
+        Ok(self.store.slots().await?)
     }
 
     async fn take(&self, slot: u16, seen: u64) -> Result<Option<u64>, Silence> {
@@ -52,10 +48,10 @@ impl Terms for Member {
     }
 
     async fn leave(&self) -> Result<(), Silence> {
-        Ok(self.store.leave(self.database, &self.name).await?)
+        Ok(self.store.leave(&self.name).await?)
     }
 
     async fn forget(&self, name: &str, beat: u64) -> Result<bool, Silence> {
-        Ok(self.store.forget(self.database, name, beat).await?)
+        Ok(self.store.forget(name, beat).await?)
     }
 }

@@ -2,8 +2,7 @@
 //!
 //! Each write of a slot locks the slot's row where the owner's term is in it. Nothing else keeps two owners apart: no
 //! clock, no lease, no lock of a session. What is read is believed only behind a committed write of one's own, since a
-//! server shows, after a restart, what its standby does not have. The slots may be in several databases, slot S in
-//! database S mod k.
+//! server shows, after a restart, what its standby does not have.
 
 mod copies;
 mod counts;
@@ -24,13 +23,12 @@ pub use doubt::Doubt;
 pub use drive::PostgresDrive;
 pub use fault::StoreFault;
 pub use member::Member;
-pub(super) use schema::random;
 pub use schema::{Cluster, MOST_SLOTS};
 pub use state::{Standing, State};
 
 use crate::files::drive::Lost;
 use crate::postgres::identity;
-use drive::{on_this_thread, Together, Writer};
+use drive::{on_this_thread, open, GroupCommitter};
 use session::{within, SILENT};
 use shared::Shared;
 use std::collections::BTreeMap;
@@ -39,35 +37,28 @@ use std::sync::Arc;
 use std::thread;
 use std::time::{Duration, Instant};
 use tokio::runtime::{Builder, Handle, Runtime};
-use tokio::task::unconstrained;
 use tokio_postgres::types::ToSql;
 
 /// Connections live on these, so that a thread of the service that waits for the store never keeps the store waiting.
 const THREADS: usize = 2;
-/// Short writes of slots go on so many connections to a database, each slot's always on the same one.
-const TOGETHER: usize = 2;
 /// Who starts waits for so long in all where the server goes away meanwhile, and so long between two tries.
 const PATIENCE: Duration = Duration::from_secs(20);
 const PAUSE: Duration = Duration::from_millis(500);
 
 pub struct PostgresStore {
     pub cluster: Cluster,
-    databases: Vec<Database>,
-    /// Of each database, which one it is, by its own word.
-    identities: Vec<Option<String>>,
+    /// Which database it is in, by its own word.
+    identity: Option<String>,
     counts: Arc<Counts>,
-    runtime: Threads,
-}
-
-struct Database {
     /// For bytes, which may be long.
     reader: Arc<Shared>,
     /// For slots that are taken or given away, which may wait for who has the row.
     taker: Arc<Shared>,
     /// For beats, and for what is seen behind them: nothing else keeps them waiting.
     beater: Arc<Shared>,
-    /// For short writes of slots.
-    together: Vec<Arc<Together>>,
+    /// For writes of slots.
+    committer: Arc<GroupCommitter>,
+    runtime: Threads,
 }
 
 /// Ends without waiting, from wherever it is dropped.
@@ -87,7 +78,7 @@ impl Threads {
     /// Waits, whatever thread this is. Connections that it makes live on the store's threads.
     fn wait<T>(&self, work: impl Future<Output = T>) -> T {
         let _entered = self.handle.enter();
-        on_this_thread(unconstrained(work))
+        on_this_thread(work)
     }
 
     async fn run<T: Send + 'static>(
@@ -117,14 +108,14 @@ pub fn address(text: &str) -> Result<Server, String> {
 }
 
 impl PostgresStore {
-    /// Makes the tables of a store in these databases.
-    pub fn make(servers: &[Server], slots: u16) -> Result<Cluster, StoreFault> {
-        Threads::start()?.wait(schema::make(servers, slots))
+    /// Makes the tables of a store in this database.
+    pub fn make(server: &Server, slots: u16) -> Result<Cluster, StoreFault> {
+        Threads::start()?.wait(schema::make(server, slots))
     }
 
     /// Before it is known whether the instance may start: it has not agreed yet.
-    pub fn join(servers: &[Server], copies: Copies) -> Result<PostgresStore, StoreFault> {
-        let store = PostgresStore::look_into(servers, copies)?;
+    pub fn join(server: &Server, copies: Copies) -> Result<PostgresStore, StoreFault> {
+        let store = PostgresStore::look_into(server, copies)?;
         store.admit()?;
         Ok(store)
     }
@@ -140,31 +131,25 @@ impl PostgresStore {
     }
 
     /// The same where nothing is served, whether it counts or not.
-    pub fn look_into(servers: &[Server], copies: Copies) -> Result<PostgresStore, StoreFault> {
+    pub fn look_into(server: &Server, copies: Copies) -> Result<PostgresStore, StoreFault> {
         let runtime = Threads::start()?;
         let checking = async {
-            let cluster = schema::check(servers).await?;
-            let mut identities = Vec::new();
-            for server in servers {
-                let (client, _driver) = session::connect(server).await?;
-                copies::check(&client, server, copies).await?;
-                identities.push(within(SILENT, identity(&client)).await?);
-            }
-            Ok::<_, StoreFault>((cluster, identities))
+            let (client, _driver) = session::connect(server).await?;
+            let cluster = schema::check(&client, server).await?;
+            copies::check(&client, server, copies).await?;
+            Ok::<_, StoreFault>((cluster, within(SILENT, identity(&client)).await?))
         };
-        let (cluster, identities) = runtime.wait(checking)?;
-        let shared = |server: &Server| Arc::new(Shared::new(server.clone()));
-        let database = |server: &Server| Database {
-            reader: shared(server),
-            taker: shared(server),
-            beater: shared(server),
-            together: (0..TOGETHER).map(|_| Arc::new(Together::start(server, &runtime.handle))).collect(),
-        };
+        let (cluster, identity) = runtime.wait(checking)?;
+        let shared = || Arc::new(Shared::new(server.clone()));
+        let counts = Arc::default();
         Ok(PostgresStore {
             cluster,
-            databases: servers.iter().map(database).collect(),
-            identities,
-            counts: Arc::default(),
+            identity,
+            reader: shared(),
+            taker: shared(),
+            beater: shared(),
+            committer: Arc::new(GroupCommitter::start(server, &counts, &runtime.handle)),
+            counts,
             runtime,
         })
     }
@@ -181,9 +166,9 @@ impl PostgresStore {
         }
     }
 
-    /// What the first database says of the store.
+    /// What the store says of itself.
     fn told(&self, text: &str, values: &[&(dyn ToSql + Sync)]) -> Result<String, StoreFault> {
-        self.waited(async || Ok(self.databases[0].taker.told(text, values).await?.get(0)))
+        self.waited(async || Ok(self.taker.told(text, values).await?.get(0)))
     }
 
     /// Where instances deliver to, as the first that started has said; empty before.
@@ -196,44 +181,30 @@ impl PostgresStore {
         self.told(schema::SET_SINK, &[&before, &now])
     }
 
-    /// How often each instance has beaten, in all databases together.
+    /// How often each instance has beaten.
     pub fn beats(&self) -> Result<BTreeMap<String, u64>, StoreFault> {
-        let mut beats: BTreeMap<String, u64> = BTreeMap::new();
-        for database in &self.databases {
-            for one in self.waited(async || database.beater.clone().instances().await)? {
-                *beats.entry(one.name).or_default() += one.beat;
-            }
-        }
-        Ok(beats)
+        let instances = self.waited(async || self.beater.clone().instances().await)?;
+        Ok(instances.into_iter().map(|one| (one.name, one.beat)).collect())
     }
 
-    /// Of each database, which one it is, where it says so.
-    pub fn databases(&self) -> Vec<Option<String>> {
-        self.identities.clone()
+    /// Which database it is in, if that says so.
+    pub fn identity(&self) -> Option<String> {
+        self.identity.clone()
     }
 
     pub fn counts(&self) -> &Arc<Counts> {
         &self.counts
     }
 
-    fn database(&self, slot: u16) -> &Database {
-        &self.databases[usize::from(slot) % self.databases.len()]
-    }
-
     /// The files of a slot that was taken under this term; none where another has it since. It asks until it knows.
     pub fn drive(&self, slot: u16, term: u64) -> Result<Arc<PostgresDrive>, Lost> {
-        let database = self.database(slot);
-        let server = database.taker.server.clone();
-        let together = database.together[usize::from(slot) / self.databases.len() % TOGETHER].clone();
-        let mut writer = Writer::new(server, slot.into(), term as i64, self.counts.clone(), together);
-        let files = self.runtime.wait(writer.open())?;
-        let (reader, runtime) = (database.reader.clone(), self.runtime.handle.clone());
-        Ok(Arc::new(PostgresDrive::new(writer, files, reader, runtime)))
+        let opened = self.runtime.wait(open(&self.reader, slot.into(), term as i64, &self.counts))?;
+        let runtime = &self.runtime.handle;
+        Ok(Arc::new(PostgresDrive::new(opened, &self.committer, &self.reader, runtime)))
     }
 
-    /// The databases, in their order.
-    pub fn names(&self) -> Vec<String> {
-        let servers = self.databases.iter().map(|one| one.reader.server.to_string());
-        servers.collect()
+    /// Its address, without a secret.
+    pub fn name(&self) -> String {
+        self.reader.server.to_string()
     }
 }

@@ -1,14 +1,13 @@
 create schema if not exists totxegun_store;
--- One row: what the store is, the same in each of its databases but for `place`. `state` is `counts`; `filling` while what
--- a folder has is on its way here, and the folder counts; `leaving` while it is on its way into a folder, and the store
--- counts; `gone` once the folder does. The first database's is the one that is believed. `sink` is where all goes, as the file
--- `version` of a folder has it.
+-- One row: what the store is. `state` is `counts`, or `filling` while what a folder has is on its way here: `move` is
+-- that folder's epoch. `sink` is where all goes, as the file `version` of a folder has it.
 create table totxegun_store.cluster (
-    id text primary key, version int not null, slots int not null, databases int not null, place int not null,
-    epoch text not null, reading text not null, secret text not null, state text not null default 'counts',
-    move text not null default '', folder text not null default '', sink text not null default '');
+    id text primary key, version int not null, slots int not null, epoch text not null, reading text not null,
+    secret text not null, state text not null default 'counts', move text not null default '',
+    folder text not null default '', sink text not null default '');
 create table totxegun_store.instance (
-    name text primary key, address text not null, version text not null, beat bigint not null,
+    -- Other instances bring posts to the one address, operators of other machines ask at the other; empty if they can't.
+    name text primary key, address text not null, operate text not null, version text not null, beat bigint not null,
     -- The slots that it can't open, and why, in JSON.
     refused text not null);
 -- The fence. Its rows are never deleted. What is written of a slot locks its row where term and link are as the writer
@@ -21,8 +20,7 @@ create table totxegun_store.delivered (
 create table totxegun_store.file (
     slot int not null, file bigint not null, name text not null, primary key (slot, file));
 -- Bytes of a file from a place on. A later number counts where two overlap; a slot has none twice. Packed (raw deflate) where
--- `bytes` has another length. As it has no gaps, and by this key, a row is 12 bytes less to be logged than in stores that were
--- made before, which had the key (slot, file, number).
+-- `bytes` has another length. The order of the columns leaves no gaps in a row.
 create table totxegun_store.piece (
     file bigint not null, number bigint not null, place bigint not null, slot int not null, length int not null,
     bytes bytea not null, primary key (slot, number));

@@ -1,8 +1,10 @@
 //! A connection with its statements, to the server that writes.
 
 use super::doubt::Doubt;
+use super::drive::{PackedPiece, Write};
 use super::shared::Stored;
 use crate::postgres::{self, Driver, Server};
+use std::collections::BTreeSet;
 use std::future::Future;
 use std::sync::atomic::{AtomicUsize, Ordering::Relaxed};
 use std::time::Duration;
@@ -26,73 +28,80 @@ const SETTINGS: &str =
     where current_setting('synchronous_commit') not in ('on', 'remote_apply')";
 
 /// Rows of a slot are looked up by their keys, also while the tables are small.
-const PLANS: &str = "set jit = off; set enable_seqscan = off; set plan_cache_mode = 'force_generic_plan'";
+const PLANS: &str =
+    "set jit = off; set enable_seqscan = off; set enable_hashjoin = off; set enable_mergejoin = off;
+    set plan_cache_mode = 'force_generic_plan'";
 
-/// The fence of each write, by slots, terms and links: those that are as these say. Another has the slots that are not there,
-/// or another connection is their owner's.
+/// The fence of each write, by slots, terms and links: those that are as these say, but for those that are locked, as by a write that
+/// waits for its standby. Another has the slots that are not there, or another link is their owner's.
 macro_rules! mine {
     () => {
         "with mine as (
-        select slot.slot, owned.write
-        from totxegun_store.slot, unnest($1::int[], $2::bigint[], $3::bigint[]) with ordinality as owned (slot, term, link, write)
+        select slot.slot from totxegun_store.slot, unnest($1::int[], $2::bigint[], $3::bigint[]) as owned (slot, term, link)
         where slot.slot = owned.slot and slot.term = owned.term and slot.link = owned.link
-        order by slot.slot for update of slot
+        order by slot.slot for update of slot skip locked
     )"
     };
 }
 
-/// All of a sync of one slot, or a part of it where it is long. Each part of it may be done again. A file's pieces have greater
-/// numbers than the file: so what was written before it is not looked at.
-const PUT: &str = concat!(
-    mine!(),
-    ", gone as (
-        delete from totxegun_store.piece using mine where piece.slot = mine.slot and piece.file = any($4::bigint[])
-        and piece.number > (select min(file) from unnest($4::bigint[]) as without (file))
-    ), gone_files as (
-        delete from totxegun_store.file using mine where file.slot = mine.slot and file.file = any($4::bigint[])
-    ), named as (
-        insert into totxegun_store.file (slot, file, name)
-        select mine.slot, new.file, new.name from mine, unnest($5::bigint[], $6::text[]) as new (file, name)
-        on conflict (slot, file) do update set name = excluded.name
-    ), put as (
-        insert into totxegun_store.piece (slot, file, number, place, length, bytes)
-        select mine.slot, new.file, new.number, new.place, new.length, new.bytes
-        from mine, unnest($7::bigint[], $8::bigint[], $9::bigint[], $10::int[], $11::bytea[])
-            as new (file, number, place, length, bytes)
-        on conflict do nothing
-    ) select write from mine"
-);
-
-/// The same of several slots, where there are no names and no files that go: as a rule. Each piece says which write it is of.
-macro_rules! append {
+macro_rules! pieces {
     () => {
-        concat!(
-            mine!(),
-            ", put as (
-        insert into totxegun_store.piece (slot, file, number, place, length, bytes)
+        "insert into totxegun_store.piece (slot, file, number, place, length, bytes)
         select mine.slot, new.file, new.number, new.place, new.length, new.bytes
-        from mine join unnest($4::bigint[], $5::bigint[], $6::bigint[], $7::bigint[], $8::int[], $9::bytea[])
-            as new (write, file, number, place, length, bytes) on new.write = mine.write"
-        )
+        from mine join unnest($4::int[], $5::bigint[], $6::bigint[], $7::bigint[], $8::int[], $9::bytea[])
+            as new (slot, file, number, place, length, bytes) on new.slot = mine.slot
+        "
     };
 }
 
-/// It may be done again.
-const APPEND: &str = concat!(append!(), " on conflict do nothing) select write from mine");
-/// Of pieces that were never sent before. A server that need not look for them first writes a tenth less.
-const APPEND_NEW: &str = concat!(append!(), ") select write from mine");
+/// Pieces of files, where there are no names and no files that go: as a rule. They were never sent before: a server that need not
+/// look for them first writes a tenth less.
+const APPEND: &str = concat!(mine!(), ", put as (", pieces!(), ") select slot from mine");
 
-const IS_THERE: &str =
-    "select count(*) from totxegun_store.piece where slot = $1 and file = $2 and number = $3";
+/// All that a write may have. It may be done again. A file's pieces have greater numbers than the file: so what was written before
+/// it is not looked at.
+const PUT: &str = concat!(
+    mine!(),
+    ", old as (
+        select slot, min(file) as least, array_agg(file) as files
+        from unnest($10::int[], $11::bigint[]) as old (slot, file) group by slot
+    ), gone as (
+        delete from totxegun_store.piece using mine, old where old.slot = mine.slot
+        and piece.slot = mine.slot and piece.file = any(old.files) and piece.number > old.least
+    ), gone_files as (
+        delete from totxegun_store.file using mine, old where old.slot = mine.slot
+        and file.slot = mine.slot and file.file = any(old.files)
+    ), named as (
+        insert into totxegun_store.file (slot, file, name)
+        select mine.slot, new.file, new.name
+        from mine join unnest($12::int[], $13::bigint[], $14::text[]) as new (slot, file, name) on new.slot = mine.slot
+        on conflict (slot, file) do update set name = excluded.name
+    ), put as (",
+    pieces!(),
+    "on conflict do nothing) select slot from mine"
+);
+
+/// What a statement has at most, and a piece.
+const MOST: usize = 16 << 20;
+
+/// None where another has the slot, or its row is locked.
+const RAISE: &str = "with mine as (
+        select slot from totxegun_store.slot where slot = $1 and term = $2 for update skip locked
+    ) update totxegun_store.slot set link = link + 1 from mine where slot.slot = mine.slot returning slot.link";
+const IS_OURS: &str = "select count(*) from totxegun_store.slot where slot = $1 and term = $2";
+
+/// Which of these pieces are there.
+const ARE_THERE: &str =
+    "select piece.slot from unnest($1::int[], $2::bigint[]) as last (slot, number), totxegun_store.piece
+    where piece.slot = last.slot and piece.number = last.number";
 
 const PIECES: &str = "select number, length, bytes from totxegun_store.piece
     where slot = $1 and file = $2 and number = any($3::bigint[])";
 
 pub(super) struct Session {
     pub client: Client,
-    pub put: Statement,
-    pub append: Statement,
-    pub append_new: Statement,
+    append: Statement,
+    put: Statement,
     pieces: Statement,
     driver: Driver,
     /// One write at a time: whose warning it is must be known.
@@ -103,11 +112,9 @@ impl Session {
     pub async fn open(server: &Server) -> Result<Session, Doubt> {
         let (client, driver) = connect(server).await?;
         let of = |text| client.prepare(text);
-        let preparing = async {
-            Ok::<_, Error>([of(PUT).await?, of(APPEND).await?, of(APPEND_NEW).await?, of(PIECES).await?])
-        };
-        let [put, append, append_new, pieces] = within(CONNECT, preparing).await?;
-        Ok(Session { client, put, append, append_new, pieces, driver, writing: Mutex::new(()) })
+        let preparing = async { Ok::<_, Error>([of(APPEND).await?, of(PUT).await?, of(PIECES).await?]) };
+        let [append, put, pieces] = within(CONNECT, preparing).await?;
+        Ok(Session { client, append, put, pieces, driver, writing: Mutex::new(()) })
     }
 
     /// Those of these pieces that are there.
@@ -125,24 +132,147 @@ impl Session {
 
     /// What a write answered, where no doubt came with it.
     pub async fn written<T>(&self, write: impl Future<Output = Result<T, Error>>) -> Result<T, Doubt> {
+        self.written_within(SILENT, write).await
+    }
+
+    /// The same of several statements.
+    async fn written_within<T>(
+        &self,
+        limit: Duration,
+        write: impl Future<Output = Result<T, Error>>,
+    ) -> Result<T, Doubt> {
         let _one = self.writing.lock().await;
         self.driver.warnings.take(); // of before
-        let answer = within(SILENT, write).await?;
+        let answer = within(limit, write).await?;
         match self.driver.warnings.take() {
             None => Ok(answer),
             Some(warning) => Err(Doubt::Warned(warning)),
         }
     }
+
+    /// Raises a slot's link: what it is then, and all that is read from here on is behind a committed write under the term. None
+    /// where another has the slot.
+    pub async fn raise_link(&self, slot: i32, term: i64) -> Result<Option<i64>, Doubt> {
+        let key: [&(dyn ToSql + Sync); 2] = [&slot, &term];
+        if let Some(row) = self.written(self.client.query_opt(RAISE, &key)).await? {
+            return Ok(Some(row.get(0)));
+        }
+        let found = within(SILENT, self.client.query_one(IS_OURS, &key)).await?;
+        match found.get::<_, i64>(0) {
+            0 => Ok(None),
+            _ => Err(Doubt::Locked),
+        }
+    }
+
+    /// The slots of these writes of which the server has the last piece that it said is durable: that is asked of each connection
+    /// before it is believed. A server that another had to stand in for may not have got all.
+    pub async fn whole(&self, writes: &[&Write]) -> Result<BTreeSet<i32>, Doubt> {
+        let last = |write: &&&Write| {
+            let last = write.owner.fence().last.filter(|(file, _)| !write.packed.gone.contains(file));
+            last.map(|(_, number)| (write.owner.slot, number))
+        };
+        let (asked, whole): (Vec<&&Write>, Vec<&&Write>) =
+            writes.iter().partition(|write| last(write).is_some());
+        let mut whole: BTreeSet<i32> = whole.iter().map(|write| write.owner.slot).collect();
+        let (slots, numbers): (Vec<i32>, Vec<i64>) = asked.iter().filter_map(last).unzip();
+        if !slots.is_empty() {
+            let found = within(SILENT, self.client.query(ARE_THERE, &[&slots, &numbers])).await?;
+            whole.extend(found.iter().map(|row| row.get::<_, i32>(0)));
+        }
+        Ok(whole)
+    }
+
+    /// Does writes of slots, each once, in one transaction: which of the slots were their owners'. Each of its statements may take as
+    /// long as one alone.
+    pub async fn put(&self, writes: &[&Write]) -> Result<BTreeSet<i32>, Doubt> {
+        let parts = parts_of(writes);
+        match &parts[..] {
+            [only] => self.written(self.put_part(writes, only, true)).await,
+            _ => self.written_within(SILENT * parts.len() as u32, self.put_parts(writes, &parts)).await,
+        }
+    }
+
+    /// Whether these are several statements.
+    pub fn is_long(&self, writes: &[&Write]) -> bool {
+        parts_of(writes).len() > 1
+    }
+
+    /// All of it, or nothing.
+    async fn put_parts(&self, writes: &[&Write], parts: &[Vec<OfSlot<'_>>]) -> Result<BTreeSet<i32>, Error> {
+        self.client.batch_execute("begin").await?;
+        let mut done = BTreeSet::new();
+        for (number, part) in parts.iter().enumerate() {
+            done = self.put_part(writes, part, number == 0).await?;
+            if done.len() < writes.len() {
+                self.client.batch_execute("rollback").await?;
+                return Ok(BTreeSet::new());
+            }
+        }
+        self.client.batch_execute("commit").await?;
+        Ok(done)
+    }
+
+    async fn put_part(
+        &self,
+        writes: &[&Write],
+        pieces: &[OfSlot<'_>],
+        is_first: bool,
+    ) -> Result<BTreeSet<i32>, Error> {
+        let slots: Vec<i32> = writes.iter().map(|write| write.owner.slot).collect();
+        let terms: Vec<i64> = writes.iter().map(|write| write.owner.term).collect();
+        let links: Vec<i64> = writes.iter().map(|write| write.owner.fence().link).collect();
+        let column =
+            |of: fn(&PackedPiece) -> i64| -> Vec<i64> { pieces.iter().map(|(_, piece)| of(piece)).collect() };
+        let of_slots: Vec<i32> = pieces.iter().map(|(slot, _)| *slot).collect();
+        let (files, numbers, places) =
+            (column(|piece| piece.file), column(|piece| piece.number), column(|piece| piece.place));
+        let lengths: Vec<i32> = pieces.iter().map(|(_, piece)| piece.length).collect();
+        let bytes: Vec<&[u8]> = pieces.iter().map(|(_, piece)| &piece.bytes[..]).collect();
+        let mut values: Vec<&(dyn ToSql + Sync)> =
+            vec![&slots, &terms, &links, &of_slots, &files, &numbers, &places, &lengths, &bytes];
+        let is_append = writes.iter().all(|write| !write.is_repeat && write.packed.only_appends());
+        let named = || writes.iter().filter(|_| is_first);
+        let gone = named().flat_map(|write| write.packed.gone.iter().map(|file| (write.owner.slot, *file)));
+        let (gone_slots, gone): (Vec<i32>, Vec<i64>) = gone.unzip();
+        let names =
+            || named().flat_map(|write| write.packed.named.iter().map(|named| (write.owner.slot, named)));
+        let (named_slots, named): (Vec<i32>, Vec<i64>) =
+            names().map(|(slot, (file, _))| (slot, *file)).unzip();
+        let names: Vec<&str> = names().map(|(_, (_, name))| name.as_str()).collect();
+        let others: [&(dyn ToSql + Sync); 5] = [&gone_slots, &gone, &named_slots, &named, &names];
+        let statement = match is_append {
+            true => &self.append,
+            false => {
+                values.extend(others);
+                &self.put
+            }
+        };
+        let done = self.client.query(statement, &values).await?;
+        Ok(done.iter().map(|row| row.get(0)).collect())
+    }
 }
 
-/// Whether a server has a piece: that is asked of each connection before it is believed.
-pub(super) async fn is_there(session: &Session, slot: i32, piece: Option<(i64, i64)>) -> Result<bool, Doubt> {
-    let Some((file, number)) = piece else {
-        return Ok(true);
+/// A piece with its slot.
+type OfSlot<'w> = (i32, &'w PackedPiece);
+
+/// The pieces of writes by statements: one at least.
+fn parts_of<'w>(writes: &[&'w Write]) -> Vec<Vec<OfSlot<'w>>> {
+    let (mut parts, mut size) = (vec![Vec::new()], 0);
+    let of_write = |write: &&'w Write| {
+        let (slot, pieces) = (write.owner.slot, &write.packed.pieces);
+        pieces.iter().map(move |piece| (slot, piece))
     };
-    let key: [&(dyn ToSql + Sync); 3] = [&slot, &file, &number];
-    let found = within(SILENT, session.client.query_one(IS_THERE, &key)).await?;
-    Ok(found.get::<_, i64>(0) == 1)
+    for (slot, piece) in writes.iter().flat_map(of_write) {
+        size += piece.bytes.len();
+        if size > MOST {
+            parts.push(Vec::new());
+            size = piece.bytes.len();
+        }
+        if let Some(part) = parts.last_mut() {
+            part.push((slot, piece));
+        }
+    }
+    parts
 }
 
 pub(super) async fn within<T>(

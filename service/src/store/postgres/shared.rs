@@ -54,23 +54,63 @@ impl Shared {
         loop {
             match self.try_pieces(slot, file, numbers).await {
                 Ok(found) => return found,
-                Err(doubt) if NOT_READ.is_due() => {
-                    let reason = doubt.to_string();
-                    tracing::warn!(
-                        slot,
-                        reason,
-                        "slot {slot}: it can't be read, and is tried again: {reason}"
-                    );
-                }
-                Err(_) => {}
+                Err(doubt) => tell(slot.into(), &doubt),
             }
             backoff.wait().await;
         }
+    }
+
+    /// The same by the server that takes the writes: none of these is behind a write that it has. None where another has the
+    /// slot. `raised` gets the slot's link.
+    pub async fn confirmed_pieces(
+        &self,
+        (slot, term): (i32, i64),
+        file: u64,
+        numbers: &[u64],
+        raised: impl Fn(i64),
+    ) -> Option<Vec<Stored>> {
+        let mut backoff = Backoff::default();
+        loop {
+            let confirmed = self.behind_a_write(slot, term, async |session, link| {
+                raised(link);
+                session.pieces(slot, file, numbers).await
+            });
+            match confirmed.await {
+                Ok(found) => return found,
+                Err(doubt) => tell(slot, &doubt),
+            }
+            backoff.wait().await;
+        }
+    }
+
+    /// What is read behind a committed write under the term, which has raised the slot's link. None where another has the slot.
+    pub async fn behind_a_write<T>(
+        &self,
+        slot: i32,
+        term: i64,
+        read: impl AsyncFnOnce(&Session, i64) -> Result<T, Doubt>,
+    ) -> Result<Option<T>, Doubt> {
+        let session = self.session().await?;
+        let reading = async {
+            match session.raise_link(slot, term).await? {
+                Some(link) => read(&session, link).await.map(Some),
+                None => Ok(None),
+            }
+        };
+        let found = reading.await;
+        self.heard(&session, found).await
     }
 
     async fn try_pieces(&self, slot: u16, file: u64, numbers: &[u64]) -> Result<Vec<Stored>, Doubt> {
         let session = self.session().await?;
         let found = session.pieces(slot.into(), file, numbers).await;
         self.heard(&session, found).await
+    }
+}
+
+pub(super) fn tell(slot: i32, doubt: &Doubt) {
+    if NOT_READ.is_due() {
+        let reason = doubt.to_string();
+        tracing::warn!(slot, reason, "slot {slot}: it can't be read, and is tried again: {reason}");
     }
 }

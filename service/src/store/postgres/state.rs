@@ -1,5 +1,4 @@
-//! Whether what is in a store counts: where a folder's content is on its way here, or the store's into a folder, one row says
-//! which of both does. It is that of the first database; the others follow it.
+//! Whether what is in a store counts: not while a folder's content is on its way here.
 
 use super::doubt::{Backoff, Doubt};
 use super::fault::StoreFault;
@@ -7,9 +6,6 @@ use super::session::{within, SILENT};
 use super::shared::Shared;
 use super::terms::RELEASE;
 use super::PostgresStore;
-use crate::cluster::terms::Instance;
-use std::collections::BTreeSet;
-use std::sync::Arc;
 use std::time::Duration;
 use tokio_postgres::types::ToSql;
 
@@ -23,35 +19,26 @@ pub enum State {
     Counts,
     /// A folder does, whose content is on its way here.
     Filling,
-    /// It does, and what it has is on its way into a folder.
-    Leaving,
-    /// The folder does that has all now.
-    Gone,
 }
 
-const STATES: [(State, &str); 4] = [
-    (State::Counts, "counts"),
-    (State::Filling, "filling"),
-    (State::Leaving, "leaving"),
-    (State::Gone, "gone"),
-];
+const STATES: [(State, &str); 2] = [(State::Counts, "counts"), (State::Filling, "filling")];
 
 #[derive(Clone, Debug, PartialEq, Eq)]
 pub struct Standing {
     pub state: State,
-    /// The last move, where there was one, and behind it the one before that came to its end; and the folder of the last.
+    /// The epoch of the folder that is moved, or was, and where it is.
     pub id: String,
     pub folder: String,
 }
 
 /// A write, so that what it reads is there for good.
-const STANDING: &str = "update totxegun_store.cluster set place = place returning state, move, folder";
+const STANDING: &str = "update totxegun_store.cluster set id = id returning state, move, folder";
 const CHANGE: &str = "update totxegun_store.cluster set state = $1, move = $2, folder = $3
     where state = $4 and move = $5";
 const FILES: &str = "select count(*) from totxegun_store.file";
 const TAKE: &str = "update totxegun_store.slot set term = term + 1, link = 0, owner = $3
     where slot = $1 and term = $2
-    and exists (select from totxegun_store.cluster where move = $4 and state in ('filling', 'leaving'))";
+    and exists (select from totxegun_store.cluster where move = $4 and state = 'filling')";
 /// Who takes a slot to move it.
 const MOVER: &str = "store move";
 
@@ -61,27 +48,15 @@ fn name_of(state: State) -> &'static str {
 }
 
 impl Standing {
-    /// Whether a folder's move into this store, of this id, has come to its end: also where more was moved since.
-    pub fn has_had(&self, id: &str) -> bool {
-        self.state != State::Filling && self.id.ends_with(id)
-    }
-
     /// Why no service starts on the store; none where one may.
     pub fn refusal(&self) -> Option<String> {
         let folder = &self.folder;
         match self.state {
             State::Counts => None,
             State::Filling => Some(format!(
-                "what the folder {folder} has is on its way into this store, and until it is there the folder counts: end the \
-                 move by `totxegun store move --from {folder} ADDRESS`, or give it up by `--give-up --from {folder}`"
-            )),
-            State::Leaving => Some(format!(
-                "what this store has is on its way into the folder {folder}, and until it is there the store counts: end the \
-                 move by `totxegun store move --to {folder} ADDRESS`, or give it up by `totxegun store move --give-up ADDRESS`"
-            )),
-            State::Gone => Some(format!(
-                "what this store had was moved into the folder {folder}, which counts in its place: start with --data \
-                 {folder}. For another store: `drop schema totxegun_store cascade`, and `totxegun store init`"
+                "what the folder {folder} has is on its way into this store, and it counts once all is there: call `totxegun store \
+                 move --from {folder} ADDRESS` again; for another folder `drop schema totxegun_store cascade`, and `totxegun store \
+                 init`"
             )),
         }
     }
@@ -93,8 +68,8 @@ impl Shared {
         let name: &str = row.get(0);
         let state = STATES.iter().find(|(_, known)| *known == name);
         Ok(Standing {
-            // What is not known here is of a later version: it must not be served.
-            state: state.map_or(State::Gone, |(state, _)| *state),
+            // What is not known here must not be served.
+            state: state.map_or(State::Filling, |(state, _)| *state),
             id: row.get(1),
             folder: row.get(2),
         })
@@ -114,14 +89,6 @@ impl Shared {
 }
 
 impl PostgresStore {
-    fn takers(&self) -> impl Iterator<Item = &Arc<Shared>> {
-        self.databases.iter().map(|one| &one.taker)
-    }
-
-    fn first(&self) -> &Shared {
-        &self.databases[0].taker
-    }
-
     /// Tries until there is an answer, but not for ever.
     fn tried<T>(&self, step: impl AsyncFn() -> Result<T, Doubt>) -> Result<T, StoreFault> {
         self.runtime.wait(async {
@@ -139,94 +106,50 @@ impl PostgresStore {
     }
 
     pub fn standing(&self) -> Result<Standing, StoreFault> {
-        self.tried(async || self.first().standing().await)
+        self.tried(async || self.taker.standing().await)
     }
 
-    /// Passes where the store counts. Databases that a move which was killed has not told so are told now.
+    /// Passes where the store counts.
     pub(super) fn admit(&self) -> Result<(), StoreFault> {
-        let standing = self.standing()?;
-        match standing.refusal() {
+        match self.standing()?.refusal() {
             Some(why) => Err(StoreFault::Moved(why)),
-            None => self.follow(&standing),
+            None => Ok(()),
         }
     }
 
     /// Changes the state, where it is as it was seen: the one that there is then.
     pub fn change(&self, seen: &Standing, to: &Standing) -> Result<Standing, StoreFault> {
         self.tried(async || {
-            self.first().change(seen, to).await?;
-            self.first().standing().await
+            self.taker.change(seen, to).await?;
+            self.taker.standing().await
         })
-    }
-
-    /// The other databases come to what the first says.
-    pub fn follow(&self, standing: &Standing) -> Result<(), StoreFault> {
-        self.tried(async || {
-            for database in self.takers().skip(1) {
-                let there = database.standing().await?;
-                if there != *standing {
-                    database.change(&there, standing).await?;
-                }
-            }
-            Ok(())
-        })
-    }
-
-    /// Whether it is so in each database.
-    fn is_in_all(&self, is_so: impl AsyncFn(&Shared) -> Result<bool, Doubt>) -> Result<bool, StoreFault> {
-        self.tried(async || {
-            for database in self.takers() {
-                if !is_so(database).await? {
-                    return Ok(false);
-                }
-            }
-            Ok(true)
-        })
-    }
-
-    /// Whether each database says the same.
-    pub fn all_say(&self, standing: &Standing) -> Result<bool, StoreFault> {
-        self.is_in_all(async |database| Ok(database.standing().await? == *standing))
     }
 
     /// Whether no slot ever had anything.
     pub fn is_empty(&self) -> Result<bool, StoreFault> {
-        self.is_in_all(async |database| Ok(!database.has_files().await?))
-    }
-
-    /// Those that each database has.
-    async fn all_instances(&self) -> Result<Vec<Vec<Instance>>, Doubt> {
-        let mut all = Vec::new();
-        for database in self.takers() {
-            all.push(database.clone().instances().await?);
-        }
-        Ok(all)
+        self.tried(async || Ok(!self.taker.has_files().await?))
     }
 
     /// Instances whose beats go on. It takes some seconds where there were any.
     pub fn running(&self) -> Result<Vec<String>, StoreFault> {
         self.tried(async || {
-            let before = self.all_instances().await?;
-            if before.iter().all(Vec::is_empty) {
+            let before = self.taker.clone().instances().await?;
+            if before.is_empty() {
                 return Ok(Vec::new());
             }
             tokio::time::sleep(STILL).await;
-            let after = self.all_instances().await?;
-            let changed = before.iter().zip(&after);
-            let goes_on =
-                changed.flat_map(|(before, after)| after.iter().filter(|one| !before.contains(one)));
-            let names: BTreeSet<String> = goes_on.map(|one| one.name.clone()).collect();
-            Ok(names.into_iter().collect())
+            let after = self.taker.clone().instances().await?;
+            let goes_on = after.into_iter().filter(|one| !before.contains(one));
+            Ok(goes_on.map(|one| one.name).collect())
         })
     }
 
     /// Takes a slot to move what it has. Nobody else can take it meanwhile.
     pub fn take_to_move(&self, slot: u16, id: &str) -> Result<u64, StoreFault> {
-        let taker = self.taker(slot);
         let taken = self.tried(async || {
-            let rows = taker.clone().slots().await?;
+            let rows = self.taker.clone().slots().await?;
             let seen = rows.iter().find(|row| row.slot == slot).map_or(0, |row| row.term);
-            let taken = taker.write(TAKE, &[&i32::from(slot), &(seen as i64), &MOVER, &id]).await?;
+            let taken = self.taker.write(TAKE, &[&i32::from(slot), &(seen as i64), &MOVER, &id]).await?;
             Ok((taken == 1).then_some(seen + 1))
         });
         taken?.ok_or(StoreFault::Meanwhile)
@@ -234,8 +157,7 @@ impl PostgresStore {
 
     /// Gives back a slot that was taken so.
     pub fn release_moved(&self, slot: u16, term: u64) -> Result<(), StoreFault> {
-        let taker = self.taker(slot);
-        match self.tried(async || taker.write(RELEASE, &[&i32::from(slot), &(term as i64)]).await)? {
+        match self.tried(async || self.taker.write(RELEASE, &[&i32::from(slot), &(term as i64)]).await)? {
             1 => Ok(()),
             _ => Err(StoreFault::Meanwhile),
         }

@@ -78,7 +78,7 @@ pub fn secret(text: &str) -> Secret {
 
 /// An instance that has slot 3, or not.
 pub fn internal(slots: Slots, whose: Whose) -> (Arc<Cluster>, Arc<Slots>, Arc<Internal<Slots>>) {
-    let (cluster, slots) = (Cluster::new("peer", 1), Arc::new(slots));
+    let (cluster, slots) = (Cluster::new("peer"), Arc::new(slots));
     cluster.knows(&[(3, whose)]);
     let internal = Internal::new(cluster.clone(), slots.clone(), secret("of all"), Arc::new(Echoes));
     (cluster, slots, internal)
@@ -118,17 +118,9 @@ pub fn there(address: &str) -> Whose {
     Whose::There { name: "peer".into(), address: address.into(), term: 5 }
 }
 
-/// Who gets posts of senders, in a store of two databases, of which that of odd slots does not answer.
-pub fn half_deaf(places: &[(u16, Whose)]) -> Arc<Forward<Slots>> {
-    let cluster = Cluster::new("receiver", 2);
-    cluster.knows(places);
-    cluster.database(1).is_silent_for(Duration::from_secs(10));
-    Arc::new(Forward::new(cluster, secret("of all"), None))
-}
-
 /// Who gets posts of senders.
 pub fn receiver(whose: Whose, secret: Secret) -> Arc<Forward<Slots>> {
-    let cluster = Cluster::new("receiver", 1);
+    let cluster = Cluster::new("receiver");
     cluster.knows(&[(3, whose)]);
     Arc::new(Forward::new(cluster, secret, None))
 }

@@ -20,6 +20,7 @@ fn among(others: usize, whose: Whose) -> Receiver {
     let instance = |number: usize| Instance {
         name: format!("other-{number}"),
         address: "there".into(),
+        operate: String::new(),
         version: String::new(),
         beat: 1,
         refused: Default::default(),

@@ -34,6 +34,7 @@ impl Store {
         let instances = self.instances.iter().map(|(name, (beat, stay, refused))| Instance {
             name: name.clone(),
             address: if *stay == Some(Stay::Here) { format!("{name}:1") } else { String::new() },
+            operate: String::new(),
             version: "1".into(),
             beat: *beat,
             refused: refused.clone(),

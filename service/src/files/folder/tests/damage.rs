@@ -1,4 +1,4 @@
-//! Slots that are gone, and a journal and an outbox of which one is older.
+//! A slot that is gone, and a journal and an outbox of which one is older.
 
 use super::*;
 
@@ -6,30 +6,23 @@ use super::*;
 fn a_slot_that_was_made_and_is_gone_is_refused_by_name_until_it_is_back() {
     let place = tempfile::tempdir().unwrap();
     let folder = open(place.path()).unwrap();
-    folder.set_slots(3).unwrap();
-    for number in [2, 0, 1] {
-        drop(folder.slot(number).unwrap());
+    drop(folder.slot().unwrap());
+    let (slot, moved) = (place.path().join("slot-0"), place.path().join("moved"));
+    for name in ["", "outbox"] {
+        std::fs::rename(slot.join(name), &moved).unwrap();
+        let fault = folder.slot().err().unwrap().to_string();
+        assert!(fault.contains("slot-0/outbox") && fault.contains("back"), "{fault}");
+        assert!(!folder.is_empty());
+        std::fs::rename(&moved, slot.join(name)).unwrap();
+        drop(folder.slot().unwrap());
     }
-    folder.set_slots(1).unwrap();
-    for number in [0, 2] {
-        let (slot, moved) = (place.path().join(format!("slot-{number}")), place.path().join("moved"));
-        for name in ["", "outbox"] {
-            std::fs::rename(slot.join(name), &moved).unwrap();
-            let fault = folder.outbox(number).err().unwrap().to_string();
-            assert!(fault.contains(&format!("slot-{number}/outbox")) && fault.contains("back"), "{fault}");
-            std::fs::rename(&moved, slot.join(name)).unwrap();
-        }
-        assert!(folder.slots_with_files().unwrap().contains(&number));
-        drop(folder.outbox(number).unwrap());
-    }
-    let journal = place.path().join("slot-0/journal");
-    let moved = place.path().join("moved");
+    let journal = slot.join("journal");
     std::fs::rename(&journal, &moved).unwrap();
-    let fault = folder.slot(0).err().unwrap().to_string();
-    assert!(fault.contains("slot-0/journal/000000000001.seg") && fault.contains("missing"), "{fault}");
+    let fault = folder.slot().err().unwrap().to_string();
+    assert!(fault.contains("slot-0/journal/0000000000") && fault.contains("missing"), "{fault}");
     std::fs::remove_dir_all(&journal).unwrap();
     std::fs::rename(&moved, &journal).unwrap();
-    folder.slot(0).unwrap();
+    folder.slot().unwrap();
 }
 
 fn post(text: &str) -> Post {
@@ -44,7 +37,7 @@ fn copied(from: &Path, to: &Path) {
 /// Three checkpoints, with a post behind each; the folder's slot is copied ahead of each.
 fn with_three_commits(place: &Path) {
     let folder = open(place).unwrap();
-    let (journal, outbox) = folder.slot(0).unwrap();
+    let (journal, outbox) = folder.slot().unwrap();
     for number in 1..4 {
         copied(&place.join("slot-0"), &place.join(format!("copy-{number}")));
         journal.write(journal.append(&post("a"), &NoNames)).unwrap();
@@ -68,13 +61,13 @@ fn an_older_journal_or_outbox_is_refused_by_the_name_of_what_is_older() {
             copied(&at("kept"), &at("slot-0"));
             std::fs::remove_dir_all(at("slot-0").join(part)).unwrap();
             copied(&at(&format!("copy-{number}")).join(part), &at("slot-0").join(part));
-            let fault = open(place.path()).unwrap().slot(0).err().unwrap().to_string();
+            let fault = open(place.path()).unwrap().slot().err().unwrap().to_string();
             assert!(fault.contains(named), "{number} {part}: {fault}");
             std::fs::remove_dir_all(at("slot-0")).unwrap();
             std::fs::rename(at("kept"), at("slot-0")).unwrap();
         }
     }
-    open(place.path()).unwrap().slot(0).unwrap();
+    open(place.path()).unwrap().slot().unwrap();
 }
 
 /// Else a journal's segment is asked for that was rightly deleted.
@@ -92,7 +85,7 @@ fn an_outbox_that_was_cut_is_named_wherever_it_was_cut() {
         std::fs::write(at("version"), &version).unwrap();
         copied(&at("kept"), &at("slot-0"));
         std::fs::write(&last, &whole[..length]).unwrap();
-        if let Err(fault) = open(place.path()).unwrap().slot(0) {
+        if let Err(fault) = open(place.path()).unwrap().slot() {
             refused += 1;
             assert!(fault.to_string().contains("slot-0/outbox/"), "{length}: {fault}");
         }

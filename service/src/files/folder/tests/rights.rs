@@ -37,7 +37,7 @@ fn has_no_rights() {
     println!("refused: {}", unusable(Path::new(&path)));
 }
 
-/// As where root calls `totxegun store move` on the folder of the unit's user, and gives it up: that user starts there again.
+/// As if root calls `totxegun store move` on the folder of the unit's user, and is refused: that user starts there again.
 #[test]
 fn what_root_makes_in_a_folder_of_another_user_is_that_user_s() {
     use std::os::unix::fs::chown;
@@ -47,13 +47,12 @@ fn what_root_makes_in_a_folder_of_another_user_is_that_user_s() {
         std::iter::once(path.to_path_buf()).chain(below.flat_map(|entry| all(&entry.path()))).collect()
     }
     let place = tempfile::tempdir().unwrap();
-    drop(open(place.path()).unwrap().slot(0).unwrap());
+    drop(open(place.path()).unwrap().slot().unwrap());
     if all(place.path()).iter().any(|path| chown(path, Some(USER), Some(USER)).is_err()) {
         return eprintln!("skipped: no right to give files away");
     }
     let folder = open(place.path()).unwrap();
-    drop(folder.slot(0).unwrap());
-    drop(folder.slot(1).unwrap()); // as where `store move --to` brings slots back
+    drop(folder.slot().unwrap());
     folder.renew_epoch().unwrap();
     for path in all(place.path()) {
         assert_eq!(std::fs::metadata(&path).unwrap().uid(), USER, "{}", path.display());
@@ -86,7 +85,7 @@ fn a_folder_without_rights_is_refused_by_name() {
         |path: &Path, mode| std::fs::set_permissions(path, std::fs::Permissions::from_mode(mode)).unwrap();
     all_may(place.path(), 0o755);
     let folder = place.path().join("folder");
-    drop(open(&folder).unwrap().slot(0).unwrap());
+    drop(open(&folder).unwrap().slot().unwrap());
     let is_root = std::fs::metadata("/proc/self").unwrap().uid() == 0;
     let refused = |path: &Path| {
         let mut this = std::process::Command::new("/proc/self/exe");

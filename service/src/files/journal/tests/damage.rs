@@ -71,7 +71,7 @@ fn in_a_segment_that_was_ended_each_changed_or_missing_byte_is_named() {
 }
 
 #[test]
-fn a_later_version_and_a_missing_segment_are_refused_by_name() {
+fn another_version_and_a_missing_segment_are_refused_by_name() {
     let folder = tempfile::tempdir().unwrap();
     let journal = open(folder.path());
     journal.turn();
@@ -82,11 +82,14 @@ fn a_later_version_and_a_missing_segment_are_refused_by_name() {
     std::fs::remove_file(&path).unwrap();
     let fault = open_on(&Disk::default(), folder.path(), Durability::Process).err().unwrap().to_string();
     assert!(fault.contains("000000000002.seg") && fault.contains("missing"), "{fault}");
-    let mut later = Vec::new();
-    records::put(&mut later, records::HEADER, &[b"totxegun", &5u16.to_le_bytes(), b"what comes"]);
-    std::fs::write(&path, &later).unwrap();
-    let fault = open_on(&Disk::default(), folder.path(), Durability::Process).err().unwrap().to_string();
-    assert!(fault.contains("format version 5, and this totxegun reads up to 4"), "{fault}");
+    for version in [0u16, 2] {
+        let mut other = Vec::new();
+        records::put(&mut other, records::HEADER, &[b"totxegun", &version.to_le_bytes(), b"what comes"]);
+        std::fs::write(&path, &other).unwrap();
+        let fault = open_on(&Disk::default(), folder.path(), Durability::Process).err().unwrap().to_string();
+        let wanted = format!("is of format version {version}, and this totxegun reads 1 alone");
+        assert!(fault.contains(&wanted) && fault.contains("another --data"), "{fault}");
+    }
     std::fs::write(&path, &sound).unwrap();
     open(folder.path());
 }

@@ -149,27 +149,6 @@ fn more_senders_than_files_are_open_at_a_time_and_long_posts_are_moved() {
     assert!(found.contains(&of("s7", &long)) && journal.held().posts == 451);
 }
 
-/// 0.5.0 copied posts of quarantined senders into the next segment.
-#[test]
-fn copies_in_a_folder_of_an_earlier_version_are_moved() {
-    let folder = place();
-    let journal = open(folder.path());
-    append(&journal, "a");
-    let (first, _) = journal.turn();
-    append_copy(&journal, "a");
-    append_copy(&journal, "b");
-    append_of(&journal, "other", "1");
-    journal.forget(first).unwrap();
-    kill(journal);
-    let open = |reach| open_from(&Disk::default(), folder.path(), Durability::Process, reach).unwrap();
-    let journal = open(first);
-    let next = checkpoint(&journal, &names(&[&post("a").sender]), first);
-    journal.forget(next).unwrap();
-    assert_eq!((texts(&journal, next), journal.held().posts), (vec!["a".into(), "b".into()], 2));
-    kill(journal);
-    assert_eq!(texts(&open(next), next), ["a", "b"]);
-}
-
 /// The outbox has no group of the checkpoint: the segments still have the posts.
 #[test]
 fn what_was_moved_before_a_commit_that_did_not_come_counts_once() {

@@ -127,19 +127,9 @@ fn points_without_a_name_are_refused_by_name() {
     assert!(fault.contains(&place), "{fault}");
 }
 
-/// An earlier totxegun looks at this number, and says that it is a later one's.
+/// Byte by byte: what was written once is read.
 #[test]
-fn a_journal_that_may_have_names_after_another_is_of_version_4() {
-    let folder = tempfile::tempdir().unwrap();
-    kill(open(folder.path()));
-    let found = bytes(&segment::path(folder.path(), 1));
-    let header = &found[records::MARK_LENGTHS[1]..];
-    assert_eq!(header[8..19], [1, b't', b'o', b't', b'x', b'e', b'g', b'u', b'n', 4, 0]);
-}
-
-/// Byte by byte as 0.5.0 writes them.
-#[test]
-fn a_segment_and_a_file_of_a_sender_of_version_1_go_on() {
+fn a_segment_and_a_file_of_a_sender_go_on_behind_these_bytes() {
     let folder = tempfile::tempdir().unwrap();
     let header = |which: u8, number: u64| {
         let mut header = Vec::new();
@@ -155,8 +145,8 @@ fn a_segment_and_a_file_of_a_sender_of_version_1_go_on() {
     };
     let held = [header(3, 0), record(16, "a", b"1234")].concat();
     let mut list = Vec::new();
-    records::put(&mut list, 18, &[format!(r#"[["a",1,{}]]"#, held.len()).as_bytes()]);
-    let segment = [header(1, 1), list, record(16, "b", b"12"), record(17, "a", b"123456")];
+    records::put(&mut list, 17, &[format!(r#"[["a",1,{}]]"#, held.len()).as_bytes()]);
+    let segment = [header(1, 1), list, record(16, "b", b"12"), record(16, "a", b"123456")];
     std::fs::write(segment::path(folder.path(), 1), segment.concat()).unwrap();
     std::fs::write(folder.path().join("a.held"), held).unwrap();
     let journal = open(folder.path());

@@ -1,8 +1,6 @@
 //! Who waits for the disk, and what happens where it fails.
 
 use super::*;
-use crate::files::drive::{self, memory::Step, memory::Store};
-use std::sync::{OnceLock, Weak};
 
 #[tokio::test(flavor = "multi_thread")]
 async fn one_sync_is_for_all_that_wait_and_nobody_is_told_before() {
@@ -274,33 +272,5 @@ fn sizes_are_told_while_a_write_stalls_and_how_long_it_does() {
     assert!(size.is_ok_and(|size| size.0 > before.0), "nobody waits for the write");
     while journal.under_way() > Duration::ZERO {
         std::thread::sleep(Duration::from_millis(1));
-    }
-}
-
-/// In a store, where others wait for the sync that it is aboard for: its write fails, or the slot ends before.
-#[test]
-fn who_came_aboard_and_can_not_sync_keeps_no_other_slot_waiting() {
-    for ends in [false, true] {
-        let (fails, opened) = (Arc::<AtomicBool>::default(), Arc::<OnceLock<Weak<Journal>>>::default());
-        let (failing, ending) = (fails.clone(), opened.clone());
-        let owner = Arc::<Store>::default().take_with(move |step| {
-            if step != Step::Write || !failing.swap(false, SeqCst) {
-                return Ok(());
-            }
-            match ending.get().and_then(Weak::upgrade).filter(|_| ends) {
-                Some(journal) => {
-                    assert!(journal.close("it can't be kept open"));
-                    Ok(())
-                }
-                None => Err(std::io::ErrorKind::StorageFull.into()),
-            }
-        });
-        let (journal, _outbox, _dead) = drive::open(owner.clone(), "00000000000000aa").unwrap();
-        let journal = Arc::new(journal);
-        opened.set(Arc::downgrade(&journal)).unwrap();
-        locked(&journal.shared.place).segment.append(&[b"what is written by the sync"]);
-        fails.store(true, SeqCst);
-        assert!(journal.shared.try_sync().is_err());
-        assert!(!owner.is_aboard(), "the slot ends: {ends}");
     }
 }

@@ -1,6 +1,7 @@
 //! So many series that their keys are packed, in several parts: each is found by its own key.
 
 use super::*;
+use crate::files::records;
 
 const MANY: u64 = 700;
 

@@ -22,7 +22,7 @@ fn finer(settings: Settings, choices: &[&str]) -> Settings {
 /// An instance whose slots have their files in folders here.
 fn instance(place: &Path, choices: &[&str]) -> Service {
     let store = OfStore {
-        databases: vec![address("postgres://u@h/d").unwrap()],
+        database: address("postgres://u@h/d").unwrap(),
         copies: Copies::One,
         instance: "a".into(),
         peer: String::new(),
@@ -186,12 +186,10 @@ async fn what_a_rule_brings_in_a_coarser_unit_decides_nothing_at_the_next_start(
 impl Service {
     /// Whether a slot could be opened before it was lost.
     async fn has_opened(&self, slot: u16, drive: Arc<dyn Drive>) -> bool {
-        let Ok((journal, outbox, dead)) = drive::open(drive, "00000000000000aa") else {
+        let Ok(files) = drive::open(drive, "00000000000000aa") else {
             return false;
         };
-        let (outbox, dead) = (Arc::new(outbox), Arc::new(dead));
-        let files = Files { number: slot, journal, outbox, dead, former: Vec::new() };
-        if self.units.open(files).await.is_err() {
+        if self.units.open(Files::of_drive(slot, files)).await.is_err() {
             return false;
         }
         let slot = self.desk.units.get(slot).unwrap().slot.clone();

@@ -1,4 +1,5 @@
-//! Instances that share slots: what an operator asks at one of them is done in all slots, or it is said in which it is not.
+//! Instances that share slots: what an operator asks at one of them is done in all slots, or it is said in which it is not and
+//! where to ask.
 
 mod ready;
 mod told;
@@ -8,7 +9,7 @@ use crate::cluster::terms::{Doing, Instance, Refused, Row, Seen};
 use crate::cluster::{Answers, Asks, Cluster, Forwarded as Brought, Unanswering, Whose};
 use crate::files::drive::{self, memory::Store};
 use crate::metrics::OfCluster;
-use crate::operate::Databases;
+use crate::operate::StoreHealth;
 use crate::store::postgres::Copies;
 use serde_json::Value as Json;
 use std::collections::HashMap;
@@ -93,11 +94,11 @@ fn there(name: &str) -> Whose {
 }
 
 fn instance(name: &str, place: &Path, net: &Arc<Net>) -> (Service, Arc<Cluster>) {
-    let cluster = Cluster::new(name, 1);
+    let cluster = Cluster::new(name);
     let others = Others {
         cluster: cluster.clone(),
         asks: Arc::new(Through(net.clone())),
-        databases: Databases::of(vec!["db/x".into()], Copies::Two, Arc::default()),
+        database: StoreHealth::of("db/x".into(), Copies::Two, Arc::default()),
         metrics: OfCluster::of(&Metrics::new().unwrap().registry).unwrap(),
         instance: name.into(),
         address: name.into(),
@@ -113,6 +114,7 @@ fn seen() -> Seen {
     let instance = |name: &str| Instance {
         name: name.into(),
         address: name.into(),
+        operate: format!("{name}.example:4319"),
         version: "1".into(),
         beat: 1,
         refused: Refused::new(),
@@ -201,14 +203,31 @@ async fn where_an_instance_is_silent_it_is_said_by_slot_what_was_done_and_asked_
         assert!(text.contains(part), "{part} in {text}");
     }
     assert_eq!(both.post(10).await, [403, 200]);
-    let (status, text) = both.a.ask("GET", "/report").await;
-    assert!(status == 503 && text.contains("ask again"), "{status} {text}");
     both.net.mood("b", Mood::Well);
     assert_eq!(both.a.ask("POST", "/quarantine/A").await.0, 200);
     assert_eq!(both.post(20).await, [403, 403]);
-    let (status, report) = both.a.ask("GET", "/report").await;
-    let series = report.lines().filter(|line| line.starts_with("series")).count();
-    assert_eq!((status, series), (200, 1), "{report}");
+    both.net.mood("b", Mood::LosesAnswers);
+    let (status, why) = both.a.ask("POST", "/lift/A").await;
+    assert!(status == 503 && why.contains("give the order again"), "{status} {why}");
+    both.net.mood("b", Mood::Well);
+    assert_eq!(both.a.ask("POST", "/lift/A").await.0, 400, "it was done");
+    assert_eq!(both.post(20).await, [200, 200]);
+    for (service, slots) in [(&both.a, 2), (&both.b, 1)] {
+        let (status, report) = service.ask("GET", "/report").await;
+        let series = report.lines().filter(|line| line.starts_with("series")).count();
+        assert_eq!((status, series), (200, slots), "of its own slots: {report}");
+    }
+}
+
+/// What an instance says that has not the slot: its status, where to ask, and its message.
+async fn redirected(service: &Service, method: &str, path: &str) -> (u16, String, String) {
+    let request = Request::builder().method(method).uri(path).body(Body::empty()).unwrap();
+    let answer = crate::intake::connections::Handler::answer(service.desk.clone(), request).await;
+    let (status, location) = (answer.status().as_u16(), answer.headers().get("location").cloned());
+    let location = location.map(|at| at.to_str().unwrap().to_string()).unwrap_or_default();
+    let body = hyper::body::to_bytes(answer.into_body()).await.unwrap();
+    let message: Json = serde_json::from_slice(&body).unwrap();
+    (status, location, message["message"].as_str().unwrap().to_string())
 }
 
 #[tokio::test]
@@ -243,35 +262,50 @@ async fn a_slot_that_moves_is_found_where_it_has_come_to() {
 }
 
 #[tokio::test]
-async fn dead_requests_are_shown_and_settled_from_anywhere() {
+async fn dead_requests_are_shown_and_settled_by_the_instance_that_has_them() {
     let both = Both::new().await;
     let dead = |service: &Service, slot: u16| service.desk.units.get(slot).unwrap().dead.clone();
     dead(&both.b, 1).keep("1-abc-7", "no", b"{\"of\":1}").unwrap();
     dead(&both.a, 2).keep("2-abc-8", "no", b"{\"of\":2}").unwrap();
-    for service in [&both.a, &both.b] {
+    for (service, key) in [(&both.a, "2-abc-8"), (&both.b, "1-abc-7")] {
         let (status, letters) = json(service, "GET", "/dead").await;
         let keys = letters.as_array().unwrap().iter();
-        let keys: Vec<_> = keys.map(|letter| letter["key"].as_str().unwrap().to_string()).collect();
-        assert_eq!((status, keys.len()), (200, 2), "{keys:?}");
-        assert_eq!(service.ask("GET", "/dead/1-abc-7").await, (200, "{\"of\":1}".into()));
+        let keys: Vec<_> = keys.map(|letter| letter["key"].as_str().unwrap()).collect();
+        assert_eq!((status, &keys[..]), (200, &[key][..]));
         assert_eq!(json(service, "GET", "/status").await.1["dead"], 2);
     }
-    for path in ["/dead/0-abc-7", "/dead/9-abc-7", "/dead/x", "/dead/1-abc-8"] {
+    assert_eq!(both.b.ask("GET", "/dead/1-abc-7").await, (200, "{\"of\":1}".into()));
+    for path in ["/dead/0-abc-7", "/dead/9-abc-7", "/dead/x", "/dead/2-abc-9"] {
         assert_eq!(both.a.ask("GET", path).await.0, 404, "{path}");
     }
-    let (status, resent) = json(&both.a, "POST", "/dead/1-abc-7/resend").await;
+    for (method, path) in
+        [("GET", "/dead/1-abc-7"), ("POST", "/dead/1-abc-7/resend"), ("POST", "/dead/1-abc-7/drop?x=y")]
+    {
+        let (status, location, why) = redirected(&both.a, method, path).await;
+        assert_eq!((status, location), (307, format!("http://b.example:4319{path}")));
+        assert_eq!(why, "slot 1 is at instance b: ask there, at b.example:4319");
+    }
+    assert_eq!(dead(&both.b, 1).count(), 1, "nothing was done");
+    assert_eq!(
+        acts(&both.a)[1].2.as_deref(),
+        Some("307: slot 1 is at instance b: ask there, at b.example:4319")
+    );
+    let (status, resent) = json(&both.b, "POST", "/dead/1-abc-7/resend").await;
     assert_eq!((status, &resent["taken"]), (200, &Json::Bool(true)), "{resent}");
-    assert_eq!(dead(&both.b, 1).count(), 0);
-    assert_eq!(both.b.sink.came.lock().unwrap()[0].key(), "1-abc-7", "by the instance that has its slot");
-    assert_eq!(both.b.ask("POST", "/dead/2-abc-8/drop").await.0, 200);
-    assert_eq!(dead(&both.a, 2).count(), 0);
-    assert_eq!(acts(&both.b)[0].0, "operator (at a)");
-    both.net.mood("b", Mood::Refuses);
-    let (status, text) = both.a.ask("GET", "/dead/1-abc-7").await;
-    assert!(status == 503 && text.contains("slot 1: instance b"), "{status} {text}");
+    assert_eq!(both.b.sink.came.lock().unwrap()[0].key(), "1-abc-7");
+    // No other machine reaches it; and nobody has the slot.
+    let mut seen = seen();
+    seen.instances[1].operate.clear();
+    both.clusters[0].has_seen(seen);
+    let (status, location, why) = redirected(&both.a, "GET", "/dead/1-abc-7").await;
+    assert_eq!((status, &location[..]), (307, ""));
+    assert!(why.starts_with("slot 1 is at instance b: ask on its machine (b)"), "{why}");
+    both.clusters[0].knows(&[(1, Whose::Nobody)]);
+    let (status, _, why) = redirected(&both.a, "GET", "/dead/1-abc-7").await;
+    assert!(status == 503 && why.starts_with("slot 1: no instance has it"), "{status} {why}");
 }
 
-/// As where the instance is lost with it, and another has its slot.
+/// As where the instance is lost with its answer, and another has its slot.
 #[tokio::test]
 async fn an_order_that_is_given_again_since_its_answer_was_lost_is_answered_as_it_was_carried_out() {
     let both = Both::new().await;
@@ -283,15 +317,11 @@ async fn an_order_that_is_given_again_since_its_answer_was_lost_is_answered_as_i
     for key in ["1-abc-7", "1-abc-8"] {
         dead.keep(key, "no", b"{}").unwrap();
     }
-    both.net.mood("b", Mood::LosesAnswers);
     for path in ["/dead/1-abc-7/drop", "/dead/1-abc-8/resend"] {
-        let (status, why) = both.a.ask("POST", path).await;
-        assert!(status == 503 && why.contains("give the order again"), "{status} {why}");
+        assert_eq!(both.b.ask("POST", path).await.0, 200);
     }
     both.b.units.hand_over(1).await.unwrap();
     both.a.begin(1, of_store()).await;
-    let here = Whose::Here { term: 2 };
-    both.clusters[0].knows(&[(0, here.clone()), (1, here.clone()), (2, here)]);
     assert_eq!(both.a.ask("POST", "/dead/1-abc-7/drop").await, (200, "{}".into()));
     let (status, resent) = json(&both.a, "POST", "/dead/1-abc-8/resend").await;
     assert_eq!((status, &resent["taken"]), (200, &Json::Bool(true)), "{resent}");
@@ -332,7 +362,7 @@ async fn the_status_is_of_all_and_a_period_is_closed_once_all_is_known_to_be_in_
         instances.iter().map(|one| (one["name"].as_str().unwrap(), one["slots"].as_u64().unwrap())).collect();
     assert_eq!(shown, [("a", 2), ("b", 1)]);
     assert_eq!(seen["cluster"]["instance"], "a");
-    let database = &seen["cluster"]["databases"][0];
+    let database = &seen["cluster"]["database"];
     assert_eq!((&database["database"], &database["copies_asked"]), (&"db/x".into(), &2.into()));
     let (_, page) = both.a.ask("GET", "/").await;
     assert!(page.contains("<h2>Instances</h2>") && page.contains("takes posts"), "{page}");
@@ -353,7 +383,7 @@ async fn the_status_is_of_all_and_a_period_is_closed_once_all_is_known_to_be_in_
 }
 
 #[tokio::test]
-async fn series_are_found_in_all_slots_and_forgotten_where_they_are() {
+async fn series_are_found_in_all_slots_and_forgotten_by_the_instances_that_have_them() {
     let both = Both::new().await;
     assert_eq!(both.post(10).await, [200, 200]);
     let (status, why) = both.b.ask("POST", "/forget?series=m").await;
@@ -365,17 +395,25 @@ async fn series_are_found_in_all_slots_and_forgotten_where_they_are() {
     let process: Json = serde_json::from_str(&attributes(2)).unwrap();
     let process = process[0]["value"]["stringValue"].as_str().unwrap();
     let one = format!("/forget?series=m%7Bservice.instance.id%3D{process}%7D&anyway");
-    let (status, told) = json(&both.b, "POST", &one).await;
+    let (status, location, why) = redirected(&both.b, "POST", &one).await;
+    assert_eq!((status, location), (307, format!("http://a.example:4319{one}")), "{why}");
+    assert_eq!(both.a.post(&[2], 10).await.status(), 400, "it is known as yet");
+    let (status, told) = json(&both.a, "POST", &one).await;
     assert!(
         status == 200 && told["message"].as_str().unwrap().starts_with("1 series is forgotten"),
         "{told}"
     );
     assert_eq!(both.a.post(&[2], 10).await.status(), 200, "as a new one");
     assert_eq!(both.a.post(&[0], 10).await.status(), 400, "it is known");
-    assert_eq!(acts(&both.a)[0].0, "operator (at b)");
-    let (status, told) = json(&both.a, "POST", "/forget?series=m&all&anyway").await;
+    // Of several each instance does its own, and says where the others are.
+    let all = "/forget?series=m&all&anyway";
+    let (status, location, told) = redirected(&both.a, "POST", all).await;
+    assert_eq!((status, location), (307, format!("http://b.example:4319{all}")));
+    let others = "others are elsewhere: slot 1 is at instance b";
+    assert!(told.starts_with("2 series are forgotten") && told.contains(others), "{told}");
+    let (status, told) = json(&both.b, "POST", all).await;
     assert!(
-        status == 200 && told["message"].as_str().unwrap().starts_with("3 series are forgotten"),
+        status == 200 && told["message"].as_str().unwrap().starts_with("1 series is forgotten"),
         "{told}"
     );
     assert_eq!(both.post(10).await, [200, 200]);
@@ -388,6 +426,6 @@ async fn series_are_found_in_all_slots_and_forgotten_where_they_are() {
         );
     }
     both.net.mood("b", Mood::Refuses);
-    let (status, why) = both.a.ask("POST", "/forget?series=m&all&anyway").await;
+    let (status, why) = both.a.ask("POST", all).await;
     assert!(status == 503 && why.contains("not slot 1"), "{status} {why}");
 }

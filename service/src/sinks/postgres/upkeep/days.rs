@@ -1,4 +1,4 @@
-//! The partitions of `span_row`: each has the spans that end in one day of UTC; one that ends at midnight, in the day before.
+//! The partitions of `interval_row`: each has the intervals that end in one day of UTC; one that ends at midnight, in the day before.
 
 use tokio_postgres::{Client, Error, GenericClient};
 
@@ -7,8 +7,8 @@ use tokio_postgres::{Client, Error, GenericClient};
 const MISSING: &str = "with known as (
         select max(to_date(right(relname, 8), 'YYYYMMDD')) as last, (now() at time zone 'UTC')::date as today
         from pg_class join pg_namespace on pg_namespace.oid = relnamespace
-        where nspname = 'totxegun' and relkind = 'r' and relname ~ '^span_[0-9]{8}$'
-            and relname <= 'span_' || to_char((now() at time zone 'UTC')::date + 3, 'YYYYMMDD')
+        where nspname = 'totxegun' and relkind = 'r' and relname ~ '^interval_[0-9]{8}$'
+            and relname <= 'interval_' || to_char((now() at time zone 'UTC')::date + 3, 'YYYYMMDD')
     )
     select to_char(day, 'YYYYMMDD'), extract(epoch from day)::int8 * 1000000000 + 1 from known,
         generate_series(greatest(coalesce(last + 1, today - 1), today - 40)::timestamp, today + 3, '1 day') as day";
@@ -16,17 +16,13 @@ const MISSING: &str = "with known as (
 /// In nanoseconds.
 const DAY: i64 = 86_400_000_000_000;
 
-/// The most spans that are moved into a day that is made behind them.
+/// The most intervals that are moved into a day that is made behind them.
 const MOVED: i64 = 100_000;
 
-/// As few bytes as an index by time can have.
-const SUMMARIZE: &str = "select brin_summarize_new_values(indexrelid) from (
-        select indexrelid from pg_index join pg_class as one on one.oid = indexrelid join pg_am on pg_am.oid = one.relam
-        join pg_class as its on its.oid = indrelid join pg_namespace on pg_namespace.oid = its.relnamespace
-        where nspname = 'totxegun' and amname = 'brin' and its.relkind = 'r'
-            and (its.relname like 'past_%' or its.relname <= 'span_' || to_char(now() + '1 day', 'YYYYMMDD'))
-        order by its.relname like 'past_%' desc, its.relname desc limit 5
-    ) as latest";
+/// The hours and days that were written last: pages that no index has yet are read by each look for a time.
+const SUMMARIZE: &str = "select brin_summarize_new_values(indexrelid) from pg_index
+    join pg_class as one on one.oid = indexrelid join pg_am on pg_am.oid = one.relam
+    join pg_namespace on pg_namespace.oid = one.relnamespace where nspname = 'totxegun' and amname = 'brin'";
 
 pub(in super::super) async fn make(client: &mut impl GenericClient) -> Result<(), Error> {
     for row in client.query(MISSING, &[]).await? {
@@ -35,16 +31,16 @@ pub(in super::super) async fn make(client: &mut impl GenericClient) -> Result<()
     Ok(())
 }
 
-/// Spans of the day that came before are moved into it. A day of which there are too many stays among the others.
+/// Intervals of the day that came before are moved into it. A day of which there are too many stays among the others.
 async fn make_one(client: &mut impl GenericClient, day: &str, from: i64) -> Result<(), Error> {
-    let (to, name) = (from + DAY, format!("totxegun.span_{day}"));
-    let of_day = format!("totxegun.span_other where end_ns >= {from} and end_ns < {to}");
+    let (to, name) = (from + DAY, format!("totxegun.interval_{day}"));
+    let of_day = format!("totxegun.interval_other where end_ns >= {from} and end_ns < {to}");
     let transaction = client.transaction().await?;
     let make = format!(
-        "lock table totxegun.span_other in access exclusive mode;
-        create table {name} (like totxegun.span_row including comments);
+        "lock table totxegun.interval_other in access exclusive mode;
+        create table {name} (like totxegun.interval_row including comments);
+        comment on table {name} is 'The intervals that end on this day';
         create index on {name} using brin (end_ns, start_ns) with (pages_per_range = 32, autosummarize = on);
-        comment on table {name} is 'The spans that end on this day';
         insert into {name} select * from {of_day} limit {MOVED} + 1"
     );
     transaction.batch_execute(&make).await?;
@@ -54,13 +50,12 @@ async fn make_one(client: &mut impl GenericClient, day: &str, from: i64) -> Resu
     }
     let attach = format!(
         "delete from {of_day};
-        alter table totxegun.span_row attach partition {name} for values from ({from}) to ({to})"
+        alter table totxegun.interval_row attach partition {name} for values from ({from}) to ({to})"
     );
     transaction.batch_execute(&attach).await?;
     transaction.commit().await
 }
 
-/// Pages that no index has yet are read by each look for spans of a time: so these are few.
 pub(super) async fn summarize(client: &Client) -> Result<(), Error> {
     client.query(SUMMARIZE, &[]).await.map(drop)
 }

@@ -6,7 +6,7 @@ use super::STEP;
 use std::time::Duration;
 use tokio_postgres::{Client, Error};
 
-/// The first hour that is kept: no later than the one in which the last span ends, since by a clock that was ahead once the
+/// The first hour that is kept: no later than the one in which the last interval ends, since by a clock that was ahead once the
 /// views would leave out all that comes until then. What came late, and corrections, count in an hour by the clock, which
 /// says nothing about it.
 const FROM: &str = "select case when hours_from >= by_clock then by_clock else least(by_clock,
@@ -15,7 +15,7 @@ const FROM: &str = "select case when hours_from >= by_clock then by_clock else l
 
 const HORIZON: &str = "update totxegun.horizon set hours_from = $1::int4 where hours_from < $1::int4";
 
-/// As of spans: the next hour was not deleted, and is whole.
+/// By a clock that was ahead once it is in the time to come: the next hour was not deleted, and is whole.
 const NOT_AHEAD: &str = "update totxegun.horizon set hours_from = next_hour
     from (select floor(extract(epoch from now()) / 3600)::int4 + 1 as next_hour) as clock where hours_from > next_hour";
 

@@ -1,15 +1,13 @@
 //! What is done beside deliveries, by a connection of its own, one service of a database at a time: days are made ahead,
-//! hours are filled in from spans of version 4, and what is kept no longer is deleted.
+//! and what is kept no longer is deleted.
 //!
 //! Each step is a short transaction, and waits for locks no longer than a second; so a delivery that waits behind it
 //! waits no longer either. A kill between two steps leaves what the next round goes on with.
 
 pub(super) mod days;
-mod ending;
-mod filling;
 mod hours;
+mod intervals;
 mod reader;
-mod spans;
 
 use super::fault::Fault;
 use super::Server;
@@ -84,7 +82,7 @@ async fn rounds(server: &Server, retention: Retention, memory: &dyn Memory, was_
         if let Some(reason) = reason.as_ref().filter(|_| told != reason) {
             tracing::warn!(
                 reason,
-                "{reason}; what is to be made ahead, filled in or deleted there waits for the next minute"
+                "{reason}; what is to be made ahead or deleted there waits for the next minute"
             );
         }
         told = reason;
@@ -94,17 +92,14 @@ async fn rounds(server: &Server, retention: Retention, memory: &dyn Memory, was_
 /// Whatever fails, the others are tried: a lock that somebody keeps holds up one of them.
 async fn round(server: &Server, retention: Retention, memory: &dyn Memory) -> Result<(), Fault> {
     let (mut client, _connection) = session::connect(server).await?;
-    let is_known = schema::version(&client).await? == schema::KNOWN;
-    if !is_known || !is_ours(&client, memory).await? {
+    if !schema::check(&client).await? || !is_ours(&client, memory).await? {
         return Ok(());
     }
     let all = [
         reader::let_in(&client, server).await,
         days::make(&mut client).await,
-        filling::fill(&mut client, server).await,
-        spans::delete(&mut client, retention.spans).await,
+        intervals::delete(&client, retention.intervals).await,
         hours::delete(&client, retention.hours).await,
-        ending::delete(&client, retention.series).await,
         days::summarize(&client).await,
     ];
     Ok(all.into_iter().collect::<Result<(), Error>>()?)

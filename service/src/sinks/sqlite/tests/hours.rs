@@ -1,4 +1,4 @@
-//! Hours, days and months are the sums of spans: in the file, and as its views say them.
+//! Hours, days and months are the sums of intervals: in the file, and as its views say them.
 
 use super::super::wide_integers::Unsigned;
 use super::*;
@@ -37,7 +37,7 @@ fn spans(trial: &Trial) -> Vec<Span> {
     let mut query = file
         .prepare(
             "select series, value, cast(count as text), cast(sum as text), buckets, first_start_ns, after_ns, length_ns
-             from request join span_row on span_row.request = request.id",
+             from request join interval_row on interval_row.request = request.id",
         )
         .expect("a query");
     let at = |end: u64| {
@@ -167,13 +167,27 @@ fn random_points(random: &mut Random) -> Vec<String> {
     points
 }
 
+/// Without its reason, which is another one where it was given before.
+fn bare(fate: Fate) -> Fate {
+    match fate {
+        Fate::TakenPartly { rejected, left, .. } => {
+            Fate::TakenPartly { rejected, reason: String::new(), left }
+        }
+        Fate::Refused { .. } => Fate::Refused { reason: String::new() },
+        other => other,
+    }
+}
+
 #[test]
-fn hours_days_and_months_are_the_sums_of_spans() {
+fn hours_days_and_months_are_the_sums_of_intervals() {
     for seed in 1..=6u64 {
         let mut trial = Trial::new();
         let mut random = Random(0x9e37_79b9_7f4a_7c15 ^ seed);
         let mut taken = 0;
+        trial.taken(1000, metrics(&sum_of("first", &[])));
         for number in 1..=60 {
+            // Most come as if they had been put aside, in any order of their times.
+            let number = if random.below(8) == 0 { 1000 + number } else { number };
             let points = random_points(&mut random);
             if points.is_empty() {
                 continue;
@@ -185,7 +199,7 @@ fn hours_days_and_months_are_the_sums_of_spans() {
                 if random.below(4) == 0 {
                     trial.reopen();
                 }
-                assert_eq!(trial.take(number, body.clone()), fate, "again");
+                assert_eq!(bare(trial.take(number, body.clone())), bare(fate.clone()), "again");
             }
         }
         assert!(taken > 20, "{taken}");

@@ -1,17 +1,14 @@
-//! A close, and what follows it, over kills and in files of older versions. What counts where is tried for both sinks in
+//! A close, and what follows it, over kills. What counts where is tried for both sinks in
 //! `service/tests/postgres/periods.rs`.
 
-use super::super::schema::STEPS;
-use super::older::{commits, older};
 use super::*;
 use crate::sinks::periods::Correction;
-use rusqlite::Connection;
 
 const HOUR: u64 = 3_600_000_000_000;
 /// 2024-02-29 22:00.
 const OLD: u64 = 1_709_244_000_000_000_000;
 
-const A_DAY: Retention = Retention { spans: None, hours: Some(Duration::from_secs(86_400)), series: None };
+const A_DAY: Retention = Retention { intervals: None, hours: Some(Duration::from_secs(86_400)) };
 
 impl Trial {
     fn done(&mut self, deed: Deed) {
@@ -41,8 +38,9 @@ fn steps(trial: &mut Trial) {
     };
     trial.done(correction("2024-02-29T22", -2));
     trial.done(correction("2024-03-01T00", 3));
-    trial.taken(4, histogram("h", OLD, OLD + 9, Some(5), [1, 2, 3]));
+    trial.taken(6, histogram("h", OLD, OLD + 9, Some(5), [1, 2, 3]));
     trial.done(Deed::Open(leap_day()));
+    // As one that was put aside.
     trial.taken(5, sum("a", OLD + 9, OLD + 10, 13));
     trial.done(Deed::Close("2024-02-28".parse().expect("a day")));
 }
@@ -89,6 +87,14 @@ fn tried() -> bool {
 #[test]
 fn a_kill_at_any_point_leaves_a_deed_whole_or_not_at_all() {
     while !tried() {}
+}
+
+/// Where the transactions of a log end: what is behind the last one that is whole is not there for SQLite.
+fn commits(log: &[u8]) -> Vec<usize> {
+    let frame = 24 + 4096;
+    let is_commit = |end: &usize| log[end - frame + 4..end - frame + 8] != [0; 4];
+    let ends = (32 + frame..=log.len()).step_by(frame).filter(is_commit);
+    ends.collect()
 }
 
 #[test]
@@ -141,7 +147,7 @@ fn an_hour_that_is_deleted_is_corrected_only_while_it_is_closed() {
     }
 }
 
-/// As by a clock that was ahead once: what came late then counts far behind all spans.
+/// As by a clock that was ahead once: what came late then counts far behind all intervals.
 #[test]
 fn what_came_late_is_no_reason_to_leave_out_what_comes() {
     let mut trial = Trial::new();
@@ -202,46 +208,4 @@ fn what_is_billed_is_exact() {
         let found = trial.ask(&format!("select billed from {view} order by name"));
         assert_eq!(found, wanted.map(|billed| billed.to_string()).join("\n"), "{view}");
     }
-}
-
-/// While hours are filled in, a month that is closed would grow.
-#[test]
-fn nothing_is_closed_while_an_older_file_is_filled_in() {
-    let mut trial = Trial::new();
-    older(&trial.path());
-    let close = Deed::Close("2024-02".parse().expect("a month"));
-    let told = trial.writer.settle("alice", &close);
-    assert!(matches!(&told, Told::Refused(why) if why.contains("filled in")), "{told:?}");
-    while trial.step(OLD) {}
-    trial.done(close);
-}
-
-#[test]
-fn a_file_of_version_3_is_brought_up() {
-    let mut trial = Trial::new();
-    let file = Connection::open(trial.path()).expect("a file");
-    for step in &STEPS[..3] {
-        file.execute_batch(step).expect("an older step");
-    }
-    file.execute_batch(
-        "pragma application_id = 1953461368; pragma user_version = 3;
-         insert into series values (1, 'a', '1', 'sum', '[]', '{\"code\":200}', '{\"host\":\"h1\"}', 's', '1', '{}');
-         insert into metric values (1, 'a', 'sum', '1');
-         insert into request values (1, 0, 'e', 1, 0, 1, 1709244000000000000, 1709244000000000009, 1);
-         insert into span_row values (1, 1, 0, 9, 5, null, null, null);
-         insert into series_total values (1, 1, 1709244000000000000, 1709244000000000009, 0, 5, 0, 0, 0, null, 0);
-         insert into hour values (474790, 1, 1, 0, 5, 0, 0, 0, null);
-         insert into day values (19782, 1, 1, 0, 5, 0, 0, 0, null);
-         insert into month values (649, 1, 1, 0, 5, 0, 0, 0, null);
-         insert into metric_hour values (474790, 1, 1, 0, 5, 0, 0);
-         insert into utc_hour values (474790, '2024-02-29 22:00');
-         insert into utc_day values (19782, '2024-02-29');
-         insert into utc_month values (649, '2024-02-01');",
-    )
-    .expect("its rows");
-    drop(file);
-    steps(&mut trial);
-    let mut fresh = Trial::new();
-    steps(&mut fresh);
-    assert_eq!(found(&trial), found(&fresh));
 }

@@ -10,7 +10,7 @@ fn a_transaction_that_was_cut_is_not_there() {
     trial.taken(1, sum("a", 10, 20, 1));
     let other = Connection::open(trial.path()).expect("open");
     other
-        .execute_batch("begin immediate; insert into request values (99, 0, 'e', 2, 0, 1, 1, 2, 1)")
+        .execute_batch("begin immediate; insert into request values (99, 0, 'e', 2, 0, 1, x'00', null, 1, 2)")
         .expect("a row");
     drop(other);
     trial.taken(2, sum("a", 20, 30, 2));
@@ -47,7 +47,7 @@ fn a_lock_holds_up_the_upkeep_alone() {
     let mut trial = Trial::new();
     trial.taken(1, sum("a", 10, 20, 1));
     trial.writer.upkeep =
-        Upkeep::new(Retention { spans: Some(Duration::from_secs(1)), ..Retention::default() });
+        Upkeep::new(Retention { intervals: Some(Duration::from_secs(1)), ..Retention::default() });
     let other = Connection::open(trial.path()).expect("open");
     other.execute_batch("begin immediate").expect("a lock");
     assert!(!trial.writer.keep_up());
@@ -55,9 +55,9 @@ fn a_lock_holds_up_the_upkeep_alone() {
     other.execute_batch("rollback").expect("no lock");
     trial.taken(2, sum("a", 20, 30, 2));
     assert!(!trial.writer.keep_up(), "it is not due yet");
-    assert_eq!(trial.ask("select count(*) from span"), "2");
+    assert_eq!(trial.ask("select count(*) from intervals"), "2");
     assert_eq!(trial.step_at(10_000_000_000), Ok(true));
-    assert_eq!(trial.ask("select count(*) from span"), "0");
+    assert_eq!(trial.ask("select count(*) from intervals"), "0");
     assert_eq!(trial.totals(), only("a", 3, 2));
 }
 
@@ -66,7 +66,7 @@ fn a_lock_holds_up_the_upkeep_alone() {
 fn another_writer_is_noticed() {
     let mut trial = Trial::new();
     trial.taken(1, sum("a", 10, 20, 1));
-    let emptied = "pragma foreign_keys = off; delete from span_row; delete from series_total; delete from series; delete from request";
+    let emptied = "pragma foreign_keys = off; delete from interval_row; delete from series_total; delete from series; delete from request";
     trial.ask(emptied);
     trial.taken(2, sum("b", 10, 20, 2));
     trial.taken(3, sum("a", 10, 20, 4));
@@ -188,20 +188,20 @@ fn a_damaged_file_is_told_and_waited_for() {
 }
 
 #[test]
-fn a_later_schema_is_refused_by_name_and_left_alone() {
+fn another_schema_is_refused_by_name_and_left_alone() {
     let mut trial = Trial::new();
     trial.taken(1, sum("a", 10, 20, 1));
     trial.writer.store = None;
-    trial.ask("pragma user_version = 6");
+    trial.ask("pragma user_version = 2");
     let error = SqliteSink::open(&trial.path(), Retention::default(), Arc::new(()))
         .err()
-        .expect("it is later")
+        .expect("it is another")
         .to_string();
-    let all = ["totals.db was written by a later version", "schema 6; this one knows 5"];
+    let all = ["totals.db was written by another version", "schema 2; this one knows 1"];
     assert!(all.iter().all(|part| error.contains(part)), "{error}");
-    trial.again(2, sum("a", 20, 30, 2), "later version");
+    trial.again(2, sum("a", 20, 30, 2), "another version");
     assert!(read(&trial.path(), &Filter::default()).is_err());
-    trial.ask("pragma user_version = 5");
+    trial.ask("pragma user_version = 1");
     trial.taken(2, sum("a", 20, 30, 2));
 }
 
@@ -211,7 +211,7 @@ fn a_long_reader_is_told_and_waited_for() {
     let mut trial = Trial::new();
     trial.taken(1, sum("a", 10, 20, 1));
     let reader = Connection::open(trial.path()).expect("open");
-    reader.execute_batch("begin; select * from span").expect("a reader");
+    reader.execute_batch("begin; select * from intervals").expect("a reader");
     trial.taken(2, sum("a", 20, 30, 2));
     trial.writer.store = None;
     trial.again(3, sum("a", 30, 40, 4), "read it for long");
@@ -250,7 +250,7 @@ fn a_file_in_a_folder_that_hands_its_group_on_is_for_the_group_to_read() {
         std::fs::create_dir(&folder).expect("a folder");
         std::fs::set_permissions(&folder, std::fs::Permissions::from_mode(mode)).expect("its rights");
         let mut writer = writer(&folder.join("totals.db"));
-        assert_eq!(writer.take(&forwarded(1, sum("a", 10, 20, 1))), Fate::Taken);
+        assert_eq!(writer.take(&forwarded(1, sum("a", 10, 20, 1)), Sent::ByHand), Fate::Taken);
         for name in ["totals.db", "totals.db-wal", "totals.db-shm"] {
             let found = std::fs::metadata(folder.join(name)).expect(name);
             assert_eq!(found.permissions().mode() & 0o777, wanted, "{name} in {mode:o}");

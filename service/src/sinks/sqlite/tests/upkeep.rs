@@ -3,6 +3,7 @@
 use super::super::export;
 use super::hours::view;
 use super::*;
+use crate::sinks::sql::export::What;
 
 pub(super) const HOUR: u64 = 3_600_000_000_000;
 const DAY: u64 = 24 * HOUR;
@@ -29,13 +30,6 @@ impl Trial {
     pub(super) fn keep_up(&mut self, now: u64) -> usize {
         (0..).find(|_| !self.step(now)).expect("an end")
     }
-
-    fn left_unnamed(&mut self, number: u64, body: String) {
-        match self.take(number, body) {
-            Fate::TakenPartly { rejected: 1, left: None, .. } => {}
-            other => panic!("{other:?}"),
-        }
-    }
 }
 
 /// A point of `a` each hour, 48 of them.
@@ -47,14 +41,14 @@ fn two_days(trial: &mut Trial) {
 }
 
 #[test]
-fn spans_that_are_too_old_are_deleted_and_counted_once() {
+fn intervals_that_are_too_old_are_deleted_and_counted_once() {
     let mut trial = Trial::new();
     two_days(&mut trial);
-    trial.keep(Retention { spans: days(1), ..Retention::default() });
+    trial.keep(Retention { intervals: days(1), ..Retention::default() });
     let (before, total) = (view(&trial, "hour"), trial.totals());
     // The first 24 ended by then, the last of them at this very moment.
     assert!(trial.keep_up(NOVEMBER + 2 * DAY) >= 3);
-    assert_eq!(trial.ask("select count(*), min(start_ns) from span"), format!("24|{}", NOVEMBER + DAY));
+    assert_eq!(trial.ask("select count(*), min(start_ns) from intervals"), format!("24|{}", NOVEMBER + DAY));
     assert_eq!((view(&trial, "hour"), trial.totals()), (before, total.clone()));
     trial.reopen();
     // Under its key it is taken; under another it is refused, also in part.
@@ -65,29 +59,31 @@ fn spans_that_are_too_old_are_deleted_and_counted_once() {
         trial.taken(hour + 1, again(hour, 0));
     }
     trial.refused(1, again(1, 0), "key is that of another request");
-    trial.refused(100, again(3, 0), "can't be told");
-    trial.refused(101, again(23, 5), "can't be told");
-    trial.refused(102, again(24, 0), "overlaps");
+    for (number, (hour, by)) in (100..).zip([(3, 0), (23, 5), (24, 0)]) {
+        trial.refused(number, again(hour, by), "is not added");
+    }
     assert_eq!(trial.totals(), total);
-    // What can't overlap is taken: before the first, behind the last, and another series.
-    trial.taken(103, sum("a", NOVEMBER - 5, NOVEMBER, 1000));
     trial.taken(104, sum("a", NOVEMBER + 2 * DAY, NOVEMBER + 2 * DAY + 1, 1000));
     trial.taken(105, sum("b", NOVEMBER, NOVEMBER + 1, 1000));
-    assert_eq!(trial.totals()[0], ("a".into(), 48 * 49 / 2 + 2000, 50));
+    assert_eq!(trial.totals()[0], ("a".into(), 48 * 49 / 2 + 1000, 49));
 }
 
-/// It can't be told any more which of its points were left.
+/// Also once no interval is there any more.
 #[test]
-fn of_a_part_that_was_left_its_number_is_known_for_ever() {
+fn what_was_left_of_a_request_is_known_for_ever() {
     let mut trial = Trial::new();
     trial.taken(1, sum("a", 100, 200, 1));
     let one = |name: &str, start: u64| sum_of(name, &[sum_point(200, start, start + 10, 8)]);
     let both = metrics(&[one("a", 150), one("b", 150)].join(","));
-    assert!(matches!(trial.take(2, both.clone()), Fate::TakenPartly { left: Some(_), .. }));
-    trial.keep(Retention { spans: days(1), ..Retention::default() });
+    let fate = trial.take(2, both.clone());
+    let left = |fate: Fate| match fate {
+        Fate::TakenPartly { rejected: 1, left: Some(left), .. } => left,
+        other => panic!("{other:?}"),
+    };
+    trial.keep(Retention { intervals: days(1), ..Retention::default() });
     trial.keep_up(DAY + 1000);
-    assert_eq!(trial.ask("select count(*) from span"), "0");
-    trial.left_unnamed(2, both);
+    assert_eq!(trial.ask("select count(*) from intervals"), "0");
+    assert_eq!(left(trial.take(2, both)), left(fate));
     trial.taken(1, sum("a", 100, 200, 1));
     trial.refused(2, metrics(&one("a", 151)), "key is that of another request");
 }
@@ -114,13 +110,13 @@ fn hours_that_are_too_old_are_deleted_and_stay_away() {
         assert_eq!(trial.ask(&format!("select count(*) from {table}")), "2");
     }
     // Late, of an hour that is gone: its day and month are not yet.
-    trial.taken(2000, sum("b", NOVEMBER + 7, NOVEMBER + 8, 10));
-    trial.taken(2001, sum("b", october + 7, october + 8, 10));
+    trial.taken(2001, sum("b", NOVEMBER + 7, NOVEMBER + 8, 10));
+    trial.taken(2000, sum("b", october + 7, october + 8, 10));
     assert_eq!(rows(&trial, "hour"), hours);
     assert_eq!(rows(&trial, "day"), "2026-11-01|2\n2026-11-01|10\n2026-11-02|1");
     assert_eq!(rows(&trial, "month"), "2026-11-01|3\n2026-11-01|10");
     assert_eq!(trial.totals()[1], ("b".into(), 20, 2));
-    assert_eq!(trial.ask("select count(*) from span"), "8");
+    assert_eq!(trial.ask("select count(*) from intervals"), "8");
 }
 
 /// Else a bill that is made again says that nothing was counted, with the status of a whole one.
@@ -133,8 +129,8 @@ fn a_month_or_a_day_that_is_deleted_is_not_exported_as_one_without_points() {
     trial.keep(Retention { hours: days(1), ..Retention::default() });
     trial.keep_up(NOVEMBER + 2 * DAY + 5 * HOUR);
     let exported = |text: &str| {
-        let (period, mut points) = (text.parse().expect(text), 0);
-        let read = export::read(&trial.path(), &period, &mut |line| {
+        let (what, mut points) = (What::Of(text.parse().expect(text)), 0);
+        let read = export::read(&trial.path(), &what, &mut |line| {
             points += line.points;
             Ok(())
         });
@@ -149,60 +145,6 @@ fn a_month_or_a_day_that_is_deleted_is_not_exported_as_one_without_points() {
     // These went as a whole, or not at all.
     let whole = ["2026-11", "2026-11-02", "2026-11-03"].map(exported);
     assert_eq!(whole, [Ok(2), Ok(0), Ok(1)]);
-}
-
-#[test]
-fn a_series_out_of_use_loses_its_spans() {
-    let mut trial = Trial::new();
-    two_days(&mut trial);
-    for hour in 0..20 {
-        let both = [("b", 5), ("c", 7)].map(|(name, value)| {
-            let start = NOVEMBER + hour * HOUR;
-            sum_of(name, &[sum_point(200, start, start + HOUR, value)])
-        });
-        trial.taken(100 + hour, metrics(&both.join(",")));
-    }
-    trial.taken(200, sum("c", NOVEMBER + 47 * HOUR, NOVEMBER + 48 * HOUR, 7));
-    let before = (view(&trial, "hour"), trial.totals());
-    let keep = Retention { series: days(1), ..Retention::default() };
-    trial.keep(keep);
-    assert!(trial.keep_up(NOVEMBER + 2 * DAY) > 3);
-    assert_eq!((view(&trial, "hour"), trial.totals()), before);
-    let spans = "select name, count(*) from span join series on series.id = series group by name";
-    assert_eq!(trial.ask(spans), "a|48\nc|21");
-    trial.refused(300, sum("b", NOVEMBER + 5, NOVEMBER + 6, 5), "can't be told");
-    // It is in use again: what was before is known, what comes is kept.
-    trial.taken(301, sum("b", NOVEMBER + 2 * DAY, NOVEMBER + 2 * DAY + 1, 5));
-    trial.refused(302, sum("b", NOVEMBER + 5, NOVEMBER + 6, 5), "can't be told");
-    trial.keep(keep);
-    trial.keep_up(NOVEMBER + 2 * DAY);
-    assert_eq!(trial.ask(spans), "a|48\nb|1\nc|21");
-    // A request of both comes again.
-    let both = [("b", 5), ("c", 7)]
-        .map(|(name, value)| sum_of(name, &[sum_point(200, NOVEMBER, NOVEMBER + HOUR, value)]));
-    trial.taken(100, metrics(&both.join(",")));
-}
-
-/// Its series have the numbers of others that were out of use.
-#[test]
-fn a_file_put_in_the_place_of_another_loses_nothing() {
-    let mut trial = Trial::new();
-    let twenty = |trial: &mut Trial, name: &str| {
-        for hour in 0..20 {
-            let start = NOVEMBER + hour * HOUR;
-            trial.taken(hour + 1, sum(name, start, start + HOUR, 1));
-        }
-    };
-    twenty(&mut trial, "former");
-    trial.keep(Retention { series: days(1), ..Retention::default() });
-    let now = NOVEMBER + 2 * DAY;
-    assert!(trial.step(now) && trial.step(now));
-    assert_eq!(trial.ask("select count(*) from span"), "13");
-    std::fs::remove_file(trial.path()).expect("it is there");
-    twenty(&mut trial, "used");
-    trial.taken(21, sum("used", now - HOUR, now, 1));
-    trial.keep_up(now);
-    assert_eq!(trial.ask("select count(*) from span"), "21");
 }
 
 /// What is there goes by the clock; what comes behind the last hour of it is not left out.
@@ -247,10 +189,10 @@ fn a_clock_that_all_shared_and_was_ahead_leaves_out_nothing_of_the_next_month() 
 #[tokio::test]
 async fn deliveries_go_on_while_much_is_deleted() {
     let trial = much();
-    let keep = Retention { spans: days(35), ..Retention::default() };
+    let keep = Retention { intervals: days(35), ..Retention::default() };
     let sink = SqliteSink::open(&trial.path(), keep, Arc::new(())).expect("a sink");
     let left = || {
-        let count = trial.ask("select count(*) from span where end_ns < 1000");
+        let count = trial.ask("select count(*) from intervals where end_ns < 1000");
         count.parse::<u64>().expect("a count")
     };
     let now = SystemTime::now().duration_since(UNIX_EPOCH).expect("a clock");
@@ -268,10 +210,10 @@ async fn deliveries_go_on_while_much_is_deleted() {
     let wanted = format!("a|80000|80000\nb|{taken}|{taken}");
     assert_eq!(trial.ask(sums), wanted);
     assert_eq!(trial.ask(&sums.replace("from totals", "from by_day")), wanted);
-    assert_eq!(trial.ask("select count(*) from span"), taken.to_string());
+    assert_eq!(trial.ask("select count(*) from intervals"), taken.to_string());
 }
 
-/// 80,000 spans of long ago, of 2,000 series; the file is closed.
+/// 80,000 intervals of long ago, of 2,000 series; the file is closed.
 fn much() -> Trial {
     let mut trial = Trial::new();
     for number in 1..=40 {

@@ -11,7 +11,7 @@ use std::sync::atomic::{AtomicBool, Ordering::SeqCst};
 async fn the_outbox_is_told_of_units_by_one_at_a_time_also_where_the_sender_goes_away() {
     let (place, open) = (tempfile::tempdir().unwrap(), Arc::new(AtomicBool::new(true)));
     let folder = Folder::open_on(Disk::held(open.clone()), place.path(), Durability::Process).unwrap();
-    let (journal, outbox) = folder.slot(0).unwrap();
+    let (journal, outbox) = folder.slot().unwrap();
     let finer_units = FinerUnits::of(["auto", "ms"].map(|choice| choice.parse().unwrap())).unwrap();
     let reading = Arc::new(Reading { finer_units, ..Reading::default() });
     reading.finer_units.know(&outbox, &journal).unwrap();

@@ -89,8 +89,6 @@ fn points_by_number_go_with_their_runs_and_are_named_anew_where_a_number_means_a
         generations.push(posts.named.generation());
     }
     assert!(generations[0] == generations[1] && generations[1] < generations[2], "{generations:?}");
-    posts.named.forget();
-    assert!(posts.named.generation() > generations[2], "another file says them anew");
 }
 
 #[test]

@@ -30,6 +30,8 @@ pub struct Files {
     named: BTreeSet<u64>,
     gone: Vec<u64>,
     next: u64,
+    /// How many calls have changed something.
+    changes: u64,
 }
 
 struct File {
@@ -55,6 +57,15 @@ pub struct Batch {
     pub named: Vec<(u64, String)>,
     /// Under their numbers.
     pub pieces: Vec<(u64, Piece)>,
+    /// How many changes there were then.
+    pub changes: u64,
+}
+
+impl Batch {
+    /// How many its pieces have.
+    pub fn bytes(&self) -> usize {
+        self.pieces.iter().map(|(_, piece)| piece.bytes.len()).sum()
+    }
 }
 
 /// What is known of a piece that is in the store.
@@ -98,6 +109,16 @@ impl Files {
         self.files.insert(number, file);
     }
 
+    pub fn changes(&self) -> u64 {
+        self.changes
+    }
+
+    /// Counts as a change, of nothing: so the next batch is known from those before.
+    pub fn touch(&mut self) -> u64 {
+        self.changes += 1;
+        self.changes
+    }
+
     fn number(&mut self) -> u64 {
         self.next += 1;
         self.next
@@ -113,6 +134,7 @@ impl Files {
         let number = self.number();
         self.put(number, name.into(), false);
         self.named.insert(number);
+        self.touch();
         Ok(number)
     }
 
@@ -147,6 +169,7 @@ impl Files {
         self.names.remove(from);
         self.names.insert(to.into(), number);
         self.named.insert(number);
+        self.touch();
         if let Some(file) = self.files.get_mut(&number) {
             file.name = to.into();
         }
@@ -156,6 +179,7 @@ impl Files {
     pub fn remove(&mut self, name: &Path) -> io::Result<()> {
         let number = self.names.remove(name).ok_or(ErrorKind::NotFound)?;
         self.named.remove(&number);
+        self.touch();
         self.held.retain(|_, piece| piece.file != number);
         if self.files.remove(&number).is_some_and(|file| file.is_sent) {
             self.gone.push(number);
@@ -181,6 +205,7 @@ impl Files {
             }
             (bytes, at) = (rest, at + length as u64);
         }
+        self.touch();
         self.file(number).map(drop)
     }
 
@@ -226,10 +251,10 @@ impl Files {
         needed.collect::<BTreeSet<u64>>().into_iter().collect()
     }
 
-    /// Whether the next batch takes so long to be packed that nobody waits for it.
+    /// Whether the next batch takes so long that no other slot waits for it: to be packed, or to delete files.
     pub fn is_long(&self) -> bool {
         let lengths = self.held.range(self.queued..).map(|(_, piece)| piece.bytes.len());
-        lengths.sum::<usize>() > LONG
+        !self.gone.is_empty() || lengths.sum::<usize>() > LONG
     }
 
     pub fn batch(&mut self) -> Batch {
@@ -243,7 +268,7 @@ impl Files {
                 named.push((number, file.name.to_string_lossy().into_owned()));
             }
         }
-        Batch { gone: std::mem::take(&mut self.gone), named, pieces }
+        Batch { gone: std::mem::take(&mut self.gone), named, pieces, changes: self.changes }
     }
 
     /// The store has it: its bytes need not be held any more.

@@ -5,6 +5,7 @@ use std::pin::pin;
 use std::sync::Arc;
 use std::task::{Context, Poll, Wake, Waker};
 use std::thread::{self, Thread};
+use tokio::task::unconstrained;
 
 struct Sleeper(Thread);
 
@@ -19,7 +20,8 @@ impl Wake for Sleeper {
 pub fn on_this_thread<T>(work: impl Future<Output = T>) -> T {
     let waker = Waker::from(Arc::new(Sleeper(thread::current())));
     let mut context = Context::from_waker(&waker);
-    let mut work = pin!(work);
+    // Polled again at once, a task that has used up its budget would never get a new one.
+    let mut work = pin!(unconstrained(work));
     loop {
         match work.as_mut().poll(&mut context) {
             Poll::Ready(done) => return done,

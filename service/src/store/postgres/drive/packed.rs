@@ -1,4 +1,4 @@
-//! A batch in the form of the statement that writes it: columns of pieces, each packed where that is shorter.
+//! A batch in the form in which it is written: each piece packed if that is shorter.
 
 use super::files::{Batch, Bytes, Piece};
 use crate::work::locked;
@@ -7,10 +7,6 @@ use flate2::{Compress, Compression, FlushCompress, Status};
 use std::io::{self, Read};
 use std::sync::Mutex;
 
-/// What one statement has at most, and a piece.
-const MOST: usize = 16 << 20;
-/// What goes together with writes of other slots has no more.
-const SHORT: usize = 64 << 10;
 /// Of the journal of a few posts less than a tenth would be saved.
 const LEAST: usize = 128;
 /// So many are kept, of 300 KB each.
@@ -19,70 +15,52 @@ const MOST_PACKERS: usize = 8;
 /// Those that nobody has just now: to make one takes several times as long as to pack what is short.
 static PACKERS: Mutex<Vec<Compress>> = Mutex::new(Vec::new());
 
-/// It is done by one statement or more, in one transaction.
 pub struct Packed {
     pub gone: Vec<i64>,
-    pub named: Vec<i64>,
-    pub names: Vec<String>,
-    pub pieces: Vec<Columns>,
-    /// Of all pieces, packed.
+    pub named: Vec<(i64, String)>,
+    pub pieces: Vec<PackedPiece>,
+    /// Of all pieces.
     pub size: usize,
 }
 
-#[derive(Default)]
-pub struct Columns {
-    pub numbers: Vec<i64>,
-    pub files: Vec<i64>,
-    pub places: Vec<i64>,
-    /// Before they were packed: what has another length is packed.
-    pub lengths: Vec<i32>,
-    pub bytes: Vec<Bytes>,
+pub struct PackedPiece {
+    pub number: i64,
+    pub file: i64,
+    pub place: i64,
+    /// Before it was packed: a piece of another length is packed.
+    pub length: i32,
+    pub bytes: Bytes,
 }
 
 impl Packed {
+    /// Numbers are below 2^63, as a term is below 2^23.
     pub fn of(batch: &Batch) -> Packed {
-        let mut pieces = vec![Columns::default()];
-        let (mut all, mut size) = (0, 0);
-        for (number, piece) in &batch.pieces {
-            let bytes = pack(&piece.bytes);
-            all += bytes.len();
-            size += bytes.len();
-            if size > MOST {
-                pieces.push(Columns::default());
-                size = bytes.len();
-            }
-            if let Some(columns) = pieces.last_mut() {
-                columns.put(*number, piece, bytes);
-            }
-        }
+        let pieces = batch.pieces.iter().map(|(number, piece)| PackedPiece::of(*number, piece));
+        let pieces: Vec<PackedPiece> = pieces.collect();
         Packed {
-            gone: signed(batch.gone.iter().copied()),
-            named: signed(batch.named.iter().map(|(number, _)| *number)),
-            names: batch.named.iter().map(|(_, name)| name.clone()).collect(),
+            gone: batch.gone.iter().map(|number| *number as i64).collect(),
+            named: batch.named.iter().map(|(number, name)| (*number as i64, name.clone())).collect(),
+            size: pieces.iter().map(|piece| piece.bytes.len()).sum(),
             pieces,
-            size: all,
         }
     }
 
-    /// Whether it may go with those of other slots, and keeps them waiting for no longer than they do it.
-    pub fn is_short(&self) -> bool {
-        self.gone.is_empty() && self.named.is_empty() && self.size <= SHORT
+    /// Whether it has pieces alone.
+    pub fn only_appends(&self) -> bool {
+        self.gone.is_empty() && self.named.is_empty()
     }
 }
 
-impl Columns {
-    fn put(&mut self, number: u64, piece: &Piece, bytes: Bytes) {
-        self.numbers.push(number as i64);
-        self.files.push(piece.file as i64);
-        self.places.push(piece.at as i64);
-        self.lengths.push(piece.bytes.len() as i32);
-        self.bytes.push(bytes);
+impl PackedPiece {
+    fn of(number: u64, piece: &Piece) -> PackedPiece {
+        PackedPiece {
+            number: number as i64,
+            file: piece.file as i64,
+            place: piece.at as i64,
+            length: piece.bytes.len() as i32,
+            bytes: pack(&piece.bytes),
+        }
     }
-}
-
-/// A term is below 2^23, so each number is below 2^63.
-fn signed(numbers: impl Iterator<Item = u64>) -> Vec<i64> {
-    numbers.map(|number| number as i64).collect()
 }
 
 /// Packed, where that is shorter.

@@ -18,13 +18,10 @@ impl Rows {
         let packed = Packed::of(batch);
         self.pieces.retain(|(file, _), _| !packed.gone.contains(file));
         self.files.retain(|file, _| !packed.gone.contains(file));
-        self.files.extend(packed.named.into_iter().zip(packed.names));
-        for columns in packed.pieces {
-            for row in 0..columns.numbers.len() {
-                let key = (columns.files[row], columns.numbers[row]);
-                let piece = (columns.places[row], columns.lengths[row], columns.bytes[row].clone());
-                self.pieces.entry(key).or_insert(piece);
-            }
+        self.files.extend(packed.named);
+        for piece in packed.pieces {
+            let key = (piece.file, piece.number);
+            self.pieces.entry(key).or_insert((piece.place, piece.length, piece.bytes));
         }
     }
 

@@ -1,0 +1,134 @@
+//! Who has posted to this instance since its start, and what was not taken.
+
+use super::Status;
+use crate::log::seconds;
+use crate::operate::Desk;
+use crate::otlp::Reason;
+use crate::post_reports::OfSender;
+use serde::{Deserialize, Serialize};
+
+/// How many there are of a kind at most.
+const MOST: usize = 50;
+
+/// The first of many.
+#[derive(Debug, Serialize, Deserialize)]
+pub struct First<T> {
+    pub first: Vec<T>,
+    /// How many there are besides.
+    pub more: usize,
+}
+
+/// The posts of a sender that were refused for one reason.
+#[derive(Debug, Serialize, Deserialize)]
+pub struct RefusedStatus {
+    pub sender: String,
+    pub reason: Reason,
+    pub posts: u64,
+    /// Since the last one.
+    pub last_seconds: u64,
+    /// The text of its answer.
+    pub answer: String,
+}
+
+/// The points of a sender that were not taken for one reason.
+#[derive(Debug, Serialize, Deserialize)]
+pub struct RejectedStatus {
+    pub sender: String,
+    pub reason: Reason,
+    pub points: u64,
+}
+
+#[derive(Debug, Serialize, Deserialize)]
+pub struct SenderStatus {
+    pub sender: String,
+    /// Since its last post.
+    pub last_seconds: u64,
+    /// Posts that were taken, and that were refused.
+    pub taken: u64,
+    pub refused: u64,
+}
+
+impl<T> First<T> {
+    fn of(mut all: Vec<T>) -> First<T> {
+        let more = all.len().saturating_sub(MOST);
+        all.truncate(MOST);
+        First { first: all, more }
+    }
+}
+
+impl<T> Default for First<T> {
+    fn default() -> First<T> {
+        First::of(Vec::new())
+    }
+}
+
+impl Desk {
+    /// With what came to this instance. Posts wait while it is copied, so that levels do without.
+    pub(super) fn with_posts(&self, status: Status) -> Status {
+        let (now, senders) = (seconds(), self.activity.last(usize::MAX));
+        Status {
+            rates: self.pulse.rates(),
+            refused: refused(&senders, now),
+            rejected: rejected(self.metrics.all_rejected()),
+            senders: First::of(
+                senders.iter().map(|(sender, of)| SenderStatus::of(sender, of, now)).collect(),
+            ),
+            ..status
+        }
+    }
+}
+
+impl SenderStatus {
+    fn of(sender: &str, of: &OfSender, now: u64) -> SenderStatus {
+        SenderStatus {
+            sender: sender.into(),
+            last_seconds: now.saturating_sub(of.last),
+            taken: of.taken,
+            refused: of.refused.values().map(|of| of.posts).sum(),
+        }
+    }
+}
+
+fn refused(senders: &[(String, OfSender)], now: u64) -> First<RefusedStatus> {
+    let all = senders.iter().flat_map(|(sender, of)| {
+        of.refused.iter().map(move |(reason, of)| RefusedStatus {
+            sender: sender.clone(),
+            reason: *reason,
+            posts: of.posts,
+            last_seconds: now.saturating_sub(of.last),
+            answer: of.text.clone(),
+        })
+    });
+    let mut all: Vec<RefusedStatus> = all.collect();
+    all.sort_by_key(|of| of.last_seconds);
+    First::of(all)
+}
+
+fn rejected(all: Vec<(String, Reason, u64)>) -> First<RejectedStatus> {
+    let of = |(sender, reason, points)| RejectedStatus { sender, reason, points };
+    let mut all: Vec<RejectedStatus> = all.into_iter().map(of).collect();
+    all.sort_by_key(|of| std::cmp::Reverse(of.points));
+    First::of(all)
+}
+
+#[cfg(test)]
+mod tests {
+    use super::*;
+    use crate::post_reports::OfReason;
+
+    #[test]
+    fn what_was_refused_last_comes_first_and_many_are_counted() {
+        let of = |last, posts| OfReason { posts, last, text: "why".into() };
+        let refused_of = [(Reason::Quarantined, of(5, 2)), (Reason::Full, of(8, 3))].into();
+        let mut senders = vec![("A".to_string(), OfSender { taken: 1, last: 8, refused: refused_of })];
+        let shown = SenderStatus::of("A", &senders[0].1, 10);
+        assert_eq!((shown.last_seconds, shown.taken, shown.refused), (2, 1, 5));
+        let first = |senders: &[(String, OfSender)]| refused(senders, 10).first[0].reason;
+        assert_eq!(first(&senders), Reason::Full);
+        let later = OfSender { refused: [(Reason::BadSender, of(9, 1))].into(), ..OfSender::default() };
+        senders.extend((0..MOST).map(|number| (format!("s{number}"), later.clone())));
+        assert_eq!(first(&senders), Reason::BadSender);
+        let all = refused(&senders, 10);
+        assert_eq!((all.first.len(), all.more), (MOST, 2));
+    }
+}

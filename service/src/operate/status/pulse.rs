@@ -1,0 +1,102 @@
+//! What was posted and delivered a second, for the last minutes.
+
+use crate::metrics::Metrics;
+use crate::work::locked;
+use serde::{Deserialize, Serialize};
+use std::collections::VecDeque;
+use std::sync::{Arc, Mutex, Weak};
+use std::time::Duration;
+
+/// How often it is looked, and for how long it is kept.
+pub const EVERY: Duration = Duration::from_secs(2);
+pub const KEPT: usize = 150;
+
+/// The counters as they were at each look, the oldest first.
+pub struct Pulse(Mutex<VecDeque<Counted>>);
+
+/// Counters since the start.
+#[derive(Clone, Copy, Debug, Default, PartialEq, Eq)]
+pub struct Counted {
+    pub taken: u64,
+    pub refused: u64,
+    pub delivered: u64,
+}
+
+/// What came of them in a second.
+#[derive(Clone, Copy, Debug, Default, PartialEq, Serialize, Deserialize)]
+pub struct Rates {
+    pub taken: f64,
+    pub refused: f64,
+    pub delivered: f64,
+}
+
+impl Pulse {
+    /// Looks until it is dropped.
+    pub fn begin(metrics: Arc<Metrics>) -> Arc<Pulse> {
+        let pulse = Arc::new(Pulse(Mutex::default()));
+        tokio::spawn(look(Arc::downgrade(&pulse), metrics));
+        pulse
+    }
+
+    fn note(&self, counted: Counted) {
+        let mut all = locked(&self.0);
+        if all.len() > KEPT {
+            all.pop_front();
+        }
+        all.push_back(counted);
+    }
+
+    /// The oldest first.
+    pub fn rates(&self) -> Vec<Rates> {
+        let all = locked(&self.0);
+        let pairs = all.iter().zip(all.iter().skip(1));
+        pairs.map(|(before, now)| now.since(*before)).collect()
+    }
+}
+
+async fn look(pulse: Weak<Pulse>, metrics: Arc<Metrics>) {
+    let mut looks = tokio::time::interval(EVERY);
+    loop {
+        looks.tick().await;
+        match pulse.upgrade() {
+            Some(pulse) => pulse.note(Counted::of(&metrics)),
+            None => return,
+        }
+    }
+}
+
+impl Counted {
+    pub fn of(metrics: &Metrics) -> Counted {
+        let (taken, refused) = metrics.requests_answered();
+        let outcomes =
+            ["taken", "partial"].map(|outcome| metrics.deliveries.with_label_values(&[outcome]).get());
+        Counted { taken, refused, delivered: outcomes.iter().sum() }
+    }
+
+    fn since(self, before: Counted) -> Rates {
+        let a_second = |now: u64, before: u64| now.saturating_sub(before) as f64 / EVERY.as_secs_f64();
+        Rates {
+            taken: a_second(self.taken, before.taken),
+            refused: a_second(self.refused, before.refused),
+            delivered: a_second(self.delivered, before.delivered),
+        }
+    }
+}
+
+#[cfg(test)]
+mod tests {
+    use super::*;
+
+    #[test]
+    fn rates_are_of_the_last_minutes() {
+        let pulse = Pulse(Mutex::default());
+        assert_eq!(pulse.rates(), []);
+        for look in 0..1000 {
+            let (taken, refused, delivered) = (look * look, look, 2 * look);
+            pulse.note(Counted { taken, refused, delivered });
+        }
+        let rates = pulse.rates();
+        let last = Rates { taken: (999.0 * 999.0 - 998.0 * 998.0) / 2.0, refused: 0.5, delivered: 1.0 };
+        assert_eq!((rates.len(), rates.last()), (KEPT, Some(&last)));
+    }
+}

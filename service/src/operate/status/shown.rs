@@ -1,0 +1,343 @@
+//! A status in words: what `totxegun status` prints, and what the operator's page shows.
+
+use super::{held, quarantined, ClusterStatus, DatabaseStatus, First, Limit};
+use super::{InstanceStatus, LimitsStatus, SlotStatus, Status, Stock};
+use crate::command::values::{bytes_shown, counted, grouped, seconds_shown, sender_shown, senders_shown};
+use crate::otlp::Reason;
+
+/// All that is said, in its order.
+#[derive(Debug, Default)]
+pub struct Shown {
+    /// How the service is, by the name and version of the program.
+    pub how: [String; 2],
+    /// What senders get where nothing is taken, and why.
+    pub alarm: Option<[String; 2]>,
+    /// Where it listens, and what it has.
+    pub places: Vec<[String; 2]>,
+    pub tiles: Vec<Tile>,
+    /// Those that have something to say.
+    pub sections: Vec<Section>,
+}
+
+/// A number that is looked at first.
+#[derive(Debug)]
+pub struct Tile {
+    pub what: &'static str,
+    pub value: String,
+    /// Its colour on the page.
+    pub class: &'static str,
+}
+
+/// A title, what is to be known, and a table, either of which may be empty. Columns whose heads end in `#` have numbers.
+#[derive(Debug)]
+pub struct Section {
+    pub title: &'static str,
+    pub notes: Vec<String>,
+    pub heads: &'static [&'static str],
+    pub rows: Vec<Vec<String>>,
+    /// How many rows there are besides.
+    pub more: usize,
+}
+
+impl Section {
+    fn new(title: &'static str, heads: &'static [&'static str], rows: Vec<Vec<String>>) -> Section {
+        Section { title, notes: Vec::new(), heads, rows, more: 0 }
+    }
+
+    fn of<T>(
+        title: &'static str,
+        heads: &'static [&'static str],
+        all: &First<T>,
+        row: impl Fn(&T) -> Vec<String>,
+    ) -> Section {
+        Section { more: all.more, ..Section::new(title, heads, all.first.iter().map(row).collect()) }
+    }
+
+    fn noting(self, notes: impl IntoIterator<Item = String>) -> Section {
+        Section { notes: notes.into_iter().collect(), ..self }
+    }
+
+    fn is_empty(&self) -> bool {
+        self.rows.is_empty() && self.notes.is_empty()
+    }
+}
+
+impl Shown {
+    pub fn of(status: &Status) -> Shown {
+        let mut sections = vec![waits(status)];
+        if let Some(cluster) = &status.cluster {
+            sections.extend([instances(cluster), database(&cluster.database), slots(status)]);
+        }
+        sections.extend([
+            refused(status),
+            rejected(status),
+            senders(status),
+            limits(&status.limits),
+            shares(status),
+            cumulative(status),
+            rounded(status),
+            rounded_series(status),
+            dead(status),
+        ]);
+        sections.retain(|section| !section.is_empty());
+        Shown {
+            how: how(status),
+            alarm: alarm(status),
+            places: places(status),
+            tiles: tiles(status),
+            sections,
+        }
+    }
+}
+
+fn how(status: &Status) -> [String; 2] {
+    let how = if status.ready { "ready" } else { "not ready" };
+    let up = seconds_shown(status.uptime_seconds);
+    [format!("totxegun {}", status.version), format!("{how}, up {up}, process {}", status.pid)]
+}
+
+/// Why posts are answered 503.
+fn alarm(status: &Status) -> Option<[String; 2]> {
+    let why = status.unavailable.as_deref()?;
+    let why = match why {
+        why if why == Reason::NoRoom.text() => format!("{why}: make room on the disk of {}", status.data),
+        why if why == Reason::DiskSilent.text() => format!("{why}: look at the disk of {}", status.data),
+        why => why.to_string(),
+    };
+    Some(["posts get 503".to_string(), why])
+}
+
+fn places(status: &Status) -> Vec<[String; 2]> {
+    [("senders post to", &status.listen), ("data", &status.data), ("sink", &status.sink)]
+        .map(|(what, value)| [what.to_string(), value.clone()])
+        .into()
+}
+
+fn tiles(status: &Status) -> Vec<Tile> {
+    let last = status.rates.last().copied().unwrap_or_default();
+    let class_if = |is_so: bool, class: &'static str| if is_so { class } else { "" };
+    let tile = |what, class, value| Tile { what, value, class };
+    vec![
+        tile("posts a second", "posted", grouped(last.taken.round())),
+        tile("refused a second", class_if(last.refused > 0.0, "refused"), grouped(last.refused.round())),
+        tile("requests delivered a second", "delivered", grouped(last.delivered.round())),
+        tile(
+            "requests wait for the sink",
+            class_if(status.trouble().is_some(), "bad"),
+            grouped(status.waiting()),
+        ),
+        tile("dead requests", class_if(status.dead > 0, "bad"), grouped(status.dead)),
+        tile("series", "", grouped(status.series())),
+    ]
+}
+
+/// For a flush, or for the sink.
+fn waits(status: &Status) -> Section {
+    let slots = &status.slots;
+    let row = |what: &str, count: u64, stock: Stock| {
+        let age = stock.age_seconds.map_or_else(String::new, seconds_shown);
+        vec![what.to_string(), grouped(count), bytes_shown(stock.bytes), age]
+    };
+    let posts = slots.iter().map(|slot| slot.posts).sum();
+    let mut rows = vec![
+        row("posts, for a flush", posts, Stock::of_all(slots, |slot| &slot.journal)),
+        row("requests, for the sink", status.waiting(), Stock::of_all(slots, |slot| &slot.outbox)),
+    ];
+    let held = held(slots);
+    if held.posts > 0 {
+        let stock = Stock { bytes: held.bytes, age_seconds: None };
+        rows.push(row("posts of quarantined senders", held.posts, stock));
+    }
+    let names: Vec<String> = quarantined(slots).into_iter().map(String::from).collect();
+    let quarantined =
+        format!("quarantined: {}; `totxegun lift NAME` once it is repaired", senders_shown(&names));
+    let notes = of_deliveries(status).into_iter().chain((!names.is_empty()).then_some(quarantined));
+    Section::new("What waits", &["what", "how many#", "on disk#", "oldest#"], rows).noting(notes)
+}
+
+/// Why the sink does not take what waits; of several slots that of the first, and how many others have some trouble.
+fn of_deliveries(status: &Status) -> Option<String> {
+    let mut troubled = status.slots.iter().filter_map(|slot| Some((slot.slot, of_delivery(slot)?)));
+    let (slot, trouble) = troubled.next()?;
+    Some(match (&status.cluster, troubled.count()) {
+        (None, _) => trouble,
+        (Some(_), 0) => format!("slot {slot}: {trouble}"),
+        (Some(_), more) => format!("slot {slot}, and {more} more: {trouble}"),
+    })
+}
+
+fn of_delivery(slot: &SlotStatus) -> Option<String> {
+    if let Some(why) = &slot.stuck {
+        return Some(format!("the delivery stops: {why}"));
+    }
+    let why = slot.trouble.as_ref()?;
+    let next = slot.next_try_seconds.map(seconds_shown);
+    let next = next.map_or_else(String::new, |next| format!(" (the next in {next}, or at `totxegun flush`)"));
+    Some(match slot.tries {
+        0 => format!("no request is sent: {why}"),
+        tries => format!("the sink has not taken a request in {}{next}: {why}", counted(tries, "attempt")),
+    })
+}
+
+fn instances(cluster: &ClusterStatus) -> Section {
+    let row = |one: &InstanceStatus| {
+        vec![
+            one.name.clone(),
+            one.address.clone(),
+            one.version.clone(),
+            one.beat_seconds.map_or_else(|| "none".into(), seconds_shown),
+            grouped(one.slots),
+            one.trouble.clone().unwrap_or_default(),
+        ]
+    };
+    let rows = cluster.instances.iter().map(row).collect();
+    let heads = &["name", "address", "version", "since its last beat#", "slots#", "what is wrong"];
+    let of_which =
+        "what waits, slots, shares and dead requests are of all instances; posts, senders and limits of";
+    Section::new("Instances", heads, rows).noting([format!("{of_which} {}", cluster.instance)])
+}
+
+fn database(one: &DatabaseStatus) -> Section {
+    let copies = one.copies.map_or_else(|| "unknown".into(), |copies| copies.to_string());
+    let is_few = one.copies.is_some_and(|copies| copies < one.copies_asked);
+    let few = is_few.then(|| "fewer than --store-copies: look at its standby".to_string());
+    let row = vec![
+        one.database.clone(),
+        format!("{copies} of {}", one.copies_asked),
+        seconds_shown(one.doubt_seconds),
+        one.why.clone().or(few).unwrap_or_default(),
+    ];
+    Section::new(
+        "Database of the store",
+        &["database", "copies#", "in doubt for#", "what is wrong"],
+        vec![row],
+    )
+}
+
+fn slots(status: &Status) -> Section {
+    let row = |slot: &SlotStatus| {
+        let oldest = slot.journal.age_seconds.max(slot.outbox.age_seconds);
+        let unknown = slot.unknown.as_ref().map(|why| format!("nothing is known of it: {why}"));
+        // Why all posts get 503 is said once.
+        let refuses = slot.unavailable.as_ref().filter(|_| status.unavailable.is_none());
+        let wrong = unknown.or(refuses.map(|why| format!("posts get 503: {why}"))).or(of_delivery(slot));
+        let count = |count: u64| slot.unknown.as_ref().map_or_else(|| grouped(count), |_| "?".into());
+        vec![
+            slot.slot.to_string(),
+            slot.owner.clone().unwrap_or_else(|| "nobody".into()),
+            slot.term.map_or_else(String::new, grouped),
+            count(slot.series as u64),
+            count(slot.posts),
+            count(slot.waiting),
+            oldest.map_or_else(String::new, seconds_shown),
+            wrong.unwrap_or_default(),
+        ]
+    };
+    let heads = &["slot#", "instance", "term#", "series#", "posts#", "requests#", "oldest#", "what is wrong"];
+    Section::new("Slots", heads, status.slots.iter().map(row).collect())
+}
+
+fn refused(status: &Status) -> Section {
+    let heads = &["sender", "status", "posts#", "last#", "last answer", "what to do"];
+    Section::of("Refused posts", heads, &status.refused, |of| {
+        vec![
+            sender_shown(&of.sender),
+            of.reason.status().to_string(),
+            grouped(of.posts),
+            seconds_shown(of.last_seconds),
+            of.answer.clone(),
+            of.reason.advice().to_string(),
+        ]
+    })
+}
+
+fn rejected(status: &Status) -> Section {
+    Section::of("Points not taken", &["sender", "reason", "points#", "what to do"], &status.rejected, |of| {
+        let (reason, advice) = (of.reason.label().to_string(), of.reason.advice().to_string());
+        vec![sender_shown(&of.sender), reason, grouped(of.points), advice]
+    })
+}
+
+fn senders(status: &Status) -> Section {
+    let heads = &["sender", "last post#", "posts taken#", "refused#"];
+    Section::of("Senders, by their last post", heads, &status.senders, |of| {
+        vec![sender_shown(&of.sender), seconds_shown(of.last_seconds), grouped(of.taken), grouped(of.refused)]
+    })
+}
+
+fn limits(limits: &LimitsStatus) -> Section {
+    let row = |what: &str, of: Limit, shown: fn(u64) -> String, option: &str| {
+        let part = format!("{:.0} %", 100.0 * of.used as f64 / of.limit.max(1) as f64);
+        vec![what.to_string(), shown(of.used), shown(of.limit), part, option.to_string()]
+    };
+    let rows = vec![
+        row("series", limits.series, grouped, "--most-series"),
+        row("memory of the book", limits.memory_bytes, bytes_shown, "--book-memory"),
+        row("memory of posts under way", limits.request_bytes, bytes_shown, "--most-bytes"),
+    ];
+    let free = limits.disk_free_bytes.map(|free| format!("free on the disk: {}", bytes_shown(free)));
+    Section::new("Limits", &["what", "now#", "at most#", "used#", "option"], rows).noting(free)
+}
+
+fn shares(status: &Status) -> Section {
+    let most = |most: Option<u64>| most.map_or_else(String::new, grouped);
+    let rows = status.shares.iter().map(|of| {
+        vec![
+            sender_shown(&of.sender),
+            grouped(of.series),
+            most(of.most_series),
+            grouped(of.points),
+            most(of.most_points),
+            format!("{:.0} %", 100.0 * of.part()),
+        ]
+    });
+    let heads = &["nearest to its share", "series#", "at most#", "points at once#", "at most#", "used#"];
+    Section::new("Shares", heads, rows.collect())
+}
+
+fn cumulative(status: &Status) -> Section {
+    let of = &status.cumulative;
+    let (series, noted) = (grouped(of.series), grouped(of.noted));
+    let note = match of.noted {
+        0 => format!("{series} series come cumulative"),
+        _ => format!(
+            "{series} series come cumulative; what {noted} had before their first point here is left out (--first)"
+        ),
+    };
+    Section::new("Cumulative series", &[], Vec::new()).noting((of.series > 0).then_some(note))
+}
+
+fn rounded(status: &Status) -> Section {
+    let rows = status.rounded.iter().map(|of| {
+        let together = of.in_its_unit(of.rounding.together);
+        vec![of.rule.clone(), grouped(of.rounding.values), grouped(of.series), together]
+    });
+    Section::new("Rounded values", &["rule", "values#", "series#", "together by at most#"], rows.collect())
+}
+
+fn rounded_series(status: &Status) -> Section {
+    let all = status.rounded.iter().flat_map(|of| of.greatest.iter().map(move |one| (of, one)));
+    let rows = all.map(|(of, one)| {
+        vec![
+            of.in_its_unit(one.rounding.together),
+            grouped(one.rounding.values),
+            one.metric.clone(),
+            one.attributes.clone(),
+            one.resource.clone(),
+        ]
+    });
+    let heads = &["rounded by at most#", "values#", "metric", "attributes", "resource"];
+    Section::new("Series that were rounded by most", heads, rows.collect())
+}
+
+fn dead(status: &Status) -> Section {
+    let requests = counted(status.dead, "request");
+    let note = format!(
+        "{requests} that the sink refused for good: `totxegun dead list` has the reasons. Repair the sink, then `totxegun dead \
+         resend --all`; or `totxegun dead drop KEY`, and its points are lost"
+    );
+    Section::new("Dead requests", &[], Vec::new()).noting((status.dead > 0).then_some(note))
+}
+
+#[cfg(test)]
+mod tests;

@@ -1,0 +1,35 @@
+//! Why a request was not taken.
+
+use crate::otlp::series::NotForwarded;
+
+#[derive(Debug)]
+pub(in crate::sinks) enum NotTaken<Fault> {
+    /// It never will be.
+    Refused(String),
+    /// A limit was met, and nobody says whether it is one of the request or of the server, which may pass.
+    Failed(Fault),
+    Fault(Fault),
+}
+
+/// What is wrong with the content of a request.
+#[derive(Debug, thiserror::Error)]
+#[error("{0}")]
+pub(in crate::sinks) struct BadContent(pub(super) String);
+
+impl From<NotForwarded> for BadContent {
+    fn from(error: NotForwarded) -> BadContent {
+        BadContent(error.to_string())
+    }
+}
+
+impl<Fault> From<BadContent> for NotTaken<Fault> {
+    fn from(error: BadContent) -> NotTaken<Fault> {
+        NotTaken::Refused(error.0)
+    }
+}
+
+impl<Fault> From<NotForwarded> for NotTaken<Fault> {
+    fn from(error: NotForwarded) -> NotTaken<Fault> {
+        NotTaken::Refused(error.to_string())
+    }
+}

@@ -1,0 +1,195 @@
+//! What requests have for each of their series, before a database is asked.
+
+use super::fault::BadContent;
+use super::{Stored, Sums};
+use crate::otlp::series::{self, Digest, Digests, ForwardedPoint, SeriesKey, Value};
+use crate::sinks::left_out::shown;
+use crate::sinks::periods::Closed;
+use crate::sinks::{utc, Forwarded};
+use sha2::{Digest as _, Sha256};
+use std::collections::btree_map::Entry;
+use std::collections::BTreeMap;
+
+/// A request as it is written down.
+#[derive(Debug)]
+pub(in crate::sinks) struct Request<'r> {
+    pub(in crate::sinks) of: &'r Forwarded,
+    pub(super) sent: Sent,
+    /// SHA-256 of its body: a request that comes again has the same.
+    pub(in crate::sinks) digest: Vec<u8>,
+    /// In the order of their digests, so that any two writers make rows, and lock them, in one order.
+    pub(super) series: Vec<OfSeries>,
+}
+
+/// How a request is sent.
+#[derive(Clone, Copy, Debug, PartialEq, Eq)]
+pub(in crate::sinks) enum Sent {
+    InOrder,
+    /// It was put aside before.
+    ByHand,
+}
+
+/// A series of a request with its points, by time.
+#[derive(Debug)]
+pub(in crate::sinks) struct OfSeries {
+    pub(in crate::sinks) key: SeriesKey,
+    pub(in crate::sinks) digest: Digest,
+    pub(in crate::sinks) points: Vec<ForwardedPoint>,
+}
+
+/// Points of a series that end in one hour, and the hour in which they count: a later one, where theirs is closed.
+#[derive(Debug)]
+pub(in crate::sinks) struct InHour<'a> {
+    pub(in crate::sinks) of: i64,
+    pub(in crate::sinks) hour: i64,
+    pub(in crate::sinks) points: &'a [ForwardedPoint],
+}
+
+/// What a request adds to a series.
+#[derive(Debug)]
+pub(in crate::sinks) struct Adding<'a, Row> {
+    pub(in crate::sinks) of: &'a OfSeries,
+    pub(in crate::sinks) stored: &'a Stored<Row>,
+    /// Its points by the hours in which they count, in order.
+    pub(in crate::sinks) hours: Vec<InHour<'a>>,
+}
+
+impl<'r> Request<'r> {
+    /// With what its body has.
+    pub(in crate::sinks) fn with(of: &'r Forwarded, sent: Sent, content: Content) -> Request<'r> {
+        Request { of, sent, digest: content.digest, series: content.series }
+    }
+
+    pub(in crate::sinks) fn points(&self) -> usize {
+        self.series.iter().map(|of| of.points.len()).sum()
+    }
+}
+
+/// What a request's body has.
+#[derive(Debug)]
+pub(in crate::sinks) struct Content {
+    digest: Vec<u8>,
+    series: Vec<OfSeries>,
+}
+
+impl Content {
+    pub(in crate::sinks) fn read(body: &[u8]) -> Result<Content, BadContent> {
+        let mut all: BTreeMap<SeriesKey, Vec<ForwardedPoint>> = BTreeMap::new();
+        for point in series::forwarded(body)? {
+            all.entry(point.series.clone()).or_default().push(point);
+        }
+        let mut digests = Digests::default();
+        let of_series = |(key, points)| OfSeries { digest: digests.of(&key), key, points };
+        let mut series: Vec<OfSeries> = all.into_iter().map(of_series).collect();
+        series.sort_unstable_by_key(|of| of.digest);
+        series.iter_mut().try_for_each(OfSeries::put_in_order)?;
+        Ok(Content { digest: Sha256::digest(body).to_vec(), series })
+    }
+}
+
+/// What several requests have for their series, as one would.
+pub(super) fn together(requests: Vec<Request>) -> Result<Vec<OfSeries>, BadContent> {
+    let mut all: BTreeMap<Digest, OfSeries> = BTreeMap::new();
+    for of in requests.into_iter().flat_map(|request| request.series) {
+        match all.entry(of.digest) {
+            Entry::Vacant(place) => drop(place.insert(of)),
+            Entry::Occupied(mut found) => found.get_mut().points.extend(of.points),
+        }
+    }
+    let mut all: Vec<OfSeries> = all.into_values().collect();
+    all.iter_mut().try_for_each(OfSeries::put_in_order)?;
+    Ok(all)
+}
+
+impl OfSeries {
+    fn put_in_order(&mut self) -> Result<(), BadContent> {
+        self.points.sort_unstable_by_key(|point| point.start);
+        if let Some(empty) = self.points.iter().find(|point| point.start >= point.end) {
+            return Err(BadContent(format!("the interval {} is empty", shown(empty))));
+        }
+        match self.points.windows(2).find(|two| two[1].start < two[0].end) {
+            Some(two) => {
+                let (start, end) = (two[0].start, two[0].end);
+                Err(BadContent(format!("the interval {} overlaps ({start}, {end}]", shown(&two[1]))))
+            }
+            None => Ok(()),
+        }
+    }
+
+    /// How many buckets its first point has; none of a sum.
+    pub(in crate::sinks) fn buckets(&self) -> Option<usize> {
+        self.points.first().and_then(|point| buckets_of(&point.value))
+    }
+
+    /// Whether each value has so many buckets, or is none of a histogram.
+    pub(in crate::sinks) fn fits(&self, buckets: Option<usize>) -> Result<(), BadContent> {
+        let odd = self.points.iter().find(|point| buckets_of(&point.value) != buckets);
+        match odd {
+            Some(point) => Err(BadContent(format!("its value is not of the series' kind: {}", shown(point)))),
+            None => Ok(()),
+        }
+    }
+
+    /// By the hours in which they count, in order.
+    pub(super) fn by_hours(&self, closed: &Closed) -> Vec<InHour<'_>> {
+        let hour_of = |point: &ForwardedPoint| utc::hour_of(point.end);
+        let chunks = self.points.chunk_by(|one, next| hour_of(one) == hour_of(next));
+        let in_hour = |points: &'_ [ForwardedPoint]| hour_of(&points[0]);
+        let mut hours: Vec<InHour> = chunks
+            .map(|points| InHour { of: in_hour(points), hour: closed.counted_in(in_hour(points)), points })
+            .collect();
+        hours.sort_by_key(|in_hour| in_hour.hour);
+        hours
+    }
+}
+
+fn buckets_of(value: &Value) -> Option<usize> {
+    match value {
+        Value::Sum(_) => None,
+        Value::Histogram { buckets, .. } => Some(buckets.len()),
+    }
+}
+
+impl InHour<'_> {
+    pub(in crate::sinks) fn is_late(&self) -> bool {
+        self.hour != self.of
+    }
+
+    pub(in crate::sinks) fn sums(&self) -> Sums {
+        Sums::of(self.points.iter().map(|point| &point.value))
+    }
+}
+
+/// What the points of some hours come to.
+pub(in crate::sinks) fn sums_of(hours: &[InHour]) -> Sums {
+    let mut all = Sums::default();
+    hours.iter().for_each(|hour| all.merge(&hour.sums()));
+    all
+}
+
+impl<Row> Adding<'_, Row> {
+    pub(in crate::sinks) fn sums(&self) -> Sums {
+        sums_of(&self.hours)
+    }
+
+    /// What of it belongs to closed hours.
+    pub(in crate::sinks) fn late(&self) -> impl Iterator<Item = &InHour<'_>> {
+        self.hours.iter().filter(|hour| hour.is_late())
+    }
+}
+
+/// What it adds to the hours of metrics: of all series of one name, kind and unit, in the order of metrics and hours, in which
+/// any two writers lock them. Without buckets: series of a metric may differ in their bounds.
+pub(in crate::sinks) fn by_metric<'a, Row, Metric: Ord>(
+    all: &'a [Adding<'a, Row>],
+    metric_of: impl Fn(&'a Row) -> Metric,
+) -> BTreeMap<(Metric, i64), Sums> {
+    let mut rows: BTreeMap<(Metric, i64), Sums> = BTreeMap::new();
+    for adding in all {
+        for hour in &adding.hours {
+            let bare = Sums { buckets: None, ..hour.sums() };
+            rows.entry((metric_of(&adding.stored.row), hour.hour)).or_default().merge(&bare);
+        }
+    }
+    rows
+}

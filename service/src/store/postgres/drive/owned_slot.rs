@@ -1,0 +1,97 @@
+//! A slot that this instance has: its files, its commits, and by what its writes are fenced.
+
+use super::cache::Cache;
+use super::committer::Write;
+use super::files::{Batch, Files};
+use super::rounds::SyncRounds;
+use crate::latch::Latch;
+use crate::work::locked;
+use std::sync::{Arc, Mutex};
+use tokio::sync::watch;
+
+pub struct OwnedSlot {
+    pub slot: i32,
+    pub term: i64,
+    pub files: Mutex<Files>,
+    pub cache: Mutex<Cache>,
+    pub rounds: SyncRounds,
+    fence: Mutex<Fence>,
+    is_lost: watch::Sender<bool>,
+}
+
+/// What the next write of the slot has to know.
+#[derive(Clone, Copy, Default)]
+pub struct Fence {
+    /// As the slot's row has it: it goes up where it is not known whether a write was done.
+    pub link: i64,
+    /// The connection that has found the slot whole, or has written to it since.
+    pub connection: u64,
+    /// The file and the number of the piece that became durable last, of a file that still is.
+    pub last: Option<(i64, i64)>,
+}
+
+impl OwnedSlot {
+    pub fn new(slot: i32, term: i64, link: i64, files: Files) -> Arc<OwnedSlot> {
+        Arc::new(OwnedSlot {
+            slot,
+            term,
+            files: Mutex::new(files),
+            cache: Mutex::default(),
+            rounds: SyncRounds::default(),
+            fence: Mutex::new(Fence { link, ..Fence::default() }),
+            is_lost: watch::channel(false).0,
+        })
+    }
+
+    /// Nothing is written any more, and callers that wait are told so.
+    pub fn lose(&self) {
+        self.rounds.lose();
+        self.is_lost.send_replace(true);
+    }
+
+    pub fn is_lost(&self) -> bool {
+        *self.is_lost.borrow()
+    }
+
+    pub async fn lost(&self) {
+        self.is_lost.subscribe().wait_true().await;
+    }
+
+    pub fn fence(&self) -> Fence {
+        *locked(&self.fence)
+    }
+
+    /// The slot's row has this link now.
+    pub fn is_linked(&self, link: i64) {
+        let mut fence = locked(&self.fence);
+        fence.link = fence.link.max(link);
+    }
+
+    /// What there is to commit now; none if that is long, and only something short is wanted.
+    pub fn batch(&self, only_short: bool) -> Option<Batch> {
+        let mut files = locked(&self.files);
+        if only_short && files.is_long() {
+            return None;
+        }
+        self.rounds.begin();
+        Some(files.batch())
+    }
+
+    /// A connection has made a write durable. True if callers wait for another one.
+    pub fn is_durable(&self, write: Write, connection: u64) -> bool {
+        let Write { batch, packed, .. } = write;
+        locked(&self.files).is_there(&batch);
+        {
+            let mut fence = locked(&self.fence);
+            fence.connection = connection;
+            let last = packed.pieces.last().map(|piece| (piece.file, piece.number));
+            fence.last = last.or(fence.last.filter(|(file, _)| !packed.gone.contains(file)));
+        }
+        let mut cache = locked(&self.cache);
+        for (number, piece) in batch.pieces {
+            cache.put(number, piece.bytes);
+        }
+        drop(cache);
+        self.rounds.end(batch.changes)
+    }
+}

@@ -1,0 +1,160 @@
+//! The commits of a slot: one is under way at a time, and one is for all callers that wait.
+
+use crate::files::drive::Lost;
+use crate::work::locked;
+use std::sync::{Condvar, Mutex, PoisonError};
+use std::time::{Duration, Instant};
+
+#[derive(Default)]
+pub struct SyncRounds {
+    state: Mutex<State>,
+    changed: Condvar,
+}
+
+#[derive(Default)]
+struct State {
+    begun: u64,
+    ended: u64,
+    /// The last round that a caller waits for.
+    wanted: u64,
+    /// The committer was asked for a round, and has not ended it.
+    is_asked: bool,
+    is_lost: bool,
+    /// So many changes are durable.
+    durable: u64,
+    /// When the callers that wait began.
+    waiting: Vec<Instant>,
+}
+
+impl SyncRounds {
+    /// Returns once a round has ended that began after this call: how many changes are durable. `ask` has the committer begin
+    /// one.
+    pub fn wait(&self, ask: impl FnOnce()) -> Result<u64, Lost> {
+        let began = Instant::now();
+        let mut state = locked(&self.state);
+        let wanted = state.begun + 1;
+        state.wanted = wanted;
+        state.waiting.push(began);
+        if !state.is_lost && !std::mem::replace(&mut state.is_asked, true) {
+            ask();
+        }
+        let is_under_way = |state: &mut State| !state.is_lost && state.ended < wanted;
+        let waited = self.changed.wait_while(state, is_under_way);
+        let mut state = waited.unwrap_or_else(PoisonError::into_inner);
+        if let Some(place) = state.waiting.iter().position(|other| *other == began) {
+            state.waiting.swap_remove(place);
+        }
+        match state.is_lost {
+            true => Err(Lost),
+            false => Ok(state.durable),
+        }
+    }
+
+    /// Callers that come from here on wait for the next round.
+    pub fn begin(&self) {
+        locked(&self.state).begun += 1;
+    }
+
+    /// The round that was begun has made so many changes durable. True if callers wait for another one.
+    pub fn end(&self, durable: u64) -> bool {
+        let mut state = locked(&self.state);
+        (state.ended, state.durable) = (state.begun, durable);
+        state.is_asked = state.wanted > state.ended;
+        self.changed.notify_all();
+        state.is_asked
+    }
+
+    pub fn lose(&self) {
+        locked(&self.state).is_lost = true;
+        self.changed.notify_all();
+    }
+
+    pub fn check(&self) -> Result<(), Lost> {
+        match locked(&self.state).is_lost {
+            true => Err(Lost),
+            false => Ok(()),
+        }
+    }
+
+    /// How long the caller that began first has waited.
+    pub fn longest(&self) -> Duration {
+        let first = locked(&self.state).waiting.iter().min().copied();
+        first.map_or(Duration::ZERO, |first| first.elapsed())
+    }
+}
+
+#[cfg(test)]
+mod tests {
+    use super::*;
+    use std::sync::atomic::{AtomicU32, Ordering::SeqCst};
+    use std::sync::Arc;
+    use std::thread::{self, JoinHandle};
+
+    #[derive(Clone, Default)]
+    struct Slot {
+        rounds: Arc<SyncRounds>,
+        asked: Arc<AtomicU32>,
+    }
+
+    impl Slot {
+        fn sync(&self) -> JoinHandle<Result<u64, Lost>> {
+            let slot = self.clone();
+            let before = locked(&self.rounds.state).waiting.len();
+            let syncing = thread::spawn(move || {
+                slot.rounds.wait(|| {
+                    slot.asked.fetch_add(1, SeqCst);
+                })
+            });
+            while locked(&self.rounds.state).waiting.len() == before {
+                thread::sleep(Duration::from_millis(1));
+            }
+            syncing
+        }
+    }
+
+    #[test]
+    fn callers_before_a_round_share_it() {
+        let slot = Slot::default();
+        let all = [slot.sync(), slot.sync(), slot.sync()];
+        assert!(slot.rounds.longest() > Duration::ZERO);
+        slot.rounds.begin();
+        assert!(!slot.rounds.end(7), "nobody waits for another");
+        for one in all {
+            assert_eq!(one.join().unwrap(), Ok(7));
+        }
+        assert_eq!((slot.asked.load(SeqCst), slot.rounds.longest()), (1, Duration::ZERO));
+    }
+
+    /// What that round has may have been taken before their changes.
+    #[test]
+    fn callers_during_a_round_wait_for_the_next_and_share_it() {
+        let slot = Slot::default();
+        let first = slot.sync();
+        slot.rounds.begin();
+        let others = [slot.sync(), slot.sync()];
+        assert!(slot.rounds.end(1), "they wait for another");
+        assert_eq!(first.join().unwrap(), Ok(1));
+        assert!(others.iter().all(|other| !other.is_finished()));
+        slot.rounds.begin();
+        assert!(!slot.rounds.end(3));
+        for other in others {
+            assert_eq!(other.join().unwrap(), Ok(3));
+        }
+        assert_eq!(slot.asked.load(SeqCst), 1, "the committer goes on by itself");
+        let last = slot.sync();
+        assert_eq!(slot.asked.load(SeqCst), 2);
+        slot.rounds.lose();
+        assert_eq!(last.join().unwrap(), Err(Lost));
+    }
+
+    #[test]
+    fn whoever_waits_for_a_lost_slot_is_told_and_nothing_more_is_asked() {
+        let slot = Slot::default();
+        let waiting = slot.sync();
+        slot.rounds.begin();
+        slot.rounds.lose();
+        assert_eq!(waiting.join().unwrap(), Err(Lost));
+        assert_eq!(slot.rounds.wait(|| panic!("nobody writes any more")), Err(Lost));
+        assert!(slot.rounds.check().is_err());
+    }
+}

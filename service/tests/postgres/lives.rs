@@ -1,0 +1,141 @@
+//! What a database adds of several lives of a folder, and of what was put aside. All orders, up to a bound, are in
+//! `tests/sink_model.py`.
+
+use super::model::{both, Database};
+use super::rewind::rewind;
+use super::server::{sum, sums, Server};
+use super::{open, refused, taken};
+use totxegun::sinks::sql::export::{read, What};
+use totxegun::sinks::{Fate, Forwarded, Sink};
+
+fn of(epoch: &str, number: u64, body: String) -> Forwarded {
+    Forwarded { slot: 0, epoch: epoch.into(), number, body: body.into_bytes() }
+}
+
+async fn taken_of(sink: &dyn Sink, epoch: &str, number: u64, body: String) {
+    assert_eq!(sink.deliver(&of(epoch, number, body)).await, Fate::Taken, "{epoch} {number}");
+}
+
+async fn left_of(sink: &dyn Sink, epoch: &str, number: u64, body: String, until: u64) {
+    for part in
+        [format!("is not added, since its series has points until {until}"), "was not added before".into()]
+    {
+        match sink.deliver(&of(epoch, number, body.clone())).await {
+            Fate::Refused { reason } => assert!(reason.contains(&part), "{reason}"),
+            other => panic!("{epoch} {number}: {other:?}"),
+        }
+    }
+}
+
+fn total(database: &Database) -> String {
+    database.ask("select points, total from t.totals where name = 'a'")
+}
+
+#[tokio::test(flavor = "multi_thread")]
+async fn a_folder_in_the_place_of_a_lost_one_adds_nothing_twice() {
+    let server = Server::start();
+    for database in both(&server) {
+        let sink = open(&database.address());
+        taken_of(&*sink, "e", 7, sum("a", 100, 200, 1)).await;
+        // It knows nothing of the first: what it takes begins anywhere.
+        left_of(&*sink, "f", 1, sum("a", 50, 60, 2), 200).await;
+        left_of(&*sink, "f", 2, sum("a", 150, 250, 4), 200).await;
+        taken_of(&*sink, "f", 4, sum("a", 300, 400, 8)).await;
+        // One that was put aside, and one that begins before the floor.
+        taken_of(&*sink, "f", 3, sum("a", 200, 300, 16)).await;
+        left_of(&*sink, "f", 0, sum("a", 199, 200, 32), 200).await;
+        // What the lost one had sent, and what it had put aside.
+        taken_of(&*sink, "e", 7, sum("a", 100, 200, 1)).await;
+        left_of(&*sink, "e", 6, sum("a", 90, 100, 64), 400).await;
+        assert_eq!(total(&database), "3|25");
+    }
+}
+
+/// Nobody saw that the folder is a copy: its numbers come again.
+#[tokio::test(flavor = "multi_thread")]
+async fn a_copy_that_goes_on_under_the_same_keys_adds_nothing_twice() {
+    let server = Server::start();
+    for database in both(&server) {
+        let sink = open(&database.address());
+        taken(&*sink, 1, sum("a", 100, 200, 1)).await;
+        taken(&*sink, 2, sum("a", 200, 300, 2)).await;
+        refused(&*sink, 2, sum("b", 200, 300, 4), "key is that of another request").await;
+        taken(&*sink, 4, sum("b", 300, 400, 8)).await;
+        // Put aside by the copy, which has counted from 200 on: not a letter of the first.
+        left_of(&*sink, "e", 3, sum("a", 200, 350, 16), 300).await;
+        taken(&*sink, 7, sum("a", 350, 400, 32)).await;
+        // Sent in order, though a later number was taken: no folder does that which was not put back.
+        match sink.deliver_of(&of("e", 6, sum("a", 300, 310, 64)), None).await {
+            Fate::Refused { reason } => assert!(reason.contains("has points until 400"), "{reason}"),
+            other => panic!("{other:?}"),
+        }
+        assert_eq!(total(&database), "3|35");
+    }
+}
+
+#[tokio::test(flavor = "multi_thread")]
+async fn what_was_put_aside_before_a_rewind_is_not_added_behind_it() {
+    let server = Server::start();
+    for database in both(&server) {
+        let sink = open(&database.address());
+        taken(&*sink, 1, sum("a", 100, 200, 1)).await;
+        taken(&*sink, 4, rewind(&["a"], 150)).await;
+        // All from there on is posted again.
+        taken(&*sink, 5, sum("a", 150, 300, 2)).await;
+        left_of(&*sink, "e", 3, sum("a", 200, 250, 4), 300).await;
+        taken(&*sink, 7, sum("a", 400, 500, 8)).await;
+        taken(&*sink, 6, sum("a", 300, 400, 16)).await;
+        left_of(&*sink, "e", 2, sum("a", 120, 130, 32), 500).await;
+        assert_eq!(total(&database), "4|27");
+    }
+}
+
+/// An order to forget a series tells the sink of no earlier end.
+#[tokio::test(flavor = "multi_thread")]
+async fn what_was_put_aside_before_a_series_was_forgotten_is_not_added_behind_it() {
+    let server = Server::start();
+    for database in both(&server) {
+        let sink = open(&database.address());
+        taken(&*sink, 1, sum("a", 100, 200, 1)).await;
+        taken(&*sink, 3, rewind(&["a"], u64::MAX)).await;
+        left_of(&*sink, "e", 4, sum("a", 100, 200, 2), 200).await;
+        taken(&*sink, 5, sum("a", 200, 300, 4)).await;
+        left_of(&*sink, "e", 2, sum("a", 200, 250, 8), 300).await;
+        assert_eq!(total(&database), "2|5");
+    }
+}
+
+/// By one reader, whichever database it is.
+#[tokio::test(flavor = "multi_thread")]
+async fn totals_are_read_alike() {
+    let server = Server::start();
+    for database in both(&server) {
+        let address = database.address();
+        let sink = open(&address);
+        const SECOND: u64 = 1_000_000_000;
+        taken(&*sink, 1, sums(&[("b", SECOND, 3 * SECOND, 1), ("a", SECOND, 2 * SECOND, i64::MAX)])).await;
+        taken(&*sink, 2, sum("a", 2 * SECOND, 61 * SECOND, 1)).await;
+        let lines = move || {
+            let mut lines = Vec::new();
+            let closed = read(&address.parse().unwrap(), &What::Totals, &mut |line| {
+                lines.push(line);
+                Ok(())
+            });
+            closed.unwrap();
+            lines
+        };
+        let lines = tokio::task::spawn_blocking(lines).await.unwrap();
+        let found = lines.iter().map(|line| {
+            let times = line.times.as_ref().unwrap();
+            format!("{} {} {} {} {}", line.name, line.points, line.billed, times.since, times.until)
+        });
+        assert_eq!(
+            found.collect::<Vec<_>>(),
+            [
+                "a 2 9223372036854775808 1970-01-01T00:00:01Z 1970-01-01T00:01:01Z",
+                "b 1 1 1970-01-01T00:00:01Z 1970-01-01T00:00:03Z"
+            ]
+        );
+        assert_eq!(lines[0].attributes.get(), r#"{"k":"v"}"#);
+    }
+}
