@@ -22,10 +22,11 @@ from service import made
 # The service, as cargo's steps below compile it with its tests: quickly. A release build takes twice what all of that does.
 PROGRAM = made("dev")
 
-# Of the sources alone: the definitions that docs/PROOFS.md counts and lists, the pictures, the Python, the checksums of
-# Cargo.lock, and whether each wrong copy of the service, and each edit of the crates, can still be made.
+# Of the sources alone: the definitions that docs/PROOFS.md counts and lists, what the service declares of the library, the pictures,
+# the Python, the checksums of Cargo.lock, and whether each wrong copy of the service, and each edit of the crates, can still be made.
 TOOL_STEPS = (
     ("promise_is_counted", ["tools/promise.py", "--check"], 2),
+    ("library_is_declared", ["tools/declared.py", "--check"], 1),
     ("pictures_are_drawn", ["tools/pictures.py", "--check"], 2),
     ("python_is_typed", ["tools/python.py", "--check"], 30),
     ("checksums_are_true", ["tools/cargo", "--made-up"], 1),

@@ -2,7 +2,7 @@
 //!
 //! What the library was proved to do holds while its caller does what stands here beside each call: one call of a
 //! handle at a time (`&mut self`), and only of one that was made and not freed yet (`Drop`); slices as they are; numbers
-//! in the ranges that the contracts have; declarations (`declared`) as `crates/book_c/src/lib.rt` and `answers.rt` have them; and
+//! in the ranges that the contracts have; declarations (`declared`) that `tools/declared.py` takes from the library's source; and
 //! memory that nobody else writes to, which it gets by the last three functions here.
 
 mod answer;
@@ -13,10 +13,20 @@ use answer::{asked, forwarded, written};
 use declared::*;
 use std::ptr::null_mut;
 
-pub(super) use answer::{Answer, NO_MEMORY};
+pub(super) use declared::{status, Answer, MAX_TAKEN};
 
-/// The most series of each book that one flush takes.
-pub(super) const MOST_TAKEN: usize = 1000;
+// tcmalloc, which has all blocks of the process: it is linked before the C library, whose malloc nobody calls. A post takes
+// hundreds of blocks, and of four allocators it took the least time.
+#[link(name = "tcmalloc_minimal")]
+extern "C" {
+    #[link_name = "MallocExtension_ReleaseFreeMemory"]
+    fn release_free_memory();
+    #[link_name = "MallocExtension_MarkThreadIdle"]
+    fn mark_thread_idle();
+    #[cfg(test)]
+    #[link_name = "MallocExtension_GetNumericProperty"]
+    fn number_of(property: *const libc::c_char, number: *mut usize) -> libc::c_int;
+}
 
 /// A reader, a sender's name, a body, how many books, a window of time, an answer.
 type ReadCall =
@@ -54,8 +64,9 @@ handles! {
 /// The handle that a call has made, or none where there is no memory.
 fn made(call: impl FnOnce(&mut Handle) -> bool) -> Option<Handle> {
     let mut handle = Handle { at: null_mut() };
-    let answer = asked(|answer| answer.status = if call(&mut handle) { 0 } else { NO_MEMORY });
-    (answer.status == 0).then_some(handle)
+    let answer =
+        asked(|answer| answer.status = if call(&mut handle) { status::DONE } else { status::NO_MEMORY });
+    (answer.status == status::DONE).then_some(handle)
 }
 
 impl Reader {
@@ -154,14 +165,14 @@ impl Desk {
 
     /// Takes a flush of each book that has something, of at most so many series.
     pub fn take(&mut self, flushes: &mut Flushes, most: usize) -> Answer {
-        let most = most.clamp(1, MOST_TAKEN);
+        let most = most.clamp(1, MAX_TAKEN);
         // SAFETY: both handles are live and lent for this call alone; the number is from 1 to 1,000.
         forwarded(|answer| unsafe { desk_take(&mut self.0, &mut flushes.0, most, answer) })
     }
 
     /// As `take`, of one book alone.
     pub fn take_book(&mut self, flushes: &mut Flushes, book: usize, most: usize) -> Answer {
-        let most = most.clamp(1, MOST_TAKEN);
+        let most = most.clamp(1, MAX_TAKEN);
         // SAFETY: both handles are live and lent for this call alone; the number is from 1 to 1,000.
         forwarded(|answer| unsafe { desk_take_book(&mut self.0, &mut flushes.0, book, most, answer) })
     }

@@ -3,7 +3,7 @@
 //! What is taken so is written and settled at once, since a series of which something is in flight is not taken again. Its
 //! requests wait here for the next group, ahead of all else that it has.
 
-use super::book::{Desk, Flushes, Reader, MOST_TAKEN};
+use super::book::{Desk, Flushes, Reader, MAX_TAKEN};
 use super::refusal::check;
 use super::{memory, Book, Flushed, Read, Refused};
 use crate::files::Points;
@@ -79,7 +79,7 @@ impl Book {
     fn take_earlier(&mut self, book: usize) -> Result<(), Refused> {
         loop {
             let mut flushes = Flushes::new().ok_or(Refused::NoMemory)?;
-            match check(self.desk.take_book(&mut flushes, book, MOST_TAKEN)) {
+            match check(self.desk.take_book(&mut flushes, book, MAX_TAKEN)) {
                 Err(Refused::Nothing) => return Ok(()),
                 taken => drop(taken?),
             }

@@ -34,7 +34,7 @@ pub use stretch::Across;
 
 use crate::files::{Body, Points, Post};
 use crate::work::locked;
-use book::{Answer, Desk, Flushes, Reader, MOST_TAKEN};
+use book::{Answer, Desk, Flushes, Reader, MAX_TAKEN};
 use bytes::Bytes;
 use earlier::Earlier;
 use flushed::copied;
@@ -236,7 +236,7 @@ impl Book {
     pub fn take_all(&mut self) -> Result<Flushed, Refused> {
         let mut taken = Flushed { earlier: Vec::new(), parts: Vec::new() };
         loop {
-            match self.take(MOST_TAKEN) {
+            match self.take(MAX_TAKEN) {
                 Ok(part) => taken.parts.push(part),
                 Err(Refused::Nothing) => break,
                 Err(refused) => {

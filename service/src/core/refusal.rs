@@ -1,6 +1,6 @@
 //! What the book says no by: the numbers of the library, each with its text and the HTTP status of its answer.
 
-use super::book::Answer;
+use super::book::{status, Answer};
 use crate::otlp::{Outcome, Reason, RejectedPoint, Rejection};
 use thiserror::Error;
 
@@ -27,6 +27,8 @@ pub enum Refused {
     NotJson,
     #[error("wrong shape")]
     WrongShape,
+    #[error("not protobuf of OTLP")]
+    NotProtobuf,
     #[error("nothing")]
     Nothing,
     #[error("no such flush")]
@@ -60,22 +62,23 @@ pub enum Refused {
 /// What a call says where it did what it was asked.
 pub(super) fn check(answer: Answer) -> Result<Answer, Refused> {
     Err(match answer.status {
-        0 => return Ok(answer),
-        1 => Refused::Quarantined,
-        2 => Refused::Full,
-        3 => Refused::OtherWriter { point: answer.at },
-        4 => Refused::OutOfOrder { point: answer.at, frontier: answer.frontier },
-        5 => Refused::TooManySeries,
-        6 => Refused::TooLarge,
-        7 => Refused::NoMemory,
-        8 => Refused::BadSender,
-        9 => Refused::NotJson,
-        10 => Refused::WrongShape,
-        11 => Refused::Nothing,
-        12 => Refused::NoSuch,
-        13 => Refused::AlreadyQuarantined,
-        14 => Refused::NotQuarantined,
-        15 => Refused::NotEnded,
+        status::DONE => return Ok(answer),
+        status::QUARANTINED => Refused::Quarantined,
+        status::FULL => Refused::Full,
+        status::OTHER_WRITER => Refused::OtherWriter { point: answer.at },
+        status::OUT_OF_ORDER => Refused::OutOfOrder { point: answer.at, frontier: answer.frontier },
+        status::TOO_MANY_SERIES => Refused::TooManySeries,
+        status::TOO_LARGE => Refused::TooLarge,
+        status::NO_MEMORY => Refused::NoMemory,
+        status::BAD_SENDER => Refused::BadSender,
+        status::NOT_JSON => Refused::NotJson,
+        status::WRONG_SHAPE => Refused::WrongShape,
+        status::NOT_PROTOBUF => Refused::NotProtobuf,
+        status::NOTHING => Refused::Nothing,
+        status::NO_SUCH => Refused::NoSuch,
+        status::ALREADY => Refused::AlreadyQuarantined,
+        status::NOT_QUARANTINED => Refused::NotQuarantined,
+        status::NOT_ENDED => Refused::NotEnded,
         other => Refused::Unknown(other),
     })
 }
@@ -94,6 +97,7 @@ impl Refused {
             Refused::BadSender => Reason::BadSender,
             Refused::NotJson => Reason::NotJson,
             Refused::WrongShape => Reason::WrongShape,
+            Refused::NotProtobuf => Reason::Unreadable,
             Refused::TooManyHours { .. } => Reason::TooManyHours,
             Refused::LongSeries => Reason::TooLongSeries,
             Refused::AlreadyQuarantined => Reason::AlreadyQuarantined,

@@ -10,6 +10,7 @@ mod points;
 mod protobuf;
 mod rounds;
 mod sizes;
+mod statuses;
 mod stretches;
 
 /// A body with a point of each of these series.

@@ -77,8 +77,7 @@ fn a_body_says_the_same_once_there_is_memory() {
     }
     let unread =
         [json(r#"{"resourceMetrics":[{"a":"b"}"#), json(r#"{"resourceMetrics":[null]}"#), protobuf(b"{}")];
-    let not_protobuf = Refused::Unknown(19); // the service reads such a body otherwise
-    let faults = [Refused::NotJson, Refused::WrongShape, not_protobuf];
+    let faults = [Refused::NotJson, Refused::WrongShape, Refused::NotProtobuf];
     assert_eq!(unread.map(|(_, said)| said), faults.map(Err));
     let posts = plain_posts_of_test(7, 10).into_iter().map(|body| protobuf(&body).1);
     assert!(posts.flatten().map(|said| said.0).sum::<u64>() > 10);
@@ -113,7 +112,7 @@ fn what_only_looks_or_ends_something_asks_for_no_block() {
     assert_eq!(asked_for(|| desk.crosses(&mut reader, 20, 0)), 0);
     for end in [Desk::give_back as fn(&mut Desk, &mut Flushes) -> Answer, Desk::settle] {
         let mut flushes = Flushes::new().unwrap();
-        check(desk.take(&mut flushes, MOST_TAKEN)).unwrap();
+        check(desk.take(&mut flushes, MAX_TAKEN)).unwrap();
         assert_eq!(asked_for(|| end(&mut desk, &mut flushes)), 0);
     }
     check(desk.quarantine(b"B")).unwrap();

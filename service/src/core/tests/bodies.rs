@@ -221,7 +221,7 @@ const NOT_READ: [&[u8]; 15] = [
 #[test]
 fn bytes_are_a_request_or_none() {
     let mut reading = Reading::new();
-    let none = Err(Refused::Unknown(19)); // the service reads such a body otherwise
+    let none = Err(Refused::NotProtobuf); // the service reads such a body otherwise
     for bytes in READ {
         assert_eq!(reading.protobuf(bytes), Ok((vec![], 0)), "{bytes:?}");
     }

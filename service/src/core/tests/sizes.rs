@@ -144,7 +144,7 @@ fn all_is_taken_of_the_most_series() {
     let (mut desk, mut reader) = desk_with(BOOKS, &names("s", MOST));
     let mut flushes = Flushes::new().unwrap();
     for end in [Desk::give_back as fn(&mut Desk, &mut Flushes) -> Answer, Desk::settle] {
-        assert_eq!(number(desk.take(&mut flushes, MOST_TAKEN)), BOOKS);
+        assert_eq!(number(desk.take(&mut flushes, MAX_TAKEN)), BOOKS);
         let series: u64 = (0..BOOKS).map(|book| check(flushes.text(book)).unwrap().at).sum();
         assert_eq!(series, 1_000 * BOOKS as u64);
         assert_eq!(check(end(&mut desk, &mut flushes)).map(drop), Ok(()));
@@ -161,7 +161,7 @@ fn one_book_is_taken_of_the_most_series() {
     let (mut desk, _) = desk_with(BOOKS, &names("s", MOST));
     let mut flushes = Flushes::new().unwrap();
     for book in 0..BOOKS {
-        assert_eq!(number(desk.take_book(&mut flushes, book, MOST_TAKEN)), 1);
+        assert_eq!(number(desk.take_book(&mut flushes, book, MAX_TAKEN)), 1);
         assert_eq!(check(flushes.text(0)).unwrap().at, 1_000);
         check(desk.settle(&mut flushes)).unwrap();
     }
@@ -171,7 +171,7 @@ fn one_book_is_taken_of_the_most_series() {
 fn the_longest_request_is_written() {
     let (mut desk, _) = desk_with(1, &long_names(1_000));
     let mut flushes = Flushes::new().unwrap();
-    assert_eq!(number(desk.take(&mut flushes, MOST_TAKEN)), 1);
+    assert_eq!(number(desk.take(&mut flushes, MAX_TAKEN)), 1);
     let text = check(flushes.text(0)).unwrap();
     assert!(text.at == 1_000 && text.number as usize > 1_000 * LONG, "{text:?}");
     assert!(flushes.copy(&mut vec![0; text.number as usize]));
