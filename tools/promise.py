@@ -5,8 +5,9 @@
     tools/promise.py TIER               the reading list of a tier, 1 for the store: what to read, lowest first, with lines
                                         and with what is said of each definition before it
     tools/promise.py CRATE FUNCTION     that of one contract
-    tools/promise.py --check            whether docs/PROOFS.md has these numbers and the files of the first tier, and whether
-                                        just that stands in specs/inner which no public contract needs: a step of the gate
+    tools/promise.py --check            whether docs/PROOFS.md has these numbers and the files of the first tier, whether a tier has
+                                        each function that README names, and whether just that stands in specs/inner which no
+                                        public contract needs: a step of the gate
 
 It goes by names and imports, and reads no type: what a trait's function means, and the fields of types of src/, are not
 followed. What is named of src/ (types, constants) and of the toolchain's libraries is counted apart, each once.
@@ -24,8 +25,8 @@ from tooling.crates import ROOT, read_crates
 from tooling.files import text_of
 
 # The top contracts by tiers: what a tier is, and of each crate the functions, or a file of
-# definitions. One who reads a tier has read those before it.
-TIERS = (
+# definitions; all that it exports if none is named. One who reads a tier has read those before it.
+TIERS: Sequence[tuple[str, Sequence[tuple[str, list[str]]]]] = (
     ("the store", (
         ("delta_book", ["specs/Calls", "admit", "undo", "confirm", "take", "settle", "drop_flush", "give_back", "quarantine",
                         "lift", "totals"]),
@@ -38,10 +39,7 @@ TIERS = (
     )),
     ("play, and the service's library", (
         ("play_script", ["play"]),
-        ("book_c", ["desk_new", "names_text", "reader_read", "reader_put", "reader_words", "reader_ends",
-                    "desk_admit", "desk_try", "desk_crosses", "desk_take", "desk_take_book", "flushes_text",
-                    "flushes_copy", "desk_settle", "desk_drop", "desk_give_back", "desk_quarantine", "desk_lift",
-                    "desk_close_round", "desk_report"]),
+        ("book_c", []),
     )),
     ("rounds, recovery, and the service's machine", (
         ("metric_events", ["closing", "recovery", "priming", "congruence"]),
@@ -315,8 +313,21 @@ class Tier:
 def tiers(promise: Promise) -> list[Tier]:
     found: list[Tier] = []
     for what, tops in TIERS:
-        found.append(Tier(promise, what, tops, found))
+        found.append(Tier(promise, what, [(crate, names or all_of(promise, crate)) for crate, names in tops], found))
     return found
+
+
+def all_of(promise: Promise, crate: str) -> list[str]:
+    return list(dict.fromkeys(name for name, _, _ in promise.contracts(crate)))
+
+
+def not_counted(promise: Promise, all_tiers: list[Tier]) -> Iterator[str]:
+    """What README names of the crates that no tier has, a line each."""
+    counted = {name for tier in all_tiers for _, name, _ in tier.tops}
+    named = set(re.findall(r"`(\w+)(?:\(\))?`", text_of(f"{ROOT}/README.md")))
+    for crate in promise.crates:
+        for name in sorted(named.intersection(all_of(promise, crate)) - counted):
+            yield f"README.md names {name} of {crate}, which no tier of TIERS has"
 
 
 def show_tiers(promise: Promise) -> None:
@@ -404,7 +415,7 @@ def check(promise: Promise) -> str | None:
     files = [f"{it.crate}/{it.module.partition('.')[2].replace('.', '/')}" for it, _ in promise.in_order(store.added)]
     if LISTED.findall(said) != files:
         wrong += ["the reading list of docs/PROOFS.md has to have these files, in this order:", *files]
-    wrong += misplaced(promise)
+    wrong += [*misplaced(promise), *not_counted(promise, all_tiers)]
     if wrong:
         return "\n".join(wrong)
     print(f"the promise: {wanted[-1]}, as docs/PROOFS.md says; specs/inner has what no public contract needs")
