@@ -21,7 +21,7 @@ LIMITS = f"{ROOT}/crates/metric_events/src/limits.rt"
 WRITTEN = f"{ROOT}/service/src/core/book/declared.rs"
 
 HEAD = """//! What crosses between the service and the proved library: written by `tools/declared.py` from the source of the library
-//! (`crates/book_c`). Who changes that runs it; `make test` compares.
+//! (`crates/book_c`). Who changes that runs it; `make test` compares. The service has no use for some of it.
 """
 # A function without its body and its contract, which begin in a line of their own.
 EXPORT = re.compile(r'((?:^///[^\n]*\n)*)^#\[unsafe\(no_mangle\)\]\npub extern "C" fn (\w+)\((.*?)\)(?: -> (\w+))?\n', re.M | re.S)
@@ -77,7 +77,7 @@ def statuses() -> str:
         wrong("two statuses have one number")
     consts = "\n".join(f"{about}pub const {name}: u32 = {number};" for about, name, number in found)
     named = ", ".join(name for _, name, _ in found)
-    return f"/// What a call answers with, in `Answer::status` or by itself.\npub(in crate::core) mod status {{\n{consts}\n" \
+    return f"/// What a call answers with, in `Answer::status` or by itself.\n#[allow(dead_code)]\npub(in crate::core) mod status {{\n{consts}\n" \
         f"/// All of them.\n#[cfg(test)]\npub const ALL: [u32; {len(found)}] = [{named}];\n}}\n"
 
 
@@ -96,7 +96,7 @@ def wrong(why: str) -> NoReturn:
 def declared() -> str:
     traits = "#[derive(Clone, Copy, Debug, Default, PartialEq, Eq)]\n"
     parts = [HEAD, struct("handle.rt", "Handle", "", "super"), struct("answers.rt", "Answer", traits, "in crate::core"),
-             statuses(), most_taken(), "// The service has no use for some of them.\n#[allow(dead_code)]\n" + functions()]
+             statuses(), most_taken(), "#[allow(dead_code)]\n" + functions()]
     command = ["rustfmt", "--edition", "2021", "--config-path", f"{ROOT}/service/rustfmt.toml"]
     laid_out = subprocess.run(command, input="\n".join(parts), stdout=subprocess.PIPE, text=True, check=False)
     if laid_out.returncode:

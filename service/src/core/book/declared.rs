@@ -1,5 +1,5 @@
 //! What crosses between the service and the proved library: written by `tools/declared.py` from the source of the library
-//! (`crates/book_c`). Who changes that runs it; `make test` compares.
+//! (`crates/book_c`). Who changes that runs it; `make test` compares. The service has no use for some of it.
 
 /// What is kept for C, or nothing where the pointer is null. Whoever has the handle has what is
 /// kept.
@@ -19,6 +19,7 @@ pub(in crate::core) struct Answer {
 }
 
 /// What a call answers with, in `Answer::status` or by itself.
+#[allow(dead_code)]
 pub(in crate::core) mod status {
     /// Done: taken, read, written or ended.
     pub const DONE: u32 = 0;
@@ -86,7 +87,6 @@ pub(in crate::core) mod status {
 /// The most series that one flush takes.
 pub(in crate::core) const MAX_TAKEN: usize = 1_000;
 
-// The service has no use for some of them.
 #[allow(dead_code)]
 extern "C" {
     /// Makes a reader. True where there was memory.
