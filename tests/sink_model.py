@@ -3,17 +3,19 @@
 
     tests/sink_model.py
 
-It needs no program. A folder makes requests, each with a key (epoch, number) and what the series counted in an interval that
+It needs no program. A folder makes requests, each with a key (slot, epoch, number) and what the series counted in an interval that
 begins where the last one ended, or later. Requests are sent in order; an answer may be lost, so that one is sent again; one may be
 put aside, as a server's limits do, and is sent again by hand at any time, as is what the sink refused. The folder may be lost, so
 that a new one begins anywhere; a copy of it may be put back, which draws a new epoch, or doesn't where nobody can see that it is
-one; the series may be put back to an earlier end (a rewind, after which what it counted later counts again), or be forgotten.
+one; the series may be put back to an earlier end (a rewind, after which what it counted later counts again), or be forgotten. Other
+series of the folder, and of another slot with the same epoch, may be put back too.
 
-A sink keeps of the series where it ends, the life whose request it added last, and the floor of that life: where the series
-ended when the life's first request was added. In no state has it counted two intervals that overlap, but for what a rewind lets
-count again. Where there is one life, without rewinds, it takes all. A copy that nobody could see is assumed to send what waits
-before it puts something aside, or sends a letter again; a series is assumed to have nothing that
-waits, and no letters, when its folder forgets it for its age, and nothing that a server's limits put aside after that.
+A sink keeps of the series where it ends, the life (an epoch of a slot) that added to it last, and its floor: above it there is
+nothing but what that life has sent since the series was put back. Of each life it keeps which request put the series back last. In no state has it counted two intervals that overlap, but for what a rewind lets
+count again: what was made and counted before it, and what was made and counted after. Where there is one life, and the series is
+not put back, it takes all. A copy that nobody could see is assumed to send what waits before it puts something aside, or sends a
+letter again; a series is assumed to have nothing that waits, and no letters, when its folder forgets it for its age, and nothing
+that a server's limits put aside after that.
 
 With all rules kept no state breaks this. Without any one of them some state does, and the shortest way to it is printed: so the
 rule is needed, and the model can see it.
@@ -29,8 +31,8 @@ from typing import Any, NamedTuple, Optional
 
 from testing.checks import Checks
 
-NONE, GONE = -1, -2  # lives: of a series without points, of one whose life is no more
 ALWAYS = 99  # a time behind all others
+GONE = (-1, -1)  # a life in whose place is another one
 
 
 @dataclasses.dataclass(frozen=True)
@@ -47,16 +49,22 @@ class Rules:
     only_what_is_sent_by_hand_is_late: bool = True
     # What is sent again by hand, behind later ones, begins at the floor of its life, or later.
     letters_begin_at_the_floor: bool = True
-    # What is sent again later begins at the end of the series, where another life added last.
+    # It begins at the end of the series, where another life added last.
     letters_of_other_lives_begin_at_the_end: bool = True
-    # The floor is where the series ended when the life began to add.
+    # What was made before the series was put back begins at the end of the series.
+    letters_of_before_a_rewind_begin_at_the_end: bool = True
+    # A letter that begins at the end of the series moves the floor there, too.
+    letters_at_the_end_move_the_floor: bool = True
+    # The floor is where the series ended when its life began to add.
     a_life_has_its_own_floor: bool = True
-    # A rewind begins a life.
-    a_rewind_begins_a_life: bool = True
+    # A rewind begins a life of its series, or its floor.
+    a_rewind_moves_the_floor: bool = True
+    # A rewind is a boundary for what was made before.
+    a_rewind_is_a_boundary: bool = True
     # Another request under a key that was taken begins a life.
     another_request_of_a_key_begins_a_life: bool = True
-    # An operator's order to forget a series begins a life.
-    an_order_to_forget_begins_a_life: bool = True
+    # An operator's order to forget a series is a boundary for what was made before.
+    an_order_to_forget_is_a_boundary: bool = True
 
 
 class Bounds(NamedTuple):
@@ -66,30 +74,48 @@ class Bounds(NamedTuple):
 
 
 class Request(NamedTuple):
+    slot: int
     epoch: int
     number: int
     made: int  # which of all: two lives may give one key twice
     start: int  # of a rewind: the end of the series from then on
     end: Optional[int]  # none of a rewind
+    is_of_others: bool = False  # of a rewind: of other series
 
 
 class Folder(NamedTuple):
     epoch: int = 0
-    number: int = 0
+    number: int = 1
     frontier: int = 0
     waiting: tuple[Request, ...] = ()
     letters: tuple[Request, ...] = ()
     is_unseen: bool = False  # a copy that nobody could see, and that has not sent what waits
 
 
+class Life(NamedTuple):
+    """A row of `life`, and of the series the one of `rewind` that has its slot and epoch."""
+
+    slot: int
+    epoch: int
+    rewound: int  # the number of the last request that put the series back; 0 without one
+
+
+class Counted(NamedTuple):
+    start: int
+    end: int
+    made: int
+    rewinds: int  # how many rewinds the sink had before
+
+
 class Sink(NamedTuple):
-    keys: tuple[tuple[int, int, int, bool], ...] = ()  # epoch, number, made, whether it was added
-    lives: tuple[tuple[int, int], ...] = ()  # epoch, from number: the last one that fits
-    life: int = NONE  # of the series
+    keys: tuple[tuple[int, int, int, int, bool], ...] = ()  # slot, epoch, number, made, whether it was added
+    lives: tuple[Life, ...] = ()
+    # Of the series:
+    life: Optional[tuple[int, int]] = None  # slot and epoch; none without points
     floor: int = 0
     last: int = 0
-    counted: tuple[tuple[int, int, int], ...] = ()  # start, end, how many rewinds there were
-    rewinds: tuple[int, ...] = ()
+    counted: tuple[Counted, ...] = ()
+    rewinds: tuple[tuple[int, int], ...] = ()  # to, made
 
 
 class State(NamedTuple):
@@ -99,8 +125,9 @@ class State(NamedTuple):
     made: int = 0
     taken: int = 0
     troubles: int = 0
-    is_plain: bool = True  # one life, without rewinds
+    is_plain: bool = True  # one life, and the series was not put back
     is_aged: bool = False  # the series was forgotten for its age
+    has_others: bool = False  # another series was put back: once, since it changes nothing of this one
     epochs: int = 1
     refused: bool = False  # what a plain one should take
 
@@ -110,70 +137,97 @@ def with_one(all_of: tuple[Any, ...], one: Any) -> tuple[Any, ...]:
     return tuple(sorted((*all_of, one)))
 
 
-def life_of(sink: Sink, request: Request) -> tuple[Sink, int]:
-    for life in range(len(sink.lives) - 1, -1, -1):
-        epoch, number = sink.lives[life]
-        if epoch == request.epoch and number <= request.number:
+def life_of(sink: Sink, request: Request) -> tuple[Sink, Life]:
+    for life in sink.lives:
+        if life[:2] == request[:2]:
             return sink, life
-    return sink._replace(lives=(*sink.lives, (request.epoch, 0))), len(sink.lives)
+    life = Life(request.slot, request.epoch, 0)
+    return sink._replace(lives=with_one(sink.lives, life)), life
 
 
-def begin(sink: Sink, epoch: int, number: int) -> tuple[Sink, int]:
-    """The life that begins with this number, in the place of one that did so before."""
-    row = (epoch, number)
-    if row in sink.lives:
-        place = sink.lives.index(row)
-        of_series = GONE if sink.life == place else sink.life - (sink.life > place)
-        sink = sink._replace(lives=sink.lives[:place] + sink.lives[place + 1:], life=of_series)
-    return sink._replace(lives=(*sink.lives, row)), len(sink.lives)
+def changed(sink: Sink, life: Life, after: Life) -> Sink:
+    return sink._replace(lives=with_one(tuple(one for one in sink.lives if one != life), after))
+
+
+def begin(sink: Sink, request: Request) -> Sink:
+    """What its slot and epoch send from now on is of another life."""
+    return sink._replace(life=GONE) if sink.life == request[:2] else sink
+
+
+def rewound(rules: Rules, sink: Sink, request: Request) -> Sink:
+    if request.is_of_others:
+        return sink
+    sink, life = life_of(sink, request)
+    is_forgotten = request.start == ALWAYS
+    if rules.an_order_to_forget_is_a_boundary if is_forgotten else rules.a_rewind_is_a_boundary:
+        others = tuple(one for one in sink.lives if one != life)
+        sink = sink._replace(lives=with_one(others, life._replace(rewound=max(life.rewound, request.number))))
+    if not is_forgotten:
+        sink = sink._replace(rewinds=(*sink.rewinds, (request.start, request.made)))
+    if sink.life is None:
+        return sink
+    last = min(sink.last, request.start)
+    if not rules.a_rewind_moves_the_floor:
+        return sink._replace(last=last)
+    return sink._replace(life=life[:2], floor=last, last=last)
+
+
+def is_of_life(rules: Rules, sink: Sink, life: Life, request: Request) -> bool:
+    """Whether it was made by the life of the series, since that was put back."""
+    is_same = life[:2] == sink.life or not rules.letters_of_other_lives_begin_at_the_end
+    return is_same and (
+        request.number > life.rewound or not rules.letters_of_before_a_rewind_begin_at_the_end
+    )
+
+
+def limit(rules: Rules, sink: Sink, life: Life, request: Request, is_by_hand: bool) -> int:
+    is_letter = is_by_hand or not rules.only_what_is_sent_by_hand_is_late
+    if is_letter and any(key[:2] == request[:2] and key[2] > request.number for key in sink.keys):
+        if is_of_life(rules, sink, life, request):
+            return sink.floor if rules.letters_begin_at_the_floor else 0
+    elif not rules.what_is_in_order_begins_at_the_end:
+        return 0
+    return sink.last
+
+
+def added(rules: Rules, sink: Sink, life: Life, request: Request, is_by_hand: bool) -> Sink:
+    assert request.end is not None
+    last = max(sink.last, request.end)
+    if sink.life is None:
+        sink = sink._replace(life=life[:2])
+    if not is_by_hand:
+        keeps = sink.life == life[:2] or not rules.a_life_has_its_own_floor
+        return sink._replace(life=life[:2], floor=sink.floor if keeps else sink.last, last=last)
+    keeps = is_of_life(rules, sink, life, request) or not rules.letters_at_the_end_move_the_floor
+    return sink._replace(floor=sink.floor if keeps else last, last=last)
 
 
 def deliver(rules: Rules, sink: Sink, request: Request, is_by_hand: bool = False) -> tuple[Sink, bool]:
     """What the sink has then, and whether it has the request."""
-    for epoch, number, made, was_added in sink.keys:
-        if rules.keys_are_taken_once and (epoch, number) == (request.epoch, request.number):
+    for slot, epoch, number, made, was_added in sink.keys:
+        if rules.keys_are_taken_once and (slot, epoch, number) == request[:3]:
             if made == request.made:
                 return sink, was_added
-            return (begin(sink, request.epoch, 0)[0] if rules.another_request_of_a_key_begins_a_life else sink), False
-    is_late = (is_by_hand or not rules.only_what_is_sent_by_hand_is_late) and any(
-        epoch == request.epoch and number > request.number for epoch, number, _, _ in sink.keys
-    )
-    with_key = sink._replace(keys=with_one(sink.keys, (request.epoch, request.number, request.made, True)))
-    with_key, life = life_of(with_key, request)
+            return begin(sink, request) if rules.another_request_of_a_key_begins_a_life else sink, False
+    with_key = sink._replace(keys=with_one(sink.keys, (*request[:4], True)))
     if request.end is None:
-        is_rewind = request.start != ALWAYS
-        begins = rules.a_rewind_begins_a_life if is_rewind else rules.an_order_to_forget_begins_a_life
-        if begins:
-            with_key, life = begin(with_key, request.epoch, request.number)
-        if sink.life != NONE:
-            last = min(sink.last, request.start)
-            with_key = with_key._replace(last=last)
-            if begins:
-                with_key = with_key._replace(floor=last, life=life)
-        if is_rewind:
-            with_key = with_key._replace(rewinds=(*sink.rewinds, request.start))
-        return with_key, True
-    if sink.life != NONE:
-        is_same = life == sink.life or not rules.letters_of_other_lives_begin_at_the_end
-        limit = sink.last
-        if is_late and is_same:
-            limit = sink.floor if rules.letters_begin_at_the_floor else 0
-        if not is_late and not rules.what_is_in_order_begins_at_the_end:
-            limit = 0
-        if request.start < limit:
-            refused = sink._replace(keys=with_one(sink.keys, (request.epoch, request.number, request.made, False)))
-            return refused if rules.what_was_not_added_never_is else sink, False
-    floor = sink.floor if sink.life in (life, NONE) or not rules.a_life_has_its_own_floor else sink.last
-    counted = with_one(sink.counted, (request.start, request.end, len(sink.rewinds)))
-    return with_key._replace(life=life, floor=floor, last=max(sink.last, request.end), counted=counted), True
+        return rewound(rules, with_key, request), True
+    with_key, life = life_of(with_key, request)
+    if sink.life is not None and request.start < limit(rules, sink, life, request, is_by_hand):
+        refused = sink._replace(keys=with_one(sink.keys, (*request[:4], False)))
+        return refused if rules.what_was_not_added_never_is else sink, False
+    counted = with_one(sink.counted, Counted(request.start, request.end, request.made, len(sink.rewinds)))
+    return added(rules, with_key, life, request, is_by_hand)._replace(counted=counted), True
 
 
 def twice(sink: Sink) -> bool:
     """Whether something counts twice that no rewind lets count again."""
-    for (start, end, before), (other_start, other_end, after) in itertools.combinations(sink.counted, 2):
-        of_both = max(start, other_start)
-        between = sink.rewinds[min(before, after):max(before, after)]
-        if of_both < min(end, other_end) and not any(to <= of_both for to in between):
+    for one, other in itertools.combinations(sink.counted, 2):
+        first, second = sorted((one, other), key=lambda counted: counted.rewinds)
+        of_both = max(one.start, other.start)
+        between = sink.rewinds[first.rewinds:second.rewinds]
+        is_again = any(to <= of_both and first.made < made < second.made for to, made in between)
+        if of_both < min(one.end, other.end) and not is_again:
             return True
     return False
 
@@ -181,17 +235,17 @@ def twice(sink: Sink) -> bool:
 def sent(rules: Rules, state: State, request: Request, folder: Folder, is_by_hand: bool = False) -> State:
     """Of a request that the folder has no more, but for a letter of it."""
     sink, has = deliver(rules, state.sink, request, is_by_hand)
-    is_other = any(key[:2] == request[:2] and key[2] != request.made for key in state.sink.keys)
+    is_other = any(key[:3] == request[:3] and key[3] != request.made for key in state.sink.keys)
     folder = folder._replace(is_unseen=folder.is_unseen and bool(folder.waiting) and not is_other)
     if not has:
         folder = folder._replace(letters=with_one(folder.letters, request))
     return state._replace(folder=folder, sink=sink, refused=state.refused or (state.is_plain and not has))
 
 
-def made(state: State, start: int, end: Optional[int], frontier: int) -> State:
+def made(state: State, start: int, end: Optional[int], frontier: int, is_of_others: bool = False) -> State:
     """With a request more that waits."""
     folder = state.folder
-    request = Request(folder.epoch, folder.number, state.made, start, end)
+    request = Request(0, folder.epoch, folder.number, state.made, start, end, is_of_others)
     after = folder._replace(number=folder.number + 1, frontier=frontier, waiting=(*folder.waiting, request))
     return state._replace(folder=after, made=state.made + 1)
 
@@ -205,14 +259,20 @@ def steps(rules: Rules, bounds: Bounds, state: State) -> Iterator[tuple[str, Sta
             after = made(state, start, start + 1, start + 1)
             yield f"({start}, {start + 1}] is taken", after._replace(taken=state.taken + 1)
     if waiting:
-        yield f"{waiting[0]} is sent", sent(rules, state, waiting[0], folder._replace(waiting=waiting[1:]))
+        yield f"{shown(waiting[0])} is sent", sent(rules, state, waiting[0], folder._replace(waiting=waiting[1:]))
     if not folder.is_unseen:
         for place, letter in enumerate(letters):
             others = letters[:place] + letters[place + 1:]
-            yield f"{letter} is sent again", sent(rules, state, letter, folder._replace(letters=others), is_by_hand=True)
+            after = sent(rules, state, letter, folder._replace(letters=others), is_by_hand=True)
+            yield f"{shown(letter)} is sent by hand", after
     if state.troubles < bounds.troubles:
         for what, after in troubles(rules, bounds, state):
             yield what, after._replace(troubles=state.troubles + 1)
+
+
+def shown(request: Request) -> str:
+    what = f"({request.start}, {request.end}]" if request.end is not None else f"back to {request.start}"
+    return f"{request.slot}-{request.epoch}-{request.number} {what}"
 
 
 def troubles(rules: Rules, bounds: Bounds, state: State) -> Iterator[tuple[str, State]]:
@@ -222,10 +282,10 @@ def troubles(rules: Rules, bounds: Bounds, state: State) -> Iterator[tuple[str, 
         first = waiting[0]
         lost, has = deliver(rules, state.sink, first)
         if has and lost != state.sink:
-            yield f"{first} is sent, and the answer is lost", state._replace(sink=lost)
+            yield f"{shown(first)} is sent, and the answer is lost", state._replace(sink=lost)
         if first.end is not None and not state.is_aged and not folder.is_unseen:
             aside = folder._replace(waiting=waiting[1:], letters=with_one(letters, first))
-            yield f"{first} is put aside", state._replace(folder=aside)
+            yield f"{shown(first)} is put aside", state._replace(folder=aside)
     another = state._replace(is_plain=False)
     if state.epochs < 2 and state.made:
         fresh = Folder(epoch=state.epochs)
@@ -237,6 +297,14 @@ def troubles(rules: Rules, bounds: Bounds, state: State) -> Iterator[tuple[str, 
         yield "the copy is put back", another._replace(folder=seen, epochs=state.epochs + 1)
         unseen = state.copy._replace(is_unseen=True)
         yield "the copy is put back, and nobody sees it", another._replace(folder=unseen, epochs=state.epochs + 1)
+    if folder.frontier and not state.has_others:
+        state = state._replace(has_others=True)
+        yield "another series is put back", made(state, 0, None, folder.frontier, is_of_others=True)
+        for number in (1, folder.number):
+            beside = Request(1, folder.epoch, number, -1, 0, None, is_of_others=True)
+            after = state._replace(sink=deliver(rules, state.sink, beside)[0])
+            yield f"a series of another slot is put back by {shown(beside)}", after
+        state = state._replace(has_others=False)
     if state.is_plain and folder.frontier:
         for to in range(folder.frontier):
             after = made(state, to, None, to)
@@ -251,7 +319,7 @@ def broken(state: State) -> Optional[str]:
     if twice(state.sink):
         return "something counts twice"
     if state.refused:
-        return "one life, without rewinds, is refused something"
+        return "one life, of which the series was not put back, is refused something"
     return None
 
 

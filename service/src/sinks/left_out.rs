@@ -4,7 +4,7 @@ use super::Fate;
 use crate::log;
 use crate::otlp::series::ForwardedPoint;
 use serde_json::Value;
-use std::collections::BTreeSet;
+use std::collections::BTreeMap;
 
 /// Why a request is refused whose key is that of another one. No folder gives a key twice, but for one that was put
 /// back over itself, or a copy of a disk.
@@ -24,10 +24,10 @@ pub(super) fn shown(point: &ForwardedPoint) -> String {
 /// What of a request was not added although the rest was.
 #[derive(Debug, Default, PartialEq, Eq)]
 pub(super) struct LeftOut {
-    /// Places of points, in the order in which the request has them.
-    pub(super) places: BTreeSet<usize>,
+    /// Until when the series of each point had others, by the places of points in the request.
+    pub(super) places: BTreeMap<usize, u64>,
     /// Of the first of them.
-    pub(super) reason: String,
+    reason: String,
     /// Whether these are all points of the request.
     pub(super) is_all: bool,
 }
@@ -37,11 +37,34 @@ impl LeftOut {
         self.places.is_empty()
     }
 
-    pub(super) fn add(&mut self, point: &ForwardedPoint, reason: impl FnOnce() -> String) {
-        if self.places.is_empty() {
-            self.reason = reason();
+    /// A point that is not added, since its series has others until then.
+    pub(super) fn add(&mut self, point: &ForwardedPoint, until: u64) {
+        if self.places.range(..point.place).next().is_none() {
+            self.reason = format!("{} is not added, since its series has points until {until}", shown(point));
         }
-        self.places.insert(point.place);
+        self.places.insert(point.place, until);
+    }
+
+    /// As a database keeps it: a JSON array of places and times.
+    pub(super) fn noted(&self) -> String {
+        let pairs: Vec<(&usize, &u64)> = self.places.iter().collect();
+        serde_json::to_string(&pairs).unwrap_or_default() // numbers are always written
+    }
+
+    /// As it was noted, of a request of these points.
+    pub(super) fn read<'p>(
+        noted: &str,
+        points: impl Iterator<Item = &'p ForwardedPoint>,
+    ) -> serde_json::Result<LeftOut> {
+        let pairs: Vec<(usize, u64)> = serde_json::from_str(noted)?;
+        let places: BTreeMap<usize, u64> = pairs.into_iter().collect();
+        let mut left = LeftOut::default();
+        for point in points {
+            if let Some(until) = places.get(&point.place) {
+                left.add(point, *until);
+            }
+        }
+        Ok(left)
     }
 
     /// Of a request of so many points.
@@ -68,7 +91,7 @@ impl LeftOut {
 }
 
 /// The request with these points alone. None where it is no request that the gateway forwards.
-fn part(body: &[u8], places: &BTreeSet<usize>) -> Option<Vec<u8>> {
+fn part(body: &[u8], places: &BTreeMap<usize, u64>) -> Option<Vec<u8>> {
     let mut request: Value = serde_json::from_slice(body).ok()?;
     let mut place = 0;
     keep(request.get_mut("resourceMetrics")?, |resource| {
@@ -80,7 +103,7 @@ fn part(body: &[u8], places: &BTreeSet<usize>) -> Option<Vec<u8>> {
                 };
                 keep(data.get_mut("dataPoints")?, |_| {
                     place += 1;
-                    Some(places.contains(&(place - 1)))
+                    Some(places.contains_key(&(place - 1)))
                 })
             })
         })
@@ -126,7 +149,8 @@ mod tests {
             (vec![1], vec![metric("a", "2")]),
             (vec![2, 4], vec![metric("b", "3"), metric("c", "5")]),
         ] {
-            let left = part(body.as_bytes(), &places.into_iter().collect()).expect("a part");
+            let places = places.into_iter().map(|place| (place, 0)).collect();
+            let left = part(body.as_bytes(), &places).expect("a part");
             assert_eq!(String::from_utf8(left).expect("text"), request(&metrics));
         }
     }
@@ -134,7 +158,7 @@ mod tests {
     #[test]
     fn what_is_no_request_has_no_part() {
         for body in ["", "{}", r#"{"resourceMetrics":1}"#, r#"{"resourceMetrics":[{}]}"#] {
-            assert_eq!(part(body.as_bytes(), &BTreeSet::from([0])), None, "{body}");
+            assert_eq!(part(body.as_bytes(), &BTreeMap::from([(0, 0)])), None, "{body}");
         }
     }
 }

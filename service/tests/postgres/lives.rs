@@ -4,7 +4,7 @@
 use super::model::{both, Database};
 use super::rewind::rewind;
 use super::server::{sum, sums, Server};
-use super::{open, refused, taken};
+use super::{open, refused, request, taken};
 use totxegun::sinks::sql::export::{read, What};
 use totxegun::sinks::{Fate, Forwarded, Sink};
 
@@ -17,14 +17,26 @@ async fn taken_of(sink: &dyn Sink, epoch: &str, number: u64, body: String) {
 }
 
 async fn left_of(sink: &dyn Sink, epoch: &str, number: u64, body: String, until: u64) {
-    for part in
-        [format!("is not added, since its series has points until {until}"), "was not added before".into()]
-    {
-        match sink.deliver(&of(epoch, number, body.clone())).await {
-            Fate::Refused { reason } => assert!(reason.contains(&part), "{reason}"),
-            other => panic!("{epoch} {number}: {other:?}"),
+    let request = of(epoch, number, body);
+    let fate = sink.deliver(&request).await;
+    match &fate {
+        Fate::Refused { reason } => {
+            let part = format!("is not added, since its series has points until {until}");
+            assert!(reason.contains(&part), "{reason}");
         }
+        other => panic!("{epoch} {number}: {other:?}"),
     }
+    // As behind a kill before it was kept.
+    assert_eq!(sink.deliver(&request).await, fate);
+}
+
+async fn in_order(sink: &dyn Sink, slot: u16, number: u64, body: String) {
+    let request = Forwarded { slot, ..request(number, body) };
+    assert_eq!(sink.deliver_of(&request, None).await, Fate::Taken, "{slot} {number}");
+}
+
+async fn in_order_of(sink: &dyn Sink, epoch: &str, number: u64, body: String) {
+    assert_eq!(sink.deliver_of(&of(epoch, number, body), None).await, Fate::Taken, "{epoch} {number}");
 }
 
 fn total(database: &Database) -> String {
@@ -40,7 +52,7 @@ async fn a_folder_in_the_place_of_a_lost_one_adds_nothing_twice() {
         // It knows nothing of the first: what it takes begins anywhere.
         left_of(&*sink, "f", 1, sum("a", 50, 60, 2), 200).await;
         left_of(&*sink, "f", 2, sum("a", 150, 250, 4), 200).await;
-        taken_of(&*sink, "f", 4, sum("a", 300, 400, 8)).await;
+        in_order_of(&*sink, "f", 4, sum("a", 300, 400, 8)).await;
         // One that was put aside, and one that begins before the floor.
         taken_of(&*sink, "f", 3, sum("a", 200, 300, 16)).await;
         left_of(&*sink, "f", 0, sum("a", 199, 200, 32), 200).await;
@@ -103,6 +115,102 @@ async fn what_was_put_aside_before_a_series_was_forgotten_is_not_added_behind_it
         left_of(&*sink, "e", 2, sum("a", 200, 250, 8), 300).await;
         assert_eq!(total(&database), "2|5");
     }
+}
+
+#[tokio::test(flavor = "multi_thread")]
+async fn a_rewind_is_a_boundary_for_its_series_alone() {
+    let server = Server::start();
+    for database in both(&server) {
+        let sink = open(&database.address());
+        in_order(&*sink, 0, 1, sum("a", 100, 200, 1)).await;
+        in_order(&*sink, 0, 3, sum("b", 100, 200, 1)).await;
+        // One that the sink has, and one that it has not.
+        in_order(&*sink, 0, 4, rewind(&["b"], 150)).await;
+        in_order(&*sink, 0, 5, rewind(&["c"], u64::MAX)).await;
+        in_order(&*sink, 0, 6, sum("a", 300, 400, 2)).await;
+        taken(&*sink, 2, sum("a", 200, 300, 4)).await;
+        assert_eq!(total(&database), "3|7");
+    }
+}
+
+/// Numbers of two slots say nothing of each other.
+#[tokio::test(flavor = "multi_thread")]
+async fn a_rewind_of_another_slot_takes_no_boundary_back() {
+    let server = Server::start();
+    for database in both(&server) {
+        let sink = open(&database.address());
+        in_order(&*sink, 0, 1, sum("a", 100, 200, 1)).await;
+        in_order(&*sink, 0, 4, rewind(&["a"], 200)).await;
+        in_order(&*sink, 1, 2, sum("b", 100, 200, 1)).await;
+        in_order(&*sink, 1, 3, rewind(&["b"], 150)).await;
+        in_order(&*sink, 0, 6, sum("a", 300, 400, 2)).await;
+        // What is posted again, and what it was before.
+        taken(&*sink, 5, sum("a", 200, 300, 4)).await;
+        left_of(&*sink, "e", 3, sum("a", 200, 300, 8), 400).await;
+        assert_eq!(total(&database), "3|7");
+    }
+}
+
+/// As in a database that was made anew, or put back.
+#[tokio::test(flavor = "multi_thread")]
+async fn a_rewind_is_a_boundary_for_a_series_without_points() {
+    let server = Server::start();
+    for database in both(&server) {
+        let sink = open(&database.address());
+        in_order(&*sink, 0, 3, rewind(&["a"], 100)).await;
+        in_order(&*sink, 0, 5, sum("a", 200, 300, 1)).await;
+        taken(&*sink, 4, sum("a", 100, 200, 2)).await;
+        left_of(&*sink, "e", 1, sum("a", 100, 200, 4), 300).await;
+        assert_eq!(total(&database), "2|3");
+    }
+}
+
+#[tokio::test(flavor = "multi_thread")]
+async fn a_letter_of_before_a_rewind_leaves_no_room_for_what_is_posted_again() {
+    let server = Server::start();
+    for database in both(&server) {
+        let sink = open(&database.address());
+        in_order(&*sink, 0, 3, rewind(&["a"], 100)).await;
+        taken(&*sink, 1, sum("a", 100, 200, 4)).await;
+        in_order(&*sink, 0, 5, sum("a", 200, 300, 1)).await;
+        left_of(&*sink, "e", 4, sum("a", 100, 200, 2), 200).await;
+        assert_eq!(total(&database), "2|5");
+    }
+}
+
+/// A letter that another one passes while it waits for a lock is late.
+#[tokio::test(flavor = "multi_thread")]
+async fn what_is_late_is_known_under_the_locks() {
+    let Some(server) = Server::start() else { return };
+    let address = server.by_socket("postgres");
+    let (one, other) = (open(&address), open(&address));
+    for sink in [&one, &other] {
+        in_order(&**sink, 0, 1, sum("a", 100, 200, 1)).await;
+    }
+    // A new series needs the row of its metric.
+    let held = server.hold("begin; lock table totxegun.metric in share mode; select pg_sleep(60)");
+    let waits = "select count(*) from pg_locks where not granted and relation = 'totxegun.metric'::regclass";
+    let metric_is_held = "select count(*) from pg_locks where granted and mode = 'ShareLock'
+        and relation = 'totxegun.metric'::regclass";
+    until(&server, metric_is_held).await;
+    let letter = request(2, sums(&[("a", 200, 300, 2), ("new", 200, 300, 2)]));
+    let letter = tokio::spawn(async move { one.deliver(&letter).await });
+    until(&server, waits).await;
+    in_order(&*other, 0, 3, sum("a", 300, 400, 4)).await;
+    drop(held);
+    server.ask("select count(pg_terminate_backend(pid)) from pg_stat_activity where query like '%pg_sleep(60)' and pid <> pg_backend_pid()");
+    assert_eq!(letter.await.unwrap(), Fate::Taken);
+    assert_eq!(server.ask("select points, total from totxegun.totals where name = 'a'"), "3|7");
+}
+
+async fn until(server: &Server, count: &str) {
+    for _ in 0..200 {
+        if server.ask(count) != "0" {
+            return;
+        }
+        tokio::time::sleep(std::time::Duration::from_millis(50)).await;
+    }
+    panic!("{count}");
 }
 
 /// By one reader, whichever database it is.

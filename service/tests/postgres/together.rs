@@ -1,6 +1,6 @@
 //! Several requests in one transaction.
 
-use super::model::both;
+use super::model::{both, Database};
 use super::server::{sum, sums, Server};
 use super::{open, request, taken};
 use totxegun::sinks::Forwarded;
@@ -32,6 +32,11 @@ async fn all_of_them_are_taken_each_under_its_key() {
             "120|40"
         );
         assert_eq!(database.ask("select count(*), sum(points) from t.request"), "41|121");
+        if let Database::Lite(_) = database {
+            let brought = "select count(*) from request cross join (select request, count(*) as count from intervals group by 1)
+                as of on of.request = id and of.count = points where id > 1";
+            assert_eq!(database.ask(brought), "40");
+        }
         // As behind a lost answer: each by itself says that it was taken.
         assert!(!sink.deliver_together(&all, None).await);
         for one in &all {

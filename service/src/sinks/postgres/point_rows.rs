@@ -60,7 +60,7 @@ pub(super) fn total_row<'a>(adding: &'a Adding<'a, Known>) -> NewRow<'a> {
             &adding.stored.row.id,
             &all.points,
             &points.first().map(|point| Numeric::from(point.start)),
-            &points.last().map(|point| Numeric::from(point.end)),
+            &Numeric::from(adding.ends.last),
             &Numeric(all.total),
             &Numeric(all.count),
             &all.without_sum,
@@ -71,6 +71,8 @@ pub(super) fn total_row<'a>(adding: &'a Adding<'a, Known>) -> NewRow<'a> {
             &Numeric(before.count),
             &before.without_sum,
             &numerics(before.buckets),
+            &adding.ends.life,
+            &Numeric::from(adding.ends.floor),
         ])
     })
 }

@@ -1,4 +1,4 @@
--- The schema of version 1. Whole numbers of 64 bits without sign, and totals that no 64 bits hold, are numeric: exact at any
+-- The schema of version 10. Whole numbers of 64 bits without sign, and totals that no 64 bits hold, are numeric: exact at any
 -- size. Times are nanoseconds since 1970.
 
 create schema if not exists totxegun;
@@ -7,7 +7,7 @@ create table totxegun.version (
     program text not null,
     version integer not null
 );
-insert into totxegun.version values ('totxegun', 1);
+insert into totxegun.version values ('totxegun', 10);
 comment on table totxegun.version is 'One row: whose schema this is, and which one';
 comment on column totxegun.version.program is 'totxegun';
 comment on column totxegun.version.version is 'Of the schema';
@@ -25,7 +25,7 @@ create table totxegun.request (
     points bigint not null,
     taken_at timestamptz not null default now(),
     digest bytea not null,
-    left_out integer[],
+    left_out text,
     unique (slot, epoch, number)
 );
 comment on table totxegun.request is 'A row for each request that was taken, for ever: its key is never taken again';
@@ -36,19 +36,32 @@ comment on column totxegun.request.number is 'In the order in which the service 
 comment on column totxegun.request.points is 'How many of its points were added';
 comment on column totxegun.request.taken_at is 'When the database took it';
 comment on column totxegun.request.digest is 'SHA-256 of its body: by it a repeat is told from another request';
-comment on column totxegun.request.left_out is 'Places, from 0, of points that were not added, since they overlap what was there';
+comment on column totxegun.request.left_out is 'Points that were not added, as a JSON array: the place of each, from 0, and until when its series had others, in nanoseconds since 1970; null where all were';
 
--- A life of a folder: no two of its requests have points of a series that overlap.
+-- A life of a folder: no two of its requests have points of a series that overlap, unless the series was put back between them.
 create table totxegun.life (
     id bigint generated always as identity primary key,
+    slot integer not null,
     epoch text not null,
-    from_number numeric(20) not null,
-    unique (epoch, from_number)
+    unique (slot, epoch)
 );
-comment on table totxegun.life is 'A row for each epoch of keys, and for each number from which on that is as another one: 0 once a copy of the folder sent another request under a key, else since series were rewound';
-comment on column totxegun.life.id is 'A request is of the last one that has its epoch and its number';
+comment on table totxegun.life is 'A row for each slot and epoch of keys';
+comment on column totxegun.life.id is 'Which life their requests are of: another one since a copy of the folder sent another request under a key';
+comment on column totxegun.life.slot is 'As in request';
 comment on column totxegun.life.epoch is 'As in request';
-comment on column totxegun.life.from_number is 'Of the first request that is of it';
+
+create table totxegun.rewind (
+    slot integer not null,
+    epoch text not null,
+    digest bytea not null,
+    number numeric(20) not null,
+    primary key (slot, epoch, digest)
+);
+comment on table totxegun.rewind is 'A row for each series that an order has put back, or has had forgotten';
+comment on column totxegun.rewind.slot is 'As in request';
+comment on column totxegun.rewind.epoch is 'As in request';
+comment on column totxegun.rewind.digest is 'As in series';
+comment on column totxegun.rewind.number is 'Of the last request that did so: what requests of lower numbers have is added from the end of the series on';
 
 -- `identity` is exact; the other columns are its parts, to ask by. Neither text nor jsonb holds U+0000.
 create table totxegun.series (
@@ -143,8 +156,8 @@ comment on column totxegun.series_total.before_total is 'Of the total';
 comment on column totxegun.series_total.before_count is 'Of the count';
 comment on column totxegun.series_total.before_without_sum is 'Of without_sum';
 comment on column totxegun.series_total.before_buckets is 'Of the buckets';
-comment on column totxegun.series_total.life is 'Whose request was added last';
-comment on column totxegun.series_total.floor_ns is 'Where it ended when the first request of that life was added: requests that are sent again later add what begins there or later';
+comment on column totxegun.series_total.life is 'The last one of which a request came in order';
+comment on column totxegun.series_total.floor_ns is 'Above it there is nothing but what that life sent, since the series was put back: requests of it that are sent again later add what begins there or later';
 comment on column totxegun.series_total.hour_corrections is 'What corrections that count in the hour of its last interval come to; null where there are none';
 
 -- Rows for plots, without an index. A day goes as a whole.
@@ -421,7 +434,9 @@ create type totxegun.new_total as (
     late_total numeric,
     late_count numeric,
     late_without_sum bigint,
-    late_buckets numeric[]
+    late_buckets numeric[],
+    life bigint,
+    floor_ns numeric
 );
 
 create type totxegun.new_metric_hour as (

@@ -53,6 +53,7 @@ statements! {
     make_requests: MAKE_REQUESTS,
     first_life: FIRST_LIFE,
     begin_life: BEGIN_LIFE,
+    late: LATE,
     is_taken: IS_TAKEN,
     set_left_out: SET_LEFT_OUT,
     make: MAKE,

@@ -3,8 +3,9 @@
 //! None is a COPY: for the rest of a COPY's data a server waits without end, so a client that stalled would keep its
 //! locks. At a thousand rows it is hardly faster.
 //!
-//! Locks are taken in one order, so that no two transactions wait for each other: the periods; the key; the life of its epoch,
-//! where it is new; the rows of new series, by their digests; those of their metrics; the totals of series that were there, by their numbers; the hours of metrics.
+//! Locks are taken in one order, so that no two transactions wait for each other: the periods; the key; the life of its slot and
+//! epoch, where it is new; the rows of new series, by their digests; those of their metrics; the totals of series that were there,
+//! by their numbers; the hours of metrics.
 
 /// Shared by all requests; who closes a period has it alone.
 pub(super) const HOLD_PERIODS: &str = "select pg_advisory_xact_lock_shared($1::int8)";
@@ -16,8 +17,7 @@ pub(super) const CLOSED: &str =
     left join totxegun.closed on true order by from_hour, to_hour";
 
 /// Makes the rows of requests of one slot, in order; fewer come where one was there. It waits for another transaction that has
-/// the same key. None comes for a schema of another version either. With each come the life of the first one, and whether a
-/// later one was there.
+/// the same key. None comes for a schema of another version either. With each comes the life of their slot and epoch.
 pub(super) const MAKE_REQUESTS: &str = "with made as (
         insert into totxegun.request (slot, epoch, number, points, digest)
         select $1::int4, $2::text, new.number, new.points, new.digest
@@ -25,17 +25,22 @@ pub(super) const MAKE_REQUESTS: &str = "with made as (
         join totxegun.version on version = $6::int4 order by new.number
         on conflict (slot, epoch, number) do nothing returning id
     )
-    select made.id, (select max(id) from totxegun.life where epoch = $2::text and from_number <= ($3::numeric[])[1]),
-        exists (select from totxegun.request
-            where slot = $1::int4 and epoch = $2::text and number > ($3::numeric[])[1])
+    select made.id, (select id from totxegun.life where slot = $1::int4 and epoch = $2::text)
     from made order by made.id";
 
-pub(super) const FIRST_LIFE: &str = "insert into totxegun.life (epoch, from_number) values ($1::text, 0)
-    on conflict (epoch, from_number) do update set epoch = excluded.epoch returning id";
+pub(super) const FIRST_LIFE: &str = "insert into totxegun.life (slot, epoch) values ($1::int4, $2::text)
+    on conflict (slot, epoch) do update set epoch = excluded.epoch returning id";
 
-pub(super) const BEGIN_LIFE: &str =
-    "insert into totxegun.life (epoch, from_number) values ($1::text, $2::numeric)
-    on conflict (epoch, from_number) do update set id = default returning id";
+pub(super) const BEGIN_LIFE: &str = "insert into totxegun.life (slot, epoch) values ($1::int4, $2::text)
+    on conflict (slot, epoch) do update set id = default";
+
+/// Whether a later request was there, and the places of series that a later one has put back. Of series that are locked: else
+/// what was added to them meanwhile would not be known here.
+pub(super) const LATE: &str = "select exists (select from totxegun.request
+            where slot = $1::int4 and epoch = $2::text and number > $3::numeric),
+        array(select place from unnest($4::bytea[]) with ordinality as wanted(digest, place)
+            join totxegun.rewind on rewind.slot = $1::int4 and rewind.epoch = $2::text
+                and rewind.digest = wanted.digest and number > $3::numeric)";
 
 /// A row that is locked makes the commit behind it a write, which waits for the standby.
 pub(super) const IS_TAKEN: &str = "select digest, left_out from totxegun.request
@@ -43,7 +48,7 @@ pub(super) const IS_TAKEN: &str = "select digest, left_out from totxegun.request
 
 /// Of a request of which not all was added.
 pub(super) const SET_LEFT_OUT: &str =
-    "update totxegun.request set points = $2::int8, left_out = $3::int4[] where id = $1::int8";
+    "update totxegun.request set points = $2::int8, left_out = $3::text where id = $1::int8";
 
 /// Makes the rows of new series, in the order of the array, which is that of their digests. One that another
 /// transaction has made is left, and not returned; one that it is making is waited for.
@@ -80,7 +85,7 @@ pub(super) const FIRST_TOTALS: &str =
     "insert into totxegun.series_total (series, points, first_start_ns, last_end_ns, total, count, without_sum, buckets,
         hour, before_points, before_total, before_count, before_without_sum, before_buckets, life, floor_ns)
     select series, points, first_start_ns, last_end_ns, total, count, without_sum, buckets,
-        hour, late_points, late_total, late_count, late_without_sum, late_buckets, $2::int8, 0
+        hour, late_points, late_total, late_count, late_without_sum, late_buckets, life, floor_ns
     from unnest($1::totxegun.new_total[])";
 
 /// The last hours of these series are over: it is written down what they come to.
@@ -127,11 +132,11 @@ pub(super) const METRIC_HOURS: &str =
     on conflict (metric, hour) do update set
         points = h.points + excluded.points, total = h.total + excluded.total, count = h.count + excluded.count";
 
-/// Where a later hour begins, all so far is before it; where another life does, all so far is below its floor.
+/// Where a later hour begins, all so far is before it.
 pub(super) const TOTALS: &str = "update totxegun.series_total as t set
         points = t.points + n.points,
         first_start_ns = least(t.first_start_ns, n.first_start_ns),
-        last_end_ns = greatest(t.last_end_ns, n.last_end_ns),
+        last_end_ns = n.last_end_ns,
         total = t.total + n.total,
         count = t.count + n.count,
         without_sum = t.without_sum + n.without_sum,
@@ -139,8 +144,8 @@ pub(super) const TOTALS: &str = "update totxegun.series_total as t set
             select a + b from unnest(t.buckets, n.buckets) with ordinality as both_of(a, b, place) order by place
         ) end,
         hour = n.hour,
-        floor_ns = case when t.life = $2::int8 then t.floor_ns else t.last_end_ns end,
-        life = $2::int8,
+        floor_ns = n.floor_ns,
+        life = n.life,
         before_points = case when n.hour = t.hour then t.before_points else t.points end + n.late_points,
         before_total = case when n.hour = t.hour then t.before_total else t.total end + n.late_total,
         before_count = case when n.hour = t.hour then t.before_count else t.count end + n.late_count,
@@ -158,8 +163,12 @@ pub(super) const TOTALS: &str = "update totxegun.series_total as t set
         hour_corrections = case when n.hour = t.hour then t.hour_corrections end
     from unnest($1::totxegun.new_total[]) as n where t.series = n.series";
 
-/// Series end there, where they ended later.
-pub(super) const REWIND: &str = "with known as materialized (
+/// Series end there, where they ended later, and what earlier requests have for them is known by the number of this one.
+pub(super) const REWIND: &str = "with noted as (
+        insert into totxegun.rewind as r (slot, epoch, digest, number)
+        select distinct $4::int4, $5::text, digest, $6::numeric from unnest($1::bytea[]) as digest order by digest
+        on conflict (slot, epoch, digest) do update set number = greatest(r.number, excluded.number)
+    ), known as materialized (
         select t.series, least(t.last_end_ns, $2::numeric) as last_end_ns
         from totxegun.series join totxegun.series_total as t on t.series = series.id
         where series.digest = any($1::bytea[]) order by t.series for no key update of t

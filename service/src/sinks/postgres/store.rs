@@ -8,12 +8,13 @@ use super::schema::KNOWN;
 use super::series::{Known, Seen};
 use super::session::{Session, Statements};
 use super::values::{NewRow, Numeric};
-use crate::otlp::series::SeriesKey;
 use crate::postgres::Warnings;
 use crate::sinks::left_out::LeftOut;
 use crate::sinks::periods::Closed;
-use crate::sinks::sql::{self, Adding, Content, OfSeries, Outcome, Place, Request, Sent, Stored, Taken};
-use crate::sinks::Forwarded;
+use crate::sinks::sql::{
+    self, Adding, Content, Late, OfSeries, Outcome, Place, Request, Sent, Stored, Taken,
+};
+use crate::sinks::{Forwarded, Rewind};
 use tokio_postgres::types::ToSql;
 use tokio_postgres::{Row, Statement, Transaction};
 
@@ -84,14 +85,14 @@ impl sql::Transaction for Writing<'_> {
         let columns: [&(dyn ToSql + Sync); 6] = [&slot, epoch, &numbers, &points, &digests, &KNOWN];
         let made = self.rows(&self.statements.make_requests, &columns);
         let (_, made) = tokio::try_join!(self.hold_periods(), made)?;
-        let Some(row) = made.last().filter(|_| made.len() == all.len()) else {
+        if made.len() != all.len() {
             return Ok(None);
-        };
-        let life = match row.get(1) {
+        }
+        let life = match made[0].get(1) {
             Some(life) => life,
-            None => self.number(&self.statements.first_life, &[epoch]).await?,
+            None => self.transaction.query_one(&self.statements.first_life, &[&slot, epoch]).await?.get(0),
         };
-        Ok(Some(Place { row: row.get(0), life, is_late: row.get(2) }))
+        Ok(Some(Place::of(all, made.iter().map(|row| row.get(0)), life)))
     }
 
     async fn taken(&mut self, request: &Forwarded) -> Result<Taken, NotTaken> {
@@ -99,13 +100,11 @@ impl sql::Transaction for Writing<'_> {
         let rows = self.rows(&self.statements.is_taken, &[&slot, &request.epoch, &number]).await?;
         let row =
             rows.first().ok_or_else(|| Fault::told("the schema's version has changed: it is read again"))?;
-        let places: Option<Vec<i32>> = row.get(1);
-        let left_out = places.into_iter().flatten().map(|place| place as usize).collect();
-        Ok(Taken { digest: row.get(0), left_out })
+        Ok(Taken { digest: row.get(0), left_out: row.get(1) })
     }
 
-    async fn begin_life(&mut self, epoch: &str, from: u64) -> Result<i64, NotTaken> {
-        self.number(&self.statements.begin_life, &[&epoch, &Numeric::from(from)]).await
+    async fn begin_life(&mut self, of: &Forwarded) -> Result<(), NotTaken> {
+        self.rows(&self.statements.begin_life, &[&i32::from(of.slot), &of.epoch]).await.map(drop)
     }
 
     async fn series(&mut self, all: &[OfSeries]) -> Result<(Vec<Stored<Known>>, Closed), NotTaken> {
@@ -114,20 +113,31 @@ impl sql::Transaction for Writing<'_> {
         Ok((stored, closed))
     }
 
-    async fn add(&mut self, place: &Place, all: &[Adding<'_, Known>]) -> Result<(), NotTaken> {
+    async fn late(&mut self, of: &Forwarded, all: &[OfSeries]) -> Result<Option<Late>, NotTaken> {
+        let (slot, number) = (i32::from(of.slot), Numeric::from(of.number));
+        let digests: Vec<&[u8]> = all.iter().map(|series| &series.digest[..]).collect();
+        let columns: [&(dyn ToSql + Sync); 4] = [&slot, &of.epoch, &number, &digests];
+        let row = self.transaction.query_one(&self.statements.late, &columns).await?;
+        let (is_late, put_back): (bool, Vec<i64>) = (row.get(0), row.get(1));
+        let put_back = put_back.into_iter().map(|place| place as usize - 1).collect();
+        Ok(is_late.then_some(Late { put_back }))
+    }
+
+    async fn add(&mut self, _place: &Place, all: &[Adding<'_, Known>]) -> Result<(), NotTaken> {
         // The totals are written down here while the server has the intervals.
-        tokio::try_join!(self.intervals(all), self.totals(place, all)).map(drop)
+        tokio::try_join!(self.intervals(all), self.totals(all)).map(drop)
     }
 
-    /// So a repeat is told the same.
-    async fn leave_out(&mut self, place: &Place, added: usize, left: &LeftOut) -> Result<(), NotTaken> {
-        let places: Vec<i32> = left.places.iter().map(|place| *place as i32).collect();
-        self.write(&self.statements.set_left_out, &[&place.row, &(added as i64), &places], 1).await
+    async fn leave_out(&mut self, place: &Place, added: usize, noted: &str) -> Result<(), NotTaken> {
+        let row = place.rows.values().next();
+        self.write(&self.statements.set_left_out, &[&row, &(added as i64), &noted], 1).await
     }
 
-    async fn rewind(&mut self, life: i64, series: &[SeriesKey], to: u64) -> Result<(), NotTaken> {
-        let digests: Vec<Vec<u8>> = series.iter().map(|key| key.digest().to_vec()).collect();
-        self.rows(&self.statements.rewind, &[&digests, &Numeric::from(to), &life]).await.map(drop)
+    async fn rewind(&mut self, life: i64, of: &Forwarded, rewind: &Rewind) -> Result<(), NotTaken> {
+        let digests: Vec<Vec<u8>> = rewind.keys().map(|key| key.digest().to_vec()).collect();
+        let (to, slot, number) = (Numeric::from(rewind.to), i32::from(of.slot), Numeric::from(of.number));
+        let columns: [&(dyn ToSql + Sync); 6] = [&digests, &to, &life, &slot, &of.epoch, &number];
+        self.rows(&self.statements.rewind, &columns).await.map(drop)
     }
 }
 
@@ -153,10 +163,6 @@ impl Writing<'_> {
         columns: &[&(dyn ToSql + Sync)],
     ) -> Result<Vec<Row>, NotTaken> {
         Ok(self.transaction.query(statement, columns).await?)
-    }
-
-    async fn number(&self, statement: &Statement, columns: &[&(dyn ToSql + Sync)]) -> Result<i64, NotTaken> {
-        Ok(self.transaction.query_one(statement, columns).await?.get(0))
     }
 
     /// Each statement must write the rows that it was given: else the tables are not as they were made.
@@ -191,14 +197,11 @@ impl Writing<'_> {
         self.write_rows(&self.statements.intervals, points.collect()).await
     }
 
-    async fn totals(&self, place: &Place, all: &[Adding<'_, Known>]) -> Result<(), NotTaken> {
+    async fn totals(&self, all: &[Adding<'_, Known>]) -> Result<(), NotTaken> {
         self.past_hours(all).await?;
         let (first, more): (Vec<_>, Vec<_>) = all.iter().partition(|one| one.stored.row.is_new);
         for (statement, some) in [(&self.statements.first_totals, first), (&self.statements.totals, more)] {
-            let rows: Vec<NewRow> = some.into_iter().map(total_row).collect();
-            if !rows.is_empty() {
-                self.write(statement, &[&rows, &place.life], rows.len()).await?;
-            }
+            self.write_rows(statement, some.into_iter().map(total_row).collect()).await?;
         }
         let late = all.iter().flat_map(late_rows).collect();
         self.write_rows(&self.statements.late_hours, late).await?;

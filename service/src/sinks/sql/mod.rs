@@ -1,9 +1,10 @@
 //! What a database does with requests: one algorithm over a transaction of SQLite or of PostgreSQL.
 //!
-//! A request is taken once, by its key. Requests of one epoch of keys come from one life of a folder, and its book takes no two
+//! A request is taken once, by its key. Requests of one slot and epoch come from one life of a folder, and its book takes no two
 //! points of a series that overlap. So only what an earlier life has sent, a copy of the folder, or what was taken before a
-//! rewind can overlap what comes: see [`Place::limit`].
+//! rewind can overlap what comes: see [`Coming::limit`].
 
+mod ends;
 pub mod exact;
 pub mod export;
 mod fault;
@@ -12,19 +13,18 @@ mod settle;
 mod sums;
 pub mod totals;
 
+pub(super) use ends::Ends;
 pub(super) use fault::NotTaken;
 pub(super) use request::{by_metric, sums_of, Adding, Content, InHour, OfSeries, Request, Sent};
 pub(super) use settle::{settle, Periods};
 pub(super) use sums::Sums;
 
-use super::left_out::{shown, LeftOut, OTHER_REQUEST};
+use super::left_out::{LeftOut, OTHER_REQUEST};
 use super::periods::Closed;
 use super::{Forwarded, Rewind};
-use crate::otlp::series::SeriesKey;
-use std::collections::BTreeSet;
-
-/// How a refusal begins of what may be there already.
-const MAY_BE_THERE: &str = "is not added, since its series has points until";
+use crate::otlp::series::ForwardedPoint;
+use ends::Coming;
+use std::collections::{BTreeMap, BTreeSet};
 
 /// A transaction of a database while it takes requests. What it has written is there once it is committed.
 pub(super) trait Transaction {
@@ -38,8 +38,8 @@ pub(super) trait Transaction {
     /// The row of a request that was taken.
     async fn taken(&mut self, request: &Forwarded) -> Result<Taken, NotTaken<Self::Fault>>;
 
-    /// Begins a life of an epoch, of which are requests from this number on, and says which one it is.
-    async fn begin_life(&mut self, epoch: &str, from: u64) -> Result<i64, NotTaken<Self::Fault>>;
+    /// What comes of a request's slot and epoch from now on is of another life.
+    async fn begin_life(&mut self, of: &Forwarded) -> Result<(), NotTaken<Self::Fault>>;
 
     /// What is known of each series, which is made where it is new, and what is closed. Nobody else adds to these series, or
     /// closes a period, until the transaction ends.
@@ -48,6 +48,10 @@ pub(super) trait Transaction {
         all: &[OfSeries],
     ) -> Result<(Vec<Stored<Self::Row>>, Closed), NotTaken<Self::Fault>>;
 
+    /// Of series that nobody else adds to, how a request that may have been put aside stands to what was taken.
+    async fn late(&mut self, of: &Forwarded, all: &[OfSeries])
+        -> Result<Option<Late>, NotTaken<Self::Fault>>;
+
     /// Adds points to intervals, totals, hours, days and months.
     async fn add(
         &mut self,
@@ -55,28 +59,56 @@ pub(super) trait Transaction {
         all: &[Adding<'_, Self::Row>],
     ) -> Result<(), NotTaken<Self::Fault>>;
 
-    /// Notes which points of a request were not added, so that a repeat is answered as before.
+    /// Notes which points of a request were not added, in [`LeftOut::noted`], so that a repeat is answered as before.
     async fn leave_out(
         &mut self,
         place: &Place,
         added: usize,
-        left: &LeftOut,
+        noted: &str,
     ) -> Result<(), NotTaken<Self::Fault>>;
 
-    /// These series end at this time, where they ended later, and begin this life.
-    async fn rewind(&mut self, life: i64, series: &[SeriesKey], to: u64)
-        -> Result<(), NotTaken<Self::Fault>>;
+    /// These series end at this time, where they ended later; what has points is of this life from there on. What requests of
+    /// earlier numbers have for them begins there for good.
+    async fn rewind(
+        &mut self,
+        life: i64,
+        of: &Forwarded,
+        rewind: &Rewind,
+    ) -> Result<(), NotTaken<Self::Fault>>;
 }
 
 /// Where requests stand that are being taken.
-#[derive(Clone, Copy, Debug)]
+#[derive(Clone, Debug)]
 pub(super) struct Place {
-    /// The row of the last of them.
-    pub(super) row: i64,
-    /// The life of their epoch.
+    /// Their rows, by the places of their first points among the points of all.
+    pub(super) rows: BTreeMap<usize, i64>,
+    /// The life of their slot and epoch.
     pub(super) life: i64,
-    /// Whether a later request of their slot and epoch was taken before.
-    pub(super) is_late: bool,
+}
+
+impl Place {
+    /// Of these requests, by their rows, in order.
+    pub(super) fn of(all: &[Request<'_>], rows: impl IntoIterator<Item = i64>, life: i64) -> Place {
+        let mut next = 0;
+        let first = |request: &Request| {
+            let first = next;
+            next += request.points();
+            first
+        };
+        Place { rows: all.iter().map(first).zip(rows).collect(), life }
+    }
+
+    /// The row of the request that brought a point.
+    pub(super) fn row_of(&self, point: &ForwardedPoint) -> i64 {
+        self.rows.range(..=point.place).next_back().map_or(0, |(_, row)| *row)
+    }
+}
+
+/// A request that a later one of its slot and epoch is ahead of.
+#[derive(Debug)]
+pub(super) struct Late {
+    /// The places of series that were put back, or forgotten, by a later request.
+    pub(super) put_back: BTreeSet<usize>,
 }
 
 /// What a database knows of a series.
@@ -89,45 +121,13 @@ pub(super) struct Stored<Row> {
     pub(super) ends: Option<Ends>,
 }
 
-/// Until when a series has points.
-#[derive(Clone, Copy, Debug)]
-pub(super) struct Ends {
-    /// The life whose request was added last.
-    pub(super) life: i64,
-    /// Where the series ended when that life's first request was added.
-    pub(super) floor: u64,
-    /// Where it ends.
-    pub(super) last: u64,
-}
-
-impl Ends {
-    /// With points of a life that end then.
-    pub(super) fn with(self, life: i64, end: u64) -> Ends {
-        let floor = if self.life == life { self.floor } else { self.last };
-        Ends { life, floor, last: self.last.max(end) }
-    }
-}
-
-impl Place {
-    /// Points that begin before this are not added: what they count may be there.
-    ///
-    /// What comes in order begins where its series ends, or later. A request that was put aside comes later than others of its
-    /// life, of which none overlaps it; what other lives have added ends at the floor.
-    pub(super) fn limit(&self, ends: &Ends) -> u64 {
-        match self.is_late && self.life == ends.life {
-            true => ends.floor,
-            false => ends.last,
-        }
-    }
-}
-
 /// A request that was taken.
 #[derive(Debug)]
 pub(super) struct Taken {
     /// SHA-256 of its body.
     pub(super) digest: Vec<u8>,
-    /// The places of points that were not added.
-    pub(super) left_out: Vec<usize>,
+    /// Which points were not added, as it was noted.
+    pub(super) left_out: Option<String>,
 }
 
 /// What became of a request in a transaction that is to be committed.
@@ -158,18 +158,14 @@ pub(super) async fn take<T: Transaction>(
     let Some(place) = transaction.make_requests(std::slice::from_ref(&request)).await? else {
         return repeated(transaction, request).await;
     };
-    // In order a later one can have come only from a copy of the folder.
-    let place = Place { is_late: place.is_late && request.sent == Sent::ByHand, ..place };
     let (of, count) = (request.of, request.points());
-    let left = add(transaction, &place, request.series).await?;
+    let left = add(transaction, &place, request.series, (request.sent == Sent::ByHand).then_some(of)).await?;
     let left = left.of(count);
     if !left.is_empty() {
-        transaction.leave_out(&place, count - left.places.len(), &left).await?;
+        transaction.leave_out(&place, count - left.places.len(), &left.noted()).await?;
     }
     if let Some(rewind) = Rewind::of(&of.body) {
-        // What was sent before is of another life from then on.
-        let life = transaction.begin_life(&of.epoch, of.number).await?;
-        transaction.rewind(life, &rewind.keys().collect::<Vec<_>>(), rewind.to).await?;
+        transaction.rewind(place.life, of, &rewind).await?;
     }
     Ok(Outcome::New(left))
 }
@@ -185,10 +181,7 @@ pub(super) async fn take_together<T: Transaction>(
         return Ok(requests.is_empty());
     }
     match transaction.make_requests(&requests).await? {
-        Some(place) => {
-            let place = Place { is_late: false, ..place };
-            Ok(add(transaction, &place, request::together(requests)?).await?.is_empty())
-        }
+        Some(place) => Ok(add(transaction, &place, request::together(requests)?, None).await?.is_empty()),
         None => Ok(false),
     }
 }
@@ -198,41 +191,54 @@ async fn add<T: Transaction>(
     transaction: &mut T,
     place: &Place,
     all: Vec<OfSeries>,
+    by_hand: Option<&Forwarded>,
 ) -> Result<LeftOut, NotTaken<T::Fault>> {
     let (stored, closed) = transaction.series(&all).await?;
+    let late = match by_hand {
+        Some(of) => transaction.late(of, &all).await?,
+        None => None,
+    };
     let mut left = LeftOut::default();
-    let mut both: Vec<(OfSeries, Stored<T::Row>)> = all.into_iter().zip(stored).collect();
-    for (of, stored) in &mut both {
+    let mut both: Vec<(OfSeries, Stored<T::Row>, Coming)> = Vec::new();
+    for (series, (mut of, stored)) in all.into_iter().zip(stored).enumerate() {
         of.fits(stored.buckets)?;
-        if let Some(ends) = &stored.ends {
-            let limit = place.limit(ends);
-            of.points.iter().filter(|point| point.start < limit).for_each(|point| {
-                left.add(point, || format!("{} {MAY_BE_THERE} {limit}", shown(point)));
-            });
-            of.points.retain(|point| point.start >= limit);
+        let coming = Coming::new(place.life, by_hand.is_some(), late.as_ref(), series);
+        let limit = stored.ends.as_ref().map_or(0, |ends| coming.limit(ends));
+        of.points.retain(|point| {
+            let is_added = point.start >= limit;
+            if !is_added {
+                left.add(point, limit);
+            }
+            is_added
+        });
+        if !of.points.is_empty() {
+            both.push((of, stored, coming));
         }
     }
-    both.retain(|(of, _)| !of.points.is_empty());
-    let adding: Vec<Adding<T::Row>> =
-        both.iter().map(|(of, stored)| Adding { of, stored, hours: of.by_hours(&closed) }).collect();
+    let adding = both.iter().map(|(of, stored, coming)| Adding {
+        of,
+        stored,
+        ends: coming.added(stored.ends, of.end()),
+        hours: of.by_hours(&closed),
+    });
+    let adding: Vec<Adding<T::Row>> = adding.collect();
     transaction.add(place, &adding).await?;
     Ok(left)
 }
 
-/// A request whose key is there: what was left of it then is left again. Another one than was taken came from a copy of the
-/// folder, so that its epoch has two lives: what comes of it from now on is of another one, whatever its number is.
+/// A request whose key is there: what was left of it then is left again, for the same reason. Another one than was taken came
+/// from a copy of the folder, so that its epoch has two lives.
 async fn repeated<T: Transaction>(
     transaction: &mut T,
     request: Request<'_>,
 ) -> Result<Outcome, NotTaken<T::Fault>> {
     let taken = transaction.taken(request.of).await?;
     if taken.digest != request.digest {
-        transaction.begin_life(&request.of.epoch, 0).await?;
+        transaction.begin_life(request.of).await?;
         return Ok(Outcome::OtherRequest);
     }
-    let places: BTreeSet<usize> = taken.left_out.into_iter().collect();
-    let mut points = request.series.iter().flat_map(|of| &of.points);
-    let first = points.find(|point| Some(&point.place) == places.first());
-    let reason = first.map_or(String::new(), |point| format!("{} was not added before", shown(point)));
-    Ok(Outcome::Repeat(LeftOut { places, reason, is_all: false }.of(request.points())))
+    let noted = taken.left_out.as_deref().unwrap_or("[]");
+    let points = request.series.iter().flat_map(|of| &of.points);
+    let odd = |error| NotTaken::Refused(format!("what was left of it is not as it was noted: {error}"));
+    Ok(Outcome::Repeat(LeftOut::read(noted, points).map_err(odd)?.of(request.points())))
 }

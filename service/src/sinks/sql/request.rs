@@ -1,7 +1,7 @@
 //! What requests have for each of their series, before a database is asked.
 
 use super::fault::BadContent;
-use super::{Stored, Sums};
+use super::{Ends, Stored, Sums};
 use crate::otlp::series::{self, Digest, Digests, ForwardedPoint, SeriesKey, Value};
 use crate::sinks::left_out::shown;
 use crate::sinks::periods::Closed;
@@ -50,6 +50,8 @@ pub(in crate::sinks) struct InHour<'a> {
 pub(in crate::sinks) struct Adding<'a, Row> {
     pub(in crate::sinks) of: &'a OfSeries,
     pub(in crate::sinks) stored: &'a Stored<Row>,
+    /// Where the series ends then.
+    pub(in crate::sinks) ends: Ends,
     /// Its points by the hours in which they count, in order.
     pub(in crate::sinks) hours: Vec<InHour<'a>>,
 }
@@ -87,14 +89,20 @@ impl Content {
     }
 }
 
-/// What several requests have for their series, as one would.
+/// What several requests have for their series, as one would: each point's place is its place among the points of all.
 pub(super) fn together(requests: Vec<Request>) -> Result<Vec<OfSeries>, BadContent> {
     let mut all: BTreeMap<Digest, OfSeries> = BTreeMap::new();
-    for of in requests.into_iter().flat_map(|request| request.series) {
-        match all.entry(of.digest) {
-            Entry::Vacant(place) => drop(place.insert(of)),
-            Entry::Occupied(mut found) => found.get_mut().points.extend(of.points),
+    let mut first = 0;
+    for request in requests {
+        let count = request.points();
+        for mut of in request.series {
+            of.points.iter_mut().for_each(|point| point.place += first);
+            match all.entry(of.digest) {
+                Entry::Vacant(place) => drop(place.insert(of)),
+                Entry::Occupied(mut found) => found.get_mut().points.extend(of.points),
+            }
         }
+        first += count;
     }
     let mut all: Vec<OfSeries> = all.into_values().collect();
     all.iter_mut().try_for_each(OfSeries::put_in_order)?;
@@ -114,6 +122,11 @@ impl OfSeries {
             }
             None => Ok(()),
         }
+    }
+
+    /// When its last point ends.
+    pub(super) fn end(&self) -> u64 {
+        self.points.last().map_or(0, |point| point.end)
     }
 
     /// How many buckets its first point has; none of a sum.

@@ -6,8 +6,8 @@ use rusqlite::{Connection, TransactionBehavior};
 /// Says, in the file's head, that it is one of ours: `totx`.
 const APPLICATION: i64 = 0x746f_7478;
 
-/// The version that this program reads and writes.
-pub(super) const KNOWN: i64 = 1;
+/// The version that this program reads and writes. Files of 1 to 5 have other tables.
+pub(super) const KNOWN: i64 = 10;
 
 /// Makes the tables and views of an empty file.
 pub(super) fn make(connection: &mut Connection) -> Result<(), Fault> {

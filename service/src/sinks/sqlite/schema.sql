@@ -1,4 +1,4 @@
--- The schema of version 1. Whole numbers that an integer of SQLite holds are integers. Larger ones (times and counts from 2^63 on)
+-- The schema of version 10. Whole numbers that an integer of SQLite holds are integers. Larger ones (times and counts from 2^63 on)
 -- are texts of 20 digits, which SQLite sorts behind all integers. So columns of them have no type. Totals may be larger still:
 -- they are two integers, total = high * 1000000000000 + low, with 0 <= low < 1000000000000.
 --
@@ -40,7 +40,7 @@ insert into about values
     ('request', 'first_start_ns', 'The earliest start of its intervals, in nanoseconds since 1970; null where none are kept'),
     ('request', 'id', 'In the order in which they were taken'),
     ('request', 'last_end_ns', 'The latest end of its intervals, in nanoseconds since 1970; null where none are kept'),
-    ('request', 'left_out', 'Places, from 0, of points that were not added, as a JSON array; null where all were'),
+    ('request', 'left_out', 'Points that were not added, as a JSON array: the place of each, from 0, and until when its series had others, in nanoseconds since 1970; null where all were'),
     ('request', 'number', 'In the order in which the service made the requests'),
     ('request', 'points', 'How many of its points were added'),
     ('request', 'slot', 'With epoch and number, the key'),
@@ -88,18 +88,32 @@ insert into about values
     ('metric', 'name', 'As in series'),
     ('metric', 'unit', 'As in series');
 
--- A life of a folder: no two of its requests have points of a series that overlap.
+-- A life of a folder: no two of its requests have points of a series that overlap, unless the series was put back between them.
 create table life (
     id integer primary key,
+    slot integer not null,
     epoch text not null,
-    from_number not null,
-    unique (epoch, from_number)
+    unique (slot, epoch)
 );
 insert into about values
-    ('life', '', 'A row for each epoch of keys, and for each number from which on that is as another one: 0 once a copy of the folder sent another request under a key, else since series were rewound'),
+    ('life', '', 'A row for each slot and epoch of keys'),
     ('life', 'epoch', 'As in request'),
-    ('life', 'from_number', 'Of the first request that is of it'),
-    ('life', 'id', 'A request is of the last one that has its epoch and its number');
+    ('life', 'id', 'Which life their requests are of: another one since a copy of the folder sent another request under a key'),
+    ('life', 'slot', 'As in request');
+
+create table rewind (
+    slot integer not null,
+    epoch text not null,
+    digest blob not null,
+    number not null,
+    primary key (slot, epoch, digest)
+) without rowid;
+insert into about values
+    ('rewind', '', 'A row for each series that an order has put back, or has had forgotten'),
+    ('rewind', 'digest', 'SHA-256 of what the series is, as the service forwards it'),
+    ('rewind', 'epoch', 'As in request'),
+    ('rewind', 'number', 'Of the last request that did so: what requests of lower numbers have is added from the end of the series on'),
+    ('rewind', 'slot', 'As in request');
 
 create table series_total (
     series integer primary key references series,
@@ -124,8 +138,8 @@ insert into about values
     ('series_total', 'last_end_ns', 'The last end, in nanoseconds since 1970'),
     ('series_total', 'points', 'How many intervals, which are flushes and not what senders posted'),
     ('series_total', 'series', 'Whose it is'),
-    ('series_total', 'floor_ns', 'Where it ended when the first request of that life was added: requests that are sent again later add what begins there or later'),
-    ('series_total', 'life', 'Whose request was added last'),
+    ('series_total', 'floor_ns', 'Above it there is nothing but what that life sent, since the series was put back: requests of it that are sent again later add what begins there or later'),
+    ('series_total', 'life', 'The last one of which a request came in order'),
     ('series_total', 'total_high', 'total = total_high * 1000000000000 + total_low, exactly: of values; of a histogram, of its sums'),
     ('series_total', 'total_low', 'From 0 to 999999999999'),
     ('series_total', 'without_sum', 'How many of the points had no sum, and are in the count alone');

@@ -169,7 +169,7 @@ fn what_begins_before_its_series_ends_is_refused() {
     {
         let why = "is not added, since its series has points until 400";
         trial.refused(number, sum("a", start, end, 9), why);
-        trial.refused(number, sum("a", start, end, 9), "was not added before");
+        trial.refused(number, sum("a", start, end, 9), why);
     }
     assert_eq!(trial.totals(), only("a", 2, 2));
     // Those that were put aside, and are sent again.

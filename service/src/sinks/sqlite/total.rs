@@ -45,17 +45,14 @@ impl Total {
         self.sums.buckets.as_ref().map(Vec::len)
     }
 
-    /// With points, by their times, that come to this much, and are of this life.
-    pub(super) fn with(before: Option<&Total>, life: i64, points: &[ForwardedPoint], sums: &Sums) -> Total {
+    /// With points, by their times, that come to this much.
+    pub(super) fn with(before: Option<&Total>, ends: Ends, points: &[ForwardedPoint], sums: &Sums) -> Total {
         let start = points.first().map_or(0, |point| point.start);
-        let end = points.last().map_or(0, |point| point.end);
         let Some(before) = before else {
-            let ends = Ends { life, floor: 0, last: end };
             return Total { first_start: start, ends, sums: sums.clone() };
         };
         let mut all = before.sums.clone();
         all.merge(sums);
-        let ends = before.ends.with(life, end);
         Total { first_start: before.first_start.min(start), ends, sums: all }
     }
 

@@ -9,14 +9,14 @@ use super::series_row::{SeriesIds, SeriesRow};
 use super::total::Total;
 use super::totals::list;
 use super::wide_integers::Unsigned;
-use crate::otlp::series::{Digest, ForwardedPoint, SeriesKey, Value};
-use crate::sinks::left_out::{shown, LeftOut};
+use crate::otlp::series::{Digest, ForwardedPoint, Value};
+use crate::sinks::left_out::shown;
 use crate::sinks::periods::Closed;
 use crate::sinks::sql::totals::SeriesTotal;
-use crate::sinks::sql::{self, Adding, OfSeries, Place, Request, Stored, Taken};
-use crate::sinks::Forwarded;
+use crate::sinks::sql::{self, Adding, Late, OfSeries, Place, Request, Stored, Taken};
+use crate::sinks::{Forwarded, Rewind};
 use rusqlite::{params, Transaction};
-use std::collections::HashMap;
+use std::collections::{BTreeMap, BTreeSet, HashMap};
 
 type NotTaken = sql::NotTaken<Fault>;
 
@@ -39,39 +39,32 @@ impl sql::Transaction for Writing<'_> {
     type Fault = Fault;
 
     async fn make_requests(&mut self, all: &[Request<'_>]) -> Result<Option<Place>, NotTaken> {
-        let first = all[0].of;
         for request in all {
             if self.find(request.of, |_| Ok(()))?.is_some() {
                 return Ok(None);
             }
         }
-        let key = params![first.slot, first.epoch, Unsigned(first.number)];
-        let later = "select 1 from request where slot = ?1 and epoch = ?2 and number > ?3";
-        let is_late = self.transaction.prepare_cached(later)?.exists(key)?;
-        let life = self.life(first)?;
-        let mut row = 0;
+        let life = self.life(all[0].of)?;
+        let mut rows = Vec::new();
         for request in all {
             let insert = "insert into request (slot, epoch, number, taken_at, points, digest)
                 values (?1, ?2, ?3, cast(strftime('%s', 'now') as integer), ?4, ?5)";
             let Forwarded { slot, epoch, number, .. } = request.of;
             let (number, points) = (Unsigned(*number), request.points() as i64);
             let values = params![slot, epoch, number, points, request.digest];
-            row = self.transaction.prepare_cached(insert)?.insert(values)?;
+            rows.push(self.transaction.prepare_cached(insert)?.insert(values)?);
         }
-        Ok(Some(Place { row, life, is_late }))
+        Ok(Some(Place::of(all, rows, life)))
     }
 
     async fn taken(&mut self, request: &Forwarded) -> Result<Taken, NotTaken> {
-        let found = self.find(request, |row| {
-            let left_out = super::totals::json(row, 1)?;
-            Ok(Taken { digest: row.get(0)?, left_out: left_out.unwrap_or_default() })
-        })?;
+        let found = self.find(request, |row| Ok(Taken { digest: row.get(0)?, left_out: row.get(1)? }))?;
         Ok(found.ok_or(rusqlite::Error::QueryReturnedNoRows)?)
     }
 
-    async fn begin_life(&mut self, epoch: &str, from: u64) -> Result<i64, NotTaken> {
-        let begin = "insert or replace into life (epoch, from_number) values (?1, ?2)";
-        Ok(self.transaction.prepare_cached(begin)?.insert(params![epoch, Unsigned(from)])?)
+    async fn begin_life(&mut self, of: &Forwarded) -> Result<(), NotTaken> {
+        let begin = "insert or replace into life (slot, epoch) values (?1, ?2)";
+        Ok(cached::run(&self.transaction, begin, params![of.slot, of.epoch]).map(drop)?)
     }
 
     async fn series(&mut self, all: &[OfSeries]) -> Result<(Vec<Stored<Row>>, Closed), NotTaken> {
@@ -79,13 +72,30 @@ impl sql::Transaction for Writing<'_> {
         Ok((stored, periods::read(&self.transaction)?))
     }
 
+    async fn late(&mut self, of: &Forwarded, all: &[OfSeries]) -> Result<Option<Late>, NotTaken> {
+        let number = Unsigned(of.number);
+        let later = "select 1 from request where slot = ?1 and epoch = ?2 and number > ?3";
+        if !self.transaction.prepare_cached(later)?.exists(params![of.slot, of.epoch, number])? {
+            return Ok(None);
+        }
+        let put_back = "select 1 from rewind where slot = ?1 and epoch = ?2 and digest = ?3 and number > ?4";
+        let mut put_back = self.transaction.prepare_cached(put_back)?;
+        let mut late = Late { put_back: BTreeSet::new() };
+        for (place, series) in all.iter().enumerate() {
+            if put_back.exists(params![of.slot, of.epoch, series.digest, number])? {
+                late.put_back.insert(place);
+            }
+        }
+        Ok(Some(late))
+    }
+
     async fn add(&mut self, place: &Place, all: &[Adding<'_, Row>]) -> Result<(), NotTaken> {
         let hours_from = Horizon::read(&self.transaction)?.hours_from;
-        self.intervals(place.row, all)?;
+        self.intervals(place, all)?;
         for adding in all {
             let Row { ids, total } = &adding.stored.row;
             let points = &adding.of.points;
-            let total = Total::with(total.as_ref(), place.life, points, &adding.sums());
+            let total = Total::with(total.as_ref(), adding.ends, points, &adding.sums());
             if total.is_too_great() {
                 let shown = points.first().map(shown).unwrap_or_default();
                 return Err(NotTaken::Refused(format!("the series' total is over 9 * 10^30: {shown}")));
@@ -95,20 +105,22 @@ impl sql::Transaction for Writing<'_> {
         Ok(Hours::of(all).write(&self.transaction, hours_from)?)
     }
 
-    async fn leave_out(&mut self, place: &Place, added: usize, left: &LeftOut) -> Result<(), NotTaken> {
-        let places: Vec<usize> = left.places.iter().copied().collect();
+    async fn leave_out(&mut self, place: &Place, added: usize, noted: &str) -> Result<(), NotTaken> {
         let update = "update request set points = ?2, left_out = ?3 where id = ?1";
-        let values = params![place.row, added as i64, list(&places)];
+        let values = params![place.rows.values().next(), added as i64, noted];
         Ok(cached::run(&self.transaction, update, values).map(drop)?)
     }
 
-    async fn rewind(&mut self, life: i64, series: &[SeriesKey], to: u64) -> Result<(), NotTaken> {
-        for key in series {
-            let of = SeriesTotal::of_none(key)?;
-            let series = SeriesRow::of(&of).find(&self.transaction)?;
+    async fn rewind(&mut self, life: i64, of: &Forwarded, rewind: &Rewind) -> Result<(), NotTaken> {
+        for key in rewind.keys() {
+            let note = "insert into rewind (slot, epoch, digest, number) values (?1, ?2, ?3, ?4)
+                on conflict do update set number = max(number, excluded.number)";
+            let row = params![of.slot, of.epoch, key.digest(), Unsigned(of.number)];
+            cached::run(&self.transaction, note, row)?;
+            let series = SeriesRow::of(&SeriesTotal::of_none(&key)?).find(&self.transaction)?;
             let total = series.map(|series| Total::read(&self.transaction, series)).transpose()?.flatten();
             if let (Some(series), Some(total)) = (series, total) {
-                total.rewound(life, to).write(&self.transaction, series)?;
+                total.rewound(life, rewind.to).write(&self.transaction, series)?;
             }
         }
         Ok(())
@@ -142,15 +154,15 @@ impl Writing<'_> {
         )
     }
 
-    /// The life of a request's epoch that has its number, begun where it is the first.
+    /// The life of a request's slot and epoch, begun by the first request of them.
     fn life(&self, request: &Forwarded) -> rusqlite::Result<i64> {
-        let query = "select max(id) from life where epoch = ?1 and from_number <= ?2";
-        let key = params![request.epoch, Unsigned(request.number)];
-        if let Some(life) = cached::one(&self.transaction, query, key, |row| row.get(0))? {
+        let key = params![request.slot, request.epoch];
+        let query = "select id from life where slot = ?1 and epoch = ?2";
+        if let Some(life) = cached::find(&self.transaction, query, key, |row| row.get(0))? {
             return Ok(life);
         }
-        let begin = "insert into life (epoch, from_number) values (?1, 0)";
-        self.transaction.prepare_cached(begin)?.insert([&request.epoch])
+        let begin = "insert into life (slot, epoch) values (?1, ?2)";
+        self.transaction.prepare_cached(begin)?.insert(key)
     }
 
     fn stored(&mut self, of: &OfSeries) -> Result<Stored<Row>, NotTaken> {
@@ -174,17 +186,21 @@ impl Writing<'_> {
         Ok(Stored { ends: total.as_ref().map(Total::ends), row: Row { ids, total }, buckets })
     }
 
-    /// Times are told from the first start of all, so that they are short.
-    fn intervals(&self, request: i64, all: &[Adding<'_, Row>]) -> rusqlite::Result<()> {
-        let points = || all.iter().flat_map(|adding| &adding.of.points);
-        let first = points().map(|point| point.start).min();
-        let last = points().map(|point| point.end).max();
-        let Some((first, last)) = first.zip(last) else { return Ok(()) };
+    /// Times are told from the first start of their request, so that they are short.
+    fn intervals(&self, place: &Place, all: &[Adding<'_, Row>]) -> rusqlite::Result<()> {
+        let mut times: BTreeMap<i64, (u64, u64)> = BTreeMap::new();
+        for point in all.iter().flat_map(|adding| &adding.of.points) {
+            let of_request = times.entry(place.row_of(point)).or_insert((point.start, point.end));
+            *of_request = (of_request.0.min(point.start), of_request.1.max(point.end));
+        }
         let update = "update request set first_start_ns = ?2, last_end_ns = ?3 where id = ?1";
-        cached::run(&self.transaction, update, params![request, Unsigned(first), Unsigned(last)])?;
+        for (request, (first, last)) in &times {
+            cached::run(&self.transaction, update, params![request, Unsigned(*first), Unsigned(*last)])?;
+        }
         for adding in all {
             for point in &adding.of.points {
-                self.interval(request, first, adding.stored.row.ids.series, point)?;
+                let request = place.row_of(point);
+                self.interval(request, times[&request].0, adding.stored.row.ids.series, point)?;
             }
         }
         Ok(())

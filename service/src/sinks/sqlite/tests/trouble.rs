@@ -192,16 +192,20 @@ fn another_schema_is_refused_by_name_and_left_alone() {
     let mut trial = Trial::new();
     trial.taken(1, sum("a", 10, 20, 1));
     trial.writer.store = None;
-    trial.ask("pragma user_version = 2");
-    let error = SqliteSink::open(&trial.path(), Retention::default(), Arc::new(()))
-        .err()
-        .expect("it is another")
-        .to_string();
-    let all = ["totals.db was written by another version", "schema 2; this one knows 1"];
-    assert!(all.iter().all(|part| error.contains(part)), "{error}");
-    trial.again(2, sum("a", 20, 30, 2), "another version");
-    assert!(read(&trial.path(), &Filter::default()).is_err());
-    trial.ask("pragma user_version = 1");
+    // 1 to 5 had other tables, by the repository's history.
+    for another in [1, 5, 11] {
+        trial.ask(&format!("pragma user_version = {another}"));
+        let error = SqliteSink::open(&trial.path(), Retention::default(), Arc::new(()))
+            .err()
+            .expect("it is another")
+            .to_string();
+        let known = format!("schema {another}; this one knows 10): use that version, or another file");
+        let all = ["totals.db was written by another version", &known];
+        assert!(all.iter().all(|part| error.contains(part)), "{error}");
+        trial.again(2, sum("a", 20, 30, 2), "another version");
+        assert!(read(&trial.path(), &Filter::default()).is_err());
+    }
+    trial.ask("pragma user_version = 10");
     trial.taken(2, sum("a", 20, 30, 2));
 }
 
