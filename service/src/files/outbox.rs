@@ -94,6 +94,8 @@ pub struct Outbox {
     arrived: Notify,
     /// Requests before this number are durable.
     settled: AtomicU64,
+    /// Requests from this number on wait until the owners of their series are known.
+    without_owners: AtomicU64,
     /// Which segment the last run wrote to, and up to where.
     ended: (PathBuf, u64),
     dropped: Vec<Dropped>,
@@ -236,7 +238,8 @@ impl Outbox {
     pub async fn first(&self) -> Result<(Waiting, Vec<u8>), Fault> {
         loop {
             let front = locked(&self.state).front();
-            let Some(front) = front else {
+            let with_owners = self.without_owners.load(SeqCst);
+            let Some(front) = front.filter(|front| front.waiting.number < with_owners) else {
                 // A call that came between is kept for this one.
                 self.arrived.notified().await;
                 continue;
@@ -251,6 +254,16 @@ impl Outbox {
                 }
             }
         }
+    }
+
+    /// What is committed from now on waits until the owners of its series are known: a sink writes them down.
+    pub fn wait_for_owners(&self) {
+        self.without_owners.store(locked(&self.state).facts.next, SeqCst);
+    }
+
+    pub fn owners_are_known(&self) {
+        self.without_owners.store(u64::MAX, SeqCst);
+        self.arrived.notify_one();
     }
 
     /// Makes durable all that was written. In a folder it is already.

@@ -157,10 +157,12 @@ pub(super) fn commit(slot: &Slot, bodies: &[Vec<u8>], group: Group) -> Result<(u
         slot.journal.hold(&held, first, next)?;
     }
     let requests = bodies.len() as u64;
+    slot.outbox.wait_for_owners();
     let saved = slot.outbox.commit_with(bodies, next, runs)?;
     slot.count_grouped(posts);
     slot.metrics.forwarded_requests.inc_by(requests);
     find_owners(slot, first, next)?;
+    slot.outbox.owners_are_known();
     slot.journal.forget(next)?;
     slot.metrics.checkpoints.with_label_values(&["done"]).inc();
     Ok((requests, saved))

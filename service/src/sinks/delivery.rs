@@ -72,6 +72,9 @@ pub async fn deliver(
     attempts: Arc<Attempts>,
     stop: watch::Receiver<bool>,
 ) -> Result<(), Fault> {
+    if let Some(owners) = sink.owners() {
+        owners.put(slot, &outbox);
+    }
     let files = Files { outbox, dead };
     Run { slot, files, sink, metrics, attempts, failing: FAILING, unsure: UNSURE, stop }.until_it_ends().await
 }

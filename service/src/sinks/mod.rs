@@ -9,6 +9,7 @@ mod delivery;
 mod keys;
 mod left_out;
 mod otlp;
+mod owners;
 pub mod periods;
 pub mod postgres;
 mod retention;
@@ -23,6 +24,7 @@ pub use delivery::{deliver, of_part, Attempts, Delivery};
 pub use keys::{Held, Keys};
 pub(crate) use otlp::Client;
 pub use otlp::{header_of, Access};
+pub use owners::{KnowsOwners, Owners};
 use periods::{Deed, Told};
 pub use retention::Retention;
 pub use rewind::Rewind;
@@ -143,6 +145,11 @@ pub trait Sink: Send + Sync {
 
     /// Who sends a request holds its key until its fate is dealt with.
     fn keys(&self) -> &Keys;
+
+    /// Where it looks up whose series are; none of a sink that does not keep it.
+    fn owners(&self) -> Option<&Owners> {
+        None
+    }
 }
 
 /// What remembers the sink: asked whenever one with an id is opened.

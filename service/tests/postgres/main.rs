@@ -9,6 +9,7 @@ mod kept;
 mod lives;
 mod lost;
 mod model;
+mod owners;
 mod periods;
 mod points;
 mod readers;

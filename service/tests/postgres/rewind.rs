@@ -11,21 +11,15 @@ const HOUR: u64 = 60 * MINUTE;
 /// A right span ends there.
 const BEGIN: u64 = 500_000 * HOUR + 55 * MINUTE;
 
+pub fn key(name: &str) -> SeriesKey {
+    match name {
+        "h" => key_of("h\",\"ms", "[-5,10]", "[]"),
+        name => key_of(&format!("{name}\",\"1"), "\"sum\"", r#"[{"key":"k","value":{"stringValue":"v"}}]"#),
+    }
+}
+
 pub fn rewind(names: &[&str], to: u64) -> String {
-    let key = |name: &&str| {
-        let (name, kind, attributes) = match *name {
-            "h" => ("h\",\"ms", "[-5,10]", "[]"),
-            name => {
-                return key_of(
-                    &format!("{name}\",\"1"),
-                    "\"sum\"",
-                    r#"[{"key":"k","value":{"stringValue":"v"}}]"#,
-                )
-            }
-        };
-        key_of(name, kind, attributes)
-    };
-    let series: Vec<SeriesKey> = names.iter().map(key).collect();
+    let series: Vec<SeriesKey> = names.iter().map(|name| key(name)).collect();
     let [body] = &Rewind::requests(&series, to)[..] else { panic!("several requests") };
     String::from_utf8(body.clone()).unwrap()
 }

@@ -44,6 +44,11 @@ fn a_sender_that_posts_too_much_has_to_wait_and_loses_nothing() {
     service.drain();
     let totals = place.totals();
     assert_eq!((totals.len(), totals.values().sum::<i64>()), (121, 121));
+    // Each was in one request, the first one after its owner was found.
+    let senders = "select sender, count(*) from series group by 1";
+    let file = place.folder.path().join("sink.db");
+    let senders = Command::new("sqlite3").arg(file).arg(senders).output().unwrap();
+    assert_eq!(String::from_utf8(senders.stdout).unwrap(), "A|61\nB|60\n");
     assert_eq!(service.end(), Some(0));
 }
 

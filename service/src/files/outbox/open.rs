@@ -55,6 +55,7 @@ impl Outbox {
             state: Mutex::new(state),
             arrived: Notify::new(),
             settled,
+            without_owners: AtomicU64::new(u64::MAX),
             ended,
             dropped,
             stuck: Mutex::new(None),

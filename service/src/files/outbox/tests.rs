@@ -123,6 +123,25 @@ async fn groups_come_back_with_their_numbers_bytes_and_series() {
     assert_eq!(first.await.unwrap(), 4);
 }
 
+/// A sink writes the owners down.
+#[tokio::test]
+async fn requests_wait_for_the_owners_of_their_series() {
+    let folder = tempfile::tempdir().unwrap();
+    let outbox = Arc::new(open(folder.path()));
+    let bodies = [body(&[("a", 5)], "one"), body(&[("b", 5)], "two")];
+    outbox.commit(&bodies[..1], 4).unwrap();
+    outbox.wait_for_owners();
+    outbox.commit(&bodies[1..], 5).unwrap();
+    assert!(outbox.behind_first(10, usize::MAX).await.is_empty());
+    assert_eq!(take(&outbox).await.0, 1);
+    let waits = outbox.clone();
+    let first = tokio::spawn(async move { waits.first().await.unwrap().0.number });
+    tokio::time::sleep(Duration::from_millis(20)).await;
+    assert!(!first.is_finished());
+    outbox.owners_are_known();
+    assert_eq!(first.await.unwrap(), 2);
+}
+
 #[tokio::test]
 async fn starts_that_end_at_once_leave_one_segment() {
     let folder = tempfile::tempdir().unwrap();

@@ -24,7 +24,7 @@ pub use crate::postgres::Server;
 use super::left_out::LeftOut;
 use super::periods::{Deed, Told};
 use super::sql::{Content, Sent};
-use super::{Answer, Fate, Forwarded, Keys, Memory, Retention, Sink};
+use super::{Answer, Fate, Forwarded, Keys, Memory, Owners, Retention, Sink};
 use crate::work::blocking;
 use fault::Fault;
 use session::{within, Session};
@@ -49,6 +49,7 @@ pub struct PostgresSink {
     was_there: Arc<AtomicBool>,
     patience: Duration,
     keys: Keys,
+    owners: Owners,
     _upkeep: Option<Upkeep>,
 }
 
@@ -77,6 +78,7 @@ impl PostgresSink {
             was_there,
             patience: PATIENCE,
             keys: Keys::default(),
+            owners: Owners::default(),
             _upkeep: Some(upkeep),
         })
     }
@@ -89,6 +91,7 @@ impl PostgresSink {
         // It is not the server that is late where other slots' requests go first.
         let mut place = self.session.lock().await;
         let mut session = self.session(&mut place).await?;
+        session.owners = Some(self.owners.of(request));
         let taken = within(self.patience, store::take(&mut session, request, sent, term, content)).await;
         if matches!(taken, Ok(_) | Err(NotTaken::Refused(_))) {
             *place = Some(session);
@@ -116,6 +119,7 @@ impl PostgresSink {
         let contents = blocking(read).await?;
         let mut place = self.session.lock().await;
         let mut session = self.session(&mut place).await?;
+        session.owners = all.first().map(|first| self.owners.of(first));
         let taken = within(self.patience, store::take_together(&mut session, all, term, contents)).await;
         if matches!(taken, Ok(_) | Err(NotTaken::Refused(_))) {
             *place = Some(session);
@@ -173,6 +177,10 @@ impl Sink for PostgresSink {
     fn keys(&self) -> &Keys {
         &self.keys
     }
+
+    fn owners(&self) -> Option<&Owners> {
+        Some(&self.owners)
+    }
 }
 
 #[cfg(test)]
@@ -202,6 +210,7 @@ mod tests {
             was_there: Arc::default(),
             patience: Duration::from_millis(300),
             keys: Keys::default(),
+            owners: Owners::default(),
             _upkeep: None,
         };
         let request = |slot| Forwarded {

@@ -103,7 +103,7 @@ comment on column totxegun.series.resource is 'Attributes of the resource';
 comment on column totxegun.series.scope_name is 'Of the library that counted';
 comment on column totxegun.series.scope_version is 'Of the library that counted';
 comment on column totxegun.series.scope_attributes is 'Of the library that counted';
-comment on column totxegun.series.sender is 'Who posts it, as its certificate or token says; null where that is not known';
+comment on column totxegun.series.sender is 'Who posts it: the name that its certificate or token proves; without --client-ca and --tokens, the name that it gives itself, or -. Null where the service does not know it';
 comment on column totxegun.series.metric is 'Of its name, kind and unit: metric.id';
 
 -- Series that share name, kind and unit.
@@ -406,7 +406,8 @@ create type totxegun.new_series as (
     resource integer,                   -- the number, from 1, of an object that comes with the array, as the next
     scope_attributes integer,
     scope_name text,
-    scope_version text
+    scope_version text,
+    sender text
 );
 
 create type totxegun.new_interval as (

@@ -97,7 +97,8 @@ impl Writing<'_> {
             return Ok(Vec::new());
         }
         let mut objects = Objects::default();
-        let rows = series.iter().map(|series| objects.row(series)).collect::<Result<Vec<_>, _>>()?;
+        let rows = series.iter().map(|series| objects.row(series, self.owner(series)));
+        let rows = rows.collect::<Result<Vec<_>, _>>()?;
         self.rows(&self.statements.make, &[&rows, &objects.all]).await
     }
 
@@ -108,8 +109,18 @@ impl Writing<'_> {
             return Ok(());
         }
         let digests: Vec<&[u8]> = places.iter().map(|place| &all[*place].digest[..]).collect();
+        let (mut ids, mut senders) = (Vec::new(), Vec::new());
         for row in self.rows(&self.statements.find, &[&digests]).await? {
-            found[places[row.get::<_, i64>(0) as usize - 1]] = Some(Known::of(&row, false));
+            let (place, known) = (places[row.get::<_, i64>(0) as usize - 1], Known::of(&row, false));
+            // Of an operator's letter, say, whose slot was not delivered here.
+            if let (true, Some(sender)) = (row.get(3), self.owner(&all[place])) {
+                ids.push(known.id);
+                senders.push(sender);
+            }
+            found[place] = Some(known);
+        }
+        if !ids.is_empty() {
+            self.rows(&self.statements.set_senders, &[&ids, &senders]).await?;
         }
         Ok(())
     }

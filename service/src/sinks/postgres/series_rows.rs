@@ -29,7 +29,11 @@ struct Place {
 
 impl Objects {
     /// A row of `totxegun.new_series`.
-    pub(super) fn row<'a>(&mut self, series: &'a OfSeries) -> Result<NewRow<'a>, NotTaken> {
+    pub(super) fn row<'a>(
+        &mut self,
+        series: &'a OfSeries,
+        sender: Option<String>,
+    ) -> Result<NewRow<'a>, NotTaken> {
         let parts = series.key.parts()?;
         let (kind, bounds) = Kind::identified(parts.kind);
         series.fits(bounds.as_ref().map(|bounds| bounds.len() + 1))?;
@@ -56,6 +60,7 @@ impl Objects {
                 &scope.number,
                 &scope_name,
                 &scope_version,
+                &sender,
             ])
         }))
     }

@@ -5,6 +5,7 @@ use super::fence::Fence;
 use super::series::Seen;
 use super::{schema, statements, Server, PATIENCE};
 use crate::postgres::{self, Driver};
+use crate::sinks::owners::OwnersOfSlot;
 use crate::sinks::Memory;
 use std::future::Future;
 use std::time::Duration;
@@ -28,6 +29,8 @@ pub(super) struct Session {
     pub(super) client: Client,
     pub(super) statements: Statements,
     pub(super) seen: Seen,
+    /// Of the slot whose request is under way.
+    pub(super) owners: Option<OwnersOfSlot>,
     /// Where the sink is in the store's database.
     pub(super) fence: Option<Fence>,
     pub(super) connection: Driver,
@@ -59,6 +62,7 @@ statements! {
     make: MAKE,
     metrics: METRICS,
     find: FIND,
+    set_senders: SET_SENDERS,
     lock: LOCK,
     intervals: INTERVALS,
     first_totals: FIRST_TOTALS,
@@ -93,7 +97,7 @@ impl Session {
             Ok::<_, Fault>((statements, Fence::prepare(&client, memory.store_database()).await?))
         };
         let (statements, fence) = within(patience, preparing).await?;
-        Ok(Session { client, statements, seen: Seen::default(), fence, connection })
+        Ok(Session { client, statements, seen: Seen::default(), owners: None, fence, connection })
     }
 }
 

@@ -53,9 +53,9 @@ pub(super) const SET_LEFT_OUT: &str =
 /// Makes the rows of new series, in the order of the array, which is that of their digests. One that another
 /// transaction has made is left, and not returned; one that it is making is waited for.
 pub(super) const MAKE: &str = "insert into totxegun.series (digest, identity, is_exact, name, name_json, unit, kind,
-        bounds, attributes, resource, scope_name, scope_version, scope_attributes)
+        bounds, attributes, resource, scope_name, scope_version, scope_attributes, sender)
     select digest, identity, is_exact, name, name_json, unit, kind, bounds, attributes, ($2::jsonb[])[resource],
-        scope_name, scope_version, ($2::jsonb[])[scope_attributes]
+        scope_name, scope_version, ($2::jsonb[])[scope_attributes], sender
     from unnest($1::totxegun.new_series[])
     on conflict (digest) do nothing returning digest, id, metric::text";
 
@@ -65,9 +65,17 @@ pub(super) const METRICS: &str = "insert into totxegun.metric (id, name, kind, u
     on conflict (id) do nothing";
 
 /// Which series are there. It locks nothing.
-pub(super) const FIND: &str = "select wanted.place, series.id, series.metric::text
+pub(super) const FIND: &str = "select wanted.place, series.id, series.metric::text, series.sender is null
     from unnest($1::bytea[]) with ordinality as wanted(digest, place)
     join totxegun.series on series.digest = wanted.digest";
+
+/// Of series that were made before it was known who sends them.
+pub(super) const SET_SENDERS: &str = "with unknown as (
+        select series.id, sent.sender from unnest($1::int8[], $2::text[]) as sent(id, sender)
+        join totxegun.series on series.id = sent.id where series.sender is null
+        order by series.id for no key update of series
+    )
+    update totxegun.series set sender = unknown.sender from unknown where series.id = unknown.id";
 
 /// Locks the totals of these series, so nobody else adds to them until the transaction ends.
 pub(super) const LOCK: &str =

@@ -10,6 +10,7 @@ use super::session::{Session, Statements};
 use super::values::{NewRow, Numeric};
 use crate::postgres::Warnings;
 use crate::sinks::left_out::LeftOut;
+use crate::sinks::owners::OwnersOfSlot;
 use crate::sinks::periods::Closed;
 use crate::sinks::sql::{
     self, Adding, Content, Late, OfSeries, Outcome, Place, Request, Sent, Stored, Taken,
@@ -68,6 +69,7 @@ pub(super) struct Writing<'a> {
     warnings: &'a Warnings,
     pub(super) statements: &'a Statements,
     pub(super) seen: &'a Seen,
+    owners: Option<&'a OwnersOfSlot>,
     pub(super) fence: Option<&'a Fence>,
     /// Series that are there once it is committed.
     new: Vec<u64>,
@@ -143,10 +145,22 @@ impl sql::Transaction for Writing<'_> {
 
 impl<'a> Writing<'a> {
     async fn begin(session: &'a mut Session) -> Result<Writing<'a>, NotTaken> {
-        let Session { client, statements, seen, fence, connection } = session;
+        let Session { client, statements, seen, owners, fence, connection } = session;
         let transaction = client.transaction().await?;
         let (warnings, fence) = (&connection.warnings, fence.as_ref());
-        Ok(Writing { transaction, warnings, statements, seen, fence, new: Vec::new() })
+        Ok(Writing {
+            transaction,
+            warnings,
+            statements,
+            seen,
+            owners: owners.as_ref(),
+            fence,
+            new: Vec::new(),
+        })
+    }
+
+    pub(super) fn owner(&self, series: &OfSeries) -> Option<String> {
+        self.owners?.owner(&series.digest)
     }
 
     /// Which series are there now.

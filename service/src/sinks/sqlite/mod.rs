@@ -24,7 +24,7 @@ mod tests;
 
 use super::periods::{Deed, Told};
 use super::sql::{NotTaken, Sent};
-use super::{Answer, Fate, Forwarded, Keys, Memory, Retention, Sink};
+use super::{Answer, Fate, Forwarded, Keys, Memory, Owners, Retention, Sink};
 use crate::core::give_back_of_thread;
 use anyhow::Context;
 use fault::Fault;
@@ -48,6 +48,7 @@ pub struct SqliteSink {
     jobs: Option<mpsc::Sender<Job>>,
     thread: Option<JoinHandle<()>>,
     keys: Keys,
+    owners: Arc<Owners>,
 }
 
 type Job = Box<dyn FnOnce(&mut Writer) + Send>;
@@ -56,10 +57,12 @@ impl SqliteSink {
     /// Opens the file, made where there is none. A file that can't be opened now is opened at a later delivery; one
     /// that must not be written (of a later version, of another program, another than is remembered) is an error.
     pub fn open(path: &Path, retention: Retention, memory: Arc<dyn Memory>) -> anyhow::Result<SqliteSink> {
+        let owners = Arc::<Owners>::default();
         let mut writer = Writer {
             path: path.into(),
             store: None,
             memory,
+            owners: owners.clone(),
             upkeep: Upkeep::new(retention),
             was_replaced: false,
             is_told: false,
@@ -77,7 +80,8 @@ impl SqliteSink {
         let thread = std::thread::Builder::new().name("sqlite".into()).spawn(write);
         let thread =
             thread.with_context(|| format!("the thread that writes {} can't be started", path.display()))?;
-        Ok(SqliteSink { path: path.into(), jobs: Some(jobs), thread: Some(thread), keys: Keys::default() })
+        let keys = Keys::default();
+        Ok(SqliteSink { path: path.into(), jobs: Some(jobs), thread: Some(thread), keys, owners })
     }
 
     fn send<'a>(&'a self, request: &Forwarded, sent: Sent) -> Answer<'a, Fate> {
@@ -132,6 +136,10 @@ impl Sink for SqliteSink {
     fn keys(&self) -> &Keys {
         &self.keys
     }
+
+    fn owners(&self) -> Option<&Owners> {
+        Some(&self.owners)
+    }
 }
 
 /// Waits for the request that is being written, and leaves the file closed.
@@ -149,6 +157,7 @@ struct Writer {
     path: PathBuf,
     store: Option<Store>,
     memory: Arc<dyn Memory>,
+    owners: Arc<Owners>,
     upkeep: Upkeep,
     /// Whether the file that was open was found replaced, and none was opened since.
     was_replaced: bool,
@@ -264,7 +273,8 @@ impl Writer {
     }
 
     fn take(&mut self, request: &Forwarded, sent: Sent) -> Fate {
-        match self.store().map_err(NotTaken::from).and_then(|store| store.take(request, sent)) {
+        let owners = self.owners.of(request);
+        match self.store().map_err(NotTaken::from).and_then(|store| store.take(request, sent, owners)) {
             // It is written where nobody will read it: the key says what there is to be done.
             Ok(_) if !self.is(FileState::Intact) => Fate::away(format!(
                 "{} or its -wal was deleted meanwhile: it is opened again",
@@ -281,7 +291,9 @@ impl Writer {
 
     /// Whether it has all of them. What is wrong else each one by itself says.
     fn take_together(&mut self, all: &[Forwarded]) -> bool {
-        let taken = self.store().map_err(NotTaken::from).and_then(|store| store.take_together(all));
+        let Some(first) = all.first() else { return true };
+        let owners = self.owners.of(first);
+        let taken = self.store().map_err(NotTaken::from).and_then(|store| store.take_together(all, owners));
         if let Err(NotTaken::Fault(fault)) = &taken {
             self.close_after(fault);
         }

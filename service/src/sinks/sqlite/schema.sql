@@ -71,7 +71,7 @@ insert into about values
     ('series', 'scope_attributes', 'As a JSON object'),
     ('series', 'scope_name', 'Of the library that counted'),
     ('series', 'scope_version', 'Of the library that counted'),
-    ('series', 'sender', 'Who posts it, as its certificate or token says; null where that is not known'),
+    ('series', 'sender', 'Who posts it: the name that its certificate or token proves; without --client-ca and --tokens, the name that it gives itself, or -. Null where the service does not know it'),
     ('series', 'unit', 'Of the metric');
 
 create table metric (

@@ -50,10 +50,18 @@ impl<'a> SeriesRow<'a> {
         cached::find(connection, find, &self.columns()[..], |row| row.get(0))
     }
 
-    /// Its row, which is made where there is none, and whether it was.
-    pub(super) fn known(&self, transaction: &Transaction) -> rusqlite::Result<(SeriesIds, bool)> {
+    /// Its row, which is made where there is none, and whether it was. Its sender is written down once it is known.
+    pub(super) fn known(
+        &self,
+        transaction: &Transaction,
+        sender: Option<&str>,
+    ) -> rusqlite::Result<(SeriesIds, bool)> {
         let (series, is_new) = self.id(transaction)?;
         let metric = self.metric(transaction, is_new)?;
+        let name = "update series set sender = ?2 where id = ?1 and sender is null";
+        if sender.is_some() {
+            cached::run(transaction, name, params![series, sender])?;
+        }
         Ok((SeriesIds { series, metric }, is_new))
     }
 

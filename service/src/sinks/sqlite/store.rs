@@ -8,6 +8,7 @@ use super::series_row::SeriesIds;
 use super::writing::Writing;
 use crate::otlp::series::Digest;
 use crate::sinks::left_out::LeftOut;
+use crate::sinks::owners::OwnersOfSlot;
 use crate::sinks::periods::{Deed, Told};
 use crate::sinks::sql::{self, Content, Request, Sent};
 use crate::sinks::Forwarded;
@@ -96,9 +97,14 @@ impl Store {
     }
 
     /// Takes a request that is not taken yet, but for points that begin too early: these are left.
-    pub(super) fn take(&mut self, request: &Forwarded, sent: Sent) -> Result<LeftOut, NotTaken> {
+    pub(super) fn take(
+        &mut self,
+        request: &Forwarded,
+        sent: Sent,
+        owners: OwnersOfSlot,
+    ) -> Result<LeftOut, NotTaken> {
         let request = Request::with(request, sent, Content::read(&request.body)?);
-        let mut writing = self.begin()?;
+        let mut writing = self.begin(owners)?;
         let outcome = at_once(sql::take(&mut writing, request))?;
         let new = writing.commit()?;
         self.series.extend(new);
@@ -106,10 +112,14 @@ impl Store {
     }
 
     /// Takes all of these whole, in one transaction, where none is taken yet and nothing of them is left; whether it did.
-    pub(super) fn take_together(&mut self, all: &[Forwarded]) -> Result<bool, NotTaken> {
+    pub(super) fn take_together(
+        &mut self,
+        all: &[Forwarded],
+        owners: OwnersOfSlot,
+    ) -> Result<bool, NotTaken> {
         let read = |one| Ok(Request::with(one, Sent::InOrder, Content::read(&one.body)?));
         let requests = all.iter().map(read).collect::<Result<_, NotTaken>>()?;
-        let mut writing = self.begin()?;
+        let mut writing = self.begin(owners)?;
         let is_taken = at_once(sql::take_together(&mut writing, requests))?;
         if is_taken {
             let new = writing.commit()?;
@@ -126,14 +136,14 @@ impl Store {
         periods.0.commit().map(|()| told)
     }
 
-    fn begin(&mut self) -> Result<Writing<'_>, NotTaken> {
+    fn begin(&mut self, owners: OwnersOfSlot) -> Result<Writing<'_>, NotTaken> {
         let transaction = self.connection.transaction_with_behavior(TransactionBehavior::Immediate)?;
         let version: i64 = cached::one(&transaction, "pragma data_version", [], |row| row.get(0))?;
         if version != self.data_version || self.series.len() > CACHED {
             self.series.clear();
             self.data_version = version;
         }
-        Ok(Writing { transaction, known: &self.series, new: HashMap::new() })
+        Ok(Writing { transaction, owners, known: &self.series, new: HashMap::new() })
     }
 }
 

@@ -115,6 +115,7 @@ fn writer(path: &Path) -> Writer {
         path: path.into(),
         store: None,
         memory: Arc::new(()),
+        owners: Arc::default(),
         upkeep: Upkeep::new(Retention::default()),
         was_replaced: false,
         is_told: false,

@@ -11,6 +11,7 @@ use super::totals::list;
 use super::wide_integers::Unsigned;
 use crate::otlp::series::{Digest, ForwardedPoint, Value};
 use crate::sinks::left_out::shown;
+use crate::sinks::owners::OwnersOfSlot;
 use crate::sinks::periods::Closed;
 use crate::sinks::sql::totals::SeriesTotal;
 use crate::sinks::sql::{self, Adding, Late, OfSeries, Place, Request, Stored, Taken};
@@ -22,6 +23,7 @@ type NotTaken = sql::NotTaken<Fault>;
 
 pub(super) struct Writing<'a> {
     pub(super) transaction: Transaction<'a>,
+    pub(super) owners: OwnersOfSlot,
     pub(super) known: &'a HashMap<Digest, SeriesIds>,
     /// Of no use to others until it is committed.
     pub(super) new: HashMap<Digest, SeriesIds>,
@@ -177,12 +179,16 @@ impl Writing<'_> {
         }
         let series = SeriesTotal::of_none(&of.key)?;
         let buckets = series.histogram.as_ref().map(|histogram| histogram.bounds.len() + 1);
-        let (ids, is_new) = SeriesRow::of(&series).known(&self.transaction)?;
+        let sender = self.owners.owner(&of.digest);
+        let (ids, is_new) = SeriesRow::of(&series).known(&self.transaction, sender.as_deref())?;
         let total = match is_new {
             true => None,
             false => Total::read(&self.transaction, ids.series)?,
         };
-        self.new.insert(of.digest, ids);
+        // One whose sender is not known is looked up again, until it is.
+        if sender.is_some() {
+            self.new.insert(of.digest, ids);
+        }
         Ok(Stored { ends: total.as_ref().map(Total::ends), row: Row { ids, total }, buckets })
     }
 
