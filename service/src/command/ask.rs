@@ -68,7 +68,7 @@ pub struct OfSender {
     pub at: Address,
 }
 
-fn sender(text: &str) -> Result<String, String> {
+pub fn sender(text: &str) -> Result<String, String> {
     if is_sender(text) {
         return Ok(text.to_string());
     }

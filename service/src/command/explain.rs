@@ -5,7 +5,7 @@ use super::table::Table;
 use super::values::counted;
 use super::{json, Ended, Form};
 use crate::intake::refusal::Refusal;
-use crate::otlp::{self, Clock, Encoding, Explained, Reading, Refused, Rounding};
+use crate::otlp::{self, Attributed, Clock, Encoding, Explained, Reading, Refused, Rounding, SenderNames};
 use anyhow::{anyhow, Context};
 use clap::Args;
 use serde::Serialize;
@@ -23,6 +23,9 @@ pub struct Options {
     /// A request's body in JSON or protobuf, packed by gzip or not, or a message of gRPC; `-` is standard input
     #[arg(value_name = "FILE")]
     file: PathBuf,
+    /// Who posts it: the name of its certificate or token, else of its header x-sender
+    #[arg(long, value_name = "NAME", value_parser = super::ask::sender)]
+    sender: Option<String>,
     #[command(flatten)]
     form: Form,
     #[command(flatten)]
@@ -34,9 +37,12 @@ pub struct Options {
 struct Explanation {
     encoding: &'static str,
     packed: bool,
-    /// Who posts it, where no header says so.
+    /// Who posts it, where nothing else says so.
     sender: String,
-    /// How many resources get the sender's name as their instance.
+    /// What the name that its sender proves is given as, and to how many resources.
+    sender_attribute: Option<String>,
+    proved: usize,
+    /// How many get their sender's name as their instance.
     named: usize,
     /// Unpacked.
     bytes: usize,
@@ -51,7 +57,7 @@ impl Options {
         let clock = self.reading.clock();
         let reading = self.reading.reading().map_err(Ended::Line)?;
         let body = read(&self.file).with_context(|| format!("{} can't be read", self.file.display()))?;
-        let found = found(body, &reading, &clock)?;
+        let found = found(body, self.sender, &reading, &clock)?;
         match self.form.json {
             true => Ok(json(&found)?),
             false => Ok(text(&found).into()),
@@ -68,17 +74,25 @@ fn read(file: &Path) -> std::io::Result<Vec<u8>> {
     Ok(body)
 }
 
-fn found(body: Vec<u8>, reading: &Reading, clock: &Clock) -> anyhow::Result<Explanation> {
+fn found(
+    body: Vec<u8>,
+    sender: Option<String>,
+    reading: &Reading,
+    clock: &Clock,
+) -> anyhow::Result<Explanation> {
     let (framed, body) = unframed(body);
     let (packed, body) = unpacked(not_too_long(body)?)?;
     let (_, body) = unpacked(not_too_long(body)?)?; // as the service: Python's gRPC packs some messages twice
     let body = not_too_long(body)?;
     let bytes = body.len();
     let encoding = if framed { Encoding::Protobuf } else { Encoding::of(&body) };
-    let sender = otlp::sender(otlp::NO_NAME.into(), encoding, &body, reading).map_err(refused)?;
-    // A header may name it: any name does here.
+    let sender = sender.unwrap_or_else(|| otlp::NO_NAME.into());
+    let sender = otlp::sender(sender, encoding, &body, reading).map_err(refused)?;
+    // A header or a token may name it: any name does here.
     let name = if sender == otlp::NO_NAME { "SENDER" } else { &sender };
-    let (body, named) = otlp::with_instance(name, encoding, body.into(), reading).map_err(refused)?;
+    let names = SenderNames { name, proved: Some(name) };
+    let attributed = otlp::with_sender_attributes(names, encoding, body.into(), reading).map_err(refused)?;
+    let Attributed { body, proved, instances: named } = attributed;
     let prepared = otlp::prepare(encoding, body, reading).map_err(refused)?;
     let points = otlp::explained(&prepared.body, reading.profile, clock.window())
         .context("refused with 400: wrong shape")?;
@@ -90,6 +104,8 @@ fn found(body: Vec<u8>, reading: &Reading, clock: &Clock) -> anyhow::Result<Expl
         },
         packed,
         sender,
+        sender_attribute: reading.sender_attribute.clone(),
+        proved,
         named,
         bytes,
         taken: points.len() - foreign,
@@ -143,6 +159,10 @@ fn text(found: &Explanation) -> String {
     if found.sender != otlp::NO_NAME {
         text.push_str(&format!("of the sender {}, where no header names another\n", found.sender));
     }
+    if let Some(attribute) = &found.sender_attribute {
+        let resources = counted(found.proved as u64, "resource");
+        text.push_str(&format!("{resources}: {attribute} is the name that the sender proves\n"));
+    }
     if found.named > 0 {
         let resources = counted(found.named as u64, "resource");
         text.push_str(&format!("{resources} without a service.instance.id: the sender's name is given\n"));
@@ -175,7 +195,7 @@ mod tests {
 
     /// By no options.
     fn plain(body: impl Into<Vec<u8>>) -> anyhow::Result<Explanation> {
-        found(body.into(), &Reading::default(), &Clock::default())
+        found(body.into(), None, &Reading::default(), &Clock::default())
     }
 
     #[test]
@@ -192,9 +212,9 @@ mod tests {
     fn a_point_that_is_off_by_its_clock_is_told_of() {
         let ahead = BODY.replace("timeUnixNano\":\"2\"", &format!("timeUnixNano\":\"{}\"", u64::MAX));
         let clock = Clock { most_ahead: Some(Duration::from_secs(600)), most_behind: None };
-        let told = text(&found(ahead.into(), &Reading::default(), &clock).unwrap());
+        let told = text(&found(ahead.into(), None, &Reading::default(), &clock).unwrap());
         assert!(told.contains("0 points taken, 2 foreign") && told.contains("d ahead"), "{told}");
-        let old = text(&found(BODY.into(), &Reading::default(), &clock).unwrap());
+        let old = text(&found(BODY.into(), None, &Reading::default(), &clock).unwrap());
         assert!(old.contains("1 point taken"), "{old}");
     }
 
@@ -203,9 +223,9 @@ mod tests {
         let reading = Reading { sender_from: Some("id".to_string()), ..Reading::default() };
         let body =
             r#"{"resourceMetrics":[{"resource":{"attributes":[{"key":"id","value":{"stringValue":"a"}}]}}]}"#;
-        let named = text(&found(body.into(), &reading, &Clock::default()).unwrap());
+        let named = text(&found(body.into(), None, &reading, &Clock::default()).unwrap());
         assert!(named.contains("of the sender a,"), "{named}");
-        let error = found(body.replace(r#""a""#, r#""""#).into(), &reading, &Clock::default())
+        let error = found(body.replace(r#""a""#, r#""""#).into(), None, &reading, &Clock::default())
             .unwrap_err()
             .to_string();
         assert!(error.contains("refused with 400: no sender"), "{error}");
@@ -214,8 +234,18 @@ mod tests {
     #[test]
     fn a_resource_that_gets_the_senders_name_is_told_of() {
         let reading = Reading { instance_from_sender: true, ..Reading::default() };
-        let told = text(&found(BODY.into(), &reading, &Clock::default()).unwrap());
+        let told = text(&found(BODY.into(), None, &reading, &Clock::default()).unwrap());
         assert!(told.contains("1 resource without a service.instance.id: "), "{told}");
+    }
+
+    #[test]
+    fn the_name_that_a_sender_proves_is_told_of() {
+        let reading = Reading { sender_attribute: Some("posted.by".into()), ..Reading::default() };
+        for sender in [None, Some("shop-1".to_string())] {
+            let found = found(BODY.into(), sender, &reading, &Clock::default()).unwrap();
+            let told = text(&found);
+            assert!(told.contains("1 resource: posted.by is the name that the sender proves"), "{told}");
+        }
     }
 
     #[test]

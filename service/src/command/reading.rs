@@ -7,6 +7,8 @@ use anyhow::{anyhow, bail};
 use clap::builder::NonEmptyStringValueParser;
 use clap::Args;
 
+const LONGEST_ATTRIBUTE: usize = 128;
+
 #[derive(Args)]
 #[command(next_help_heading = "Options of reading")]
 pub(super) struct OfReading {
@@ -25,6 +27,9 @@ pub(super) struct OfReading {
     /// The resource attribute that names a sender without the header x-sender: service.instance.id
     #[arg(long, env = "TOTXEGUN_SENDER_FROM", value_name = "ATTRIBUTE", value_parser = NonEmptyStringValueParser::new())]
     sender_from: Option<String>,
+    /// The resource attribute that is the name which a sender's certificate or token proves, in place of what the body says: so nobody posts under another's name
+    #[arg(long, env = "TOTXEGUN_SENDER_ATTRIBUTE", value_name = "ATTRIBUTE", value_parser = attribute)]
+    sender_attribute: Option<String>,
     /// Leaves out points that end later than so long after this clock's time, or `off` for none
     #[arg(long, env = "TOTXEGUN_MOST_AHEAD", value_name = "TIME", default_value = "10m", value_parser = time_or("off"))]
     most_ahead: MayBeNone,
@@ -59,14 +64,18 @@ impl OfReading {
             Profile::AlsoCumulative => "On",
             Profile::Deltas => "Off",
         };
+        // Only where it is given: a store that has none keeps its words.
+        let sender_attribute = self.sender_attribute.as_ref();
+        let sender_attribute = sender_attribute.map(|name| format!(" sender-attribute={name}"));
         format!(
             "whole={} drop-attribute={} sender-from={} cumulative={cumulative} never-across={across:?} instance-from-sender={} \
-             exponential={:?}",
+             exponential={:?}{}",
             whole.join(","),
             self.drop_attributes.join(","),
             self.sender_from.as_deref().unwrap_or_default(),
             self.instance_from_sender,
-            self.exponential
+            self.exponential,
+            sender_attribute.unwrap_or_default()
         )
     }
 
@@ -74,15 +83,35 @@ impl OfReading {
         if self.instance_from_sender && self.drop_attributes.iter().any(|name| name == INSTANCE) {
             bail!("--instance-from-sender gives what --drop-attribute {INSTANCE} takes away: leave one of them out");
         }
+        if let Some(name) = &self.sender_attribute {
+            if self.drop_attributes.contains(name) {
+                bail!(
+                    "--sender-attribute gives what --drop-attribute {name} takes away: leave one of them out"
+                );
+            }
+            if self.instance_from_sender && name == INSTANCE {
+                bail!("--instance-from-sender gives what --sender-attribute {INSTANCE} does: leave it out");
+            }
+        }
         let finer_units = FinerUnits::of(self.whole).map_err(|why| anyhow!(why))?;
         Ok(Reading {
             dropped: self.drop_attributes,
             finer_units: finer_units.with_profile(self.cumulative),
             sender_from: self.sender_from,
+            sender_attribute: self.sender_attribute,
             profile: self.cumulative,
             instance_from_sender: self.instance_from_sender,
             exponential: self.exponential,
         })
+    }
+}
+
+/// A name of which each character stands for itself in JSON.
+fn attribute(text: &str) -> Result<String, String> {
+    let is_plain = |byte: u8| byte.is_ascii_alphanumeric() || b"._-/".contains(&byte);
+    match (1..=LONGEST_ATTRIBUTE).contains(&text.len()) && text.bytes().all(is_plain) {
+        true => Ok(text.to_string()),
+        false => Err(format!("an attribute's name is 1 to {LONGEST_ATTRIBUTE} of A-Z a-z 0-9 . _ - /")),
     }
 }
 
@@ -109,5 +138,21 @@ mod tests {
         let told = likeness(&words);
         let begin = "whole=auto,s=1000:ms drop-attribute=a,b sender-from=id cumulative=On ";
         assert!(told.starts_with(begin), "{told}");
+        let told = likeness(&["serve", "--sender-attribute", "posted.by"]);
+        assert!(told.ends_with(" exponential=None sender-attribute=posted.by"), "{told}");
+    }
+
+    #[test]
+    fn what_another_option_takes_away_or_gives_is_refused() {
+        for (words, why) in [
+            ("--drop-attribute a,b --sender-attribute b", "takes away"),
+            ("--instance-from-sender --sender-attribute service.instance.id", "leave it out"),
+        ] {
+            let words = ["serve"].into_iter().chain(words.split(' '));
+            let refused = Line::parse_from(words).of_reading.reading().unwrap_err().to_string();
+            assert!(refused.contains(why), "{refused}");
+        }
+        let both = ["serve", "--instance-from-sender", "--sender-attribute", "by"];
+        assert!(Line::parse_from(both).of_reading.reading().is_ok());
     }
 }

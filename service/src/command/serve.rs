@@ -219,6 +219,12 @@ impl Options {
                 "--sender-from would take a sender's word for its name: leave it out where --client-ca or --tokens name senders"
             )));
         }
+        if let (Some(name), false) = (&reading.sender_attribute, self.of_senders.has_names()) {
+            return Err(Ended::Line(anyhow!(
+                "--sender-attribute {name} is for the name that a sender proves, and here none does: give --tokens or --client-ca, \
+                 or leave it out"
+            )));
+        }
         let mut operate = operate(&self.operate, &data).map_err(Ended::Line)?;
         let tokens = self.operate_tokens;
         if tokens.is_some() && operate.tcp.is_none() {

@@ -45,7 +45,7 @@ async fn answer<T: Taker>(intake: Arc<Intake<T>>, who: &Who, request: Request<Bo
     let outcome = match call {
         Err(Turned { sender, refusal }) => intake.refused(&sender, &refusal),
         Ok(head) => {
-            let sender = head.sender.clone();
+            let sender = head.sender.name.clone();
             let taking = take(&intake, head, &mut body);
             match tokio::time::timeout(limit, taking).await {
                 Ok(outcome) => outcome,
@@ -83,7 +83,7 @@ fn call(parts: &Parts, who: &Who) -> Result<Head, Turned> {
         None => Packing::Plain,
         Some(coding) => match named_packing(coding) {
             Some(packing) => packing,
-            None => return Err(Turned { sender, refusal: Refusal::ContentEncoding }),
+            None => return Err(Turned { sender: sender.name, refusal: Refusal::ContentEncoding }),
         },
     };
     Ok(Head { sender, encoding: Encoding::Protobuf, packing })
@@ -92,10 +92,10 @@ fn call(parts: &Parts, who: &Who) -> Result<Head, Turned> {
 async fn take<T: Taker>(intake: &Arc<Intake<T>>, mut head: Head, body: &mut Body) -> Outcome {
     let mut hold = intake.budget.hold();
     match message::receive(body, &mut hold).await {
-        Err(refusal) => intake.refused(&head.sender, &refusal),
+        Err(refusal) => intake.refused(&head.sender.name, &refusal),
         Ok(message) if message.is_packed && head.packing == Packing::Plain => {
             let why = "the message is packed, and grpc-encoding does not say how";
-            intake.refused(&head.sender, &Refused::Unreadable(why.into()).into())
+            intake.refused(&head.sender.name, &Refused::Unreadable(why.into()).into())
         }
         Ok(message) => {
             if !message.is_packed {

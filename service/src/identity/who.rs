@@ -94,6 +94,14 @@ impl Proved {
         }
     }
 
+    /// Who posts, if that is proved.
+    pub fn sender(self) -> Option<Arc<Sender>> {
+        match self {
+            Proved::Anybody => None,
+            Proved::Sender(sender) => Some(sender),
+        }
+    }
+
     /// The name of a request's sender, which may name itself.
     pub fn name(&self, own: Option<&str>) -> Result<String, Stranger> {
         match (self, own) {
@@ -173,6 +181,16 @@ mod tests {
         let uri = shown("/CN=x", Some("URI:spiffe://d/shop"));
         let name = "spiffe---d-shop.670deb13c283c1a0157c1bc0a623e9338a3f2cb6";
         assert_eq!(uri.sender().unwrap().name, name);
+    }
+
+    /// Whatever name it may post under.
+    #[test]
+    fn who_shows_a_certificate_has_proved_its_own_name() {
+        let who = Who { by: By::Certificate(shown("/CN=x", Some("DNS:shop-1"))), peer: None };
+        let sender = who.proved(std::iter::empty()).unwrap().sender();
+        assert_eq!(sender.map(|sender| sender.name.clone()).as_deref(), Some("shop-1"));
+        let who = Who { by: By::Believed(None), peer: None };
+        assert!(who.proved(std::iter::empty()).unwrap().sender().is_none());
     }
 
     #[test]

@@ -1,7 +1,7 @@
 //! What the head of a request says: how its body is framed and written, who sends it, and what becomes of the connection.
 
 use super::refusal::{Refusal, Turned};
-use super::sender::sender;
+use super::sender::{sender, Poster};
 use super::wire::{Body, HEADERS, READ_AHEAD};
 use crate::identity::Who;
 use crate::otlp::Encoding;
@@ -20,7 +20,7 @@ pub enum Packing {
 /// The head of a post that may have a body.
 #[derive(Debug, PartialEq, Eq)]
 pub struct Head {
-    pub sender: String,
+    pub sender: Poster,
     pub encoding: Encoding,
     pub packing: Packing,
 }
@@ -97,7 +97,7 @@ impl Head {
         let of = |name| named(request.headers, name);
         let sender = sender(who, of("authorization"), of("x-sender"))?;
         match content(request.headers) {
-            Err(refusal) => Err(Turned { sender, refusal }),
+            Err(refusal) => Err(Turned { sender: sender.name, refusal }),
             Ok((encoding, packing)) => Ok(Head { sender, encoding, packing }),
         }
     }

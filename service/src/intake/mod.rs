@@ -142,7 +142,7 @@ impl<T: Taker> Intake<T> {
         wire: &mut Wire<S>,
     ) -> Outcome {
         let (sender, read) = match head {
-            Ok(head) => (head.sender.clone(), self.read(head, wire).await),
+            Ok(head) => (head.sender.name.clone(), self.read(head, wire).await),
             Err(Turned { sender, refusal }) => (sender, Err(refusal)),
         };
         match read {
@@ -193,7 +193,7 @@ impl<T: Taker> Intake<T> {
 
     /// Takes a body that came another way.
     pub(crate) async fn put(&self, head: Head, packed: Bytes, hold: Hold) -> Outcome {
-        let sender = head.sender.clone();
+        let sender = head.sender.name.clone();
         match self.prepared(head, packed, hold).await {
             Ok(post) => self.take(post).await,
             Err(refusal) => self.refused(&sender, &refusal),
@@ -290,7 +290,7 @@ mod tests {
 
     /// How a body goes on, and whether it is read in place.
     fn seen(packing: Packing, body: Bytes) -> (Packing, usize, bool) {
-        let (sender, encoding) = ("-".to_string(), Encoding::Json);
+        let (sender, encoding) = ("-".into(), Encoding::Json);
         let mut head = Head { sender, encoding, packing };
         let mut body = body;
         let is_short = is_short(&mut head, &mut body, &mut Budget::new(16 << 20).hold()).unwrap();

@@ -97,10 +97,13 @@ pub(super) fn prepare<T: Taker>(
     metrics.request_size.observe(body.len() as f64);
     let encoding = head.encoding;
     let mut reader = Reader::new(encoding, body.len(), reading, &mut hold)?;
-    let sender = otlp::sender(head.sender, encoding, &body, reading)?;
-    // Ahead of the slots: the name is a part of its resource.
-    let (body, named) = otlp::with_instance(&sender, encoding, body, reading)?;
-    if named > 0 {
+    let (name, proved) = (head.sender.name, head.sender.proved);
+    let sender = otlp::sender(name, encoding, &body, reading)?;
+    // Ahead of the slots: these attributes are a part of its resource.
+    let names = otlp::SenderNames { name: &sender, proved: proved.as_ref().map(|sender| &*sender.name) };
+    let length = body.len();
+    let body = otlp::with_sender_attributes(names, encoding, body, reading)?.body;
+    if body.len() != length {
         reader.takes(body.len())?;
     }
     let asked = match slots.way(encoding, &body) {

@@ -5,8 +5,8 @@
 //! it came, and `plain_protobuf` most protobuf that the book's reader reads; `numbered` reads nearly all other protobuf without
 //! that, by the numbers of series that are known;
 //! `finer_units` takes fractions as whole numbers of a finer unit, `exponential` exponential histograms in given buckets. `series`
-//! reads bodies as the book does, and what it forwards. `sender` finds a request's sender in it, `instance` puts a sender's name
-//! into its resources.
+//! reads bodies as the book does, and what it forwards. `sender` finds a request's sender in it, `sender_attributes` puts a sender's
+//! name into its resources.
 //! `outside` is what of a request is handed on to another receiver, `clock` which points end too far from the service's clock.
 //! `reason` has why something is not taken, `outcome` what became of a request, `answers` how that is written. `resources` says
 //! which slot a resource has and takes requests apart, `combined_outcome` is one answer of several.
@@ -21,7 +21,6 @@ mod exponential;
 mod finer_units;
 mod from_json;
 mod from_protobuf;
-mod instance;
 mod json;
 mod json_fast_path;
 mod messages;
@@ -35,6 +34,7 @@ mod reason;
 mod resources;
 mod schema;
 mod sender;
+mod sender_attributes;
 pub mod series;
 mod wire;
 
@@ -45,7 +45,6 @@ pub use combined_outcome::{combined, OfPart};
 pub use explain::{explained, foreign_points, point_at, second_at, taken_points, Explained};
 pub use exponential::Bounds;
 pub use finer_units::{Choice, Decided, FinerUnits, Rounded, Rounding, Rule, ShownSeries};
-pub use instance::{with_instance, INSTANCE};
 pub(crate) use messages::{Detail, ExportMetricsServiceResponse, Status};
 pub use numbered::{Learnt, NotNamed, Numbered, Series};
 pub use outcome::{Outcome, RejectedPoint, Rejection};
@@ -54,6 +53,7 @@ pub(crate) use plain_protobuf::is_plain;
 pub use reason::Reason;
 pub use resources::{slot_of, slot_of_series, Part, Resources, Split};
 pub use sender::{legal, sender, NO_NAME};
+pub use sender_attributes::{with_sender_attributes, Attributed, SenderNames, INSTANCE};
 pub use series::{protobuf_of_forwarded, Profile};
 #[cfg(test)]
 pub(crate) use tests::{
@@ -131,6 +131,8 @@ pub struct Reading {
     pub sender_from: Option<String>,
     /// Which points are taken.
     pub profile: Profile,
+    /// The resource attribute that is the name that a sender proved.
+    pub sender_attribute: Option<String>,
     /// A resource without a `service.instance.id` gets its sender's name as one.
     pub instance_from_sender: bool,
     /// The buckets in which exponential histograms are taken; none where they are not.

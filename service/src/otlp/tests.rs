@@ -8,7 +8,6 @@ use std::collections::HashMap;
 
 mod causes;
 mod explain;
-mod instance;
 mod long;
 mod mapping;
 mod points;
@@ -17,6 +16,7 @@ mod protobuf;
 mod random;
 mod reasons;
 mod refused;
+mod sender_attributes;
 mod speed;
 
 pub(super) use super::wire::field as bytes;

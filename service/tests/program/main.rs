@@ -12,6 +12,7 @@ mod log_form;
 mod memory;
 mod numbers;
 mod pages;
+mod sender_attribute;
 mod shares;
 mod socket;
 mod stuck;

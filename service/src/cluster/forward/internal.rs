@@ -18,10 +18,11 @@ use std::time::Duration;
 use tokio::sync::Semaphore;
 use tokio::time::timeout;
 
-/// What is added to a request before it is taken apart: `otlp::with_instance` puts in names of `n` bytes up to 2^20 / (n + 80)
-/// times, each with 85 bytes around it at most, in JSON. Since n is 1 at least, that is less than 2^20 * 86 / 81, and so less
-/// than 2^20 * 17 / 16.
-const NAMES: usize = 17 << 16;
+/// What is added to a request before it is taken apart: `otlp::with_sender_attributes` puts in two attributes. One whose key and
+/// value have `n` bytes together comes in up to 2^20 / (n + 61) times, each with 66 bytes around them at most, in JSON. For
+/// `service.instance.id` n is 20 at least, for the other one 2: so both are less than 2^20 * (86 / 81 + 68 / 63), and so less than
+/// 2^20 * 35 / 16.
+const NAMES: usize = 35 << 16;
 /// A part is no longer than its request is with these.
 const MOST: usize = crate::intake::MOST + NAMES;
 /// So many long ones are in memory at once, whoever sends them: no instance brings more than its share at a time (`peer`).

@@ -6,6 +6,7 @@ mod tls;
 
 use super::*;
 use crate::core::Refused;
+use crate::otlp::{with_sender_attributes, Attributed, SenderNames};
 use crate::otlp::{Causes, Encoding, Off, OffClock, Reading, Rejection, Resources};
 use bytes::Bytes;
 use peers::{ends_after_one, posted, receiver, secret, slow_way, strange, there, Peer, Slots};
@@ -53,17 +54,18 @@ async fn an_owners_answer_comes_back_as_it_said_it() {
 async fn the_longest_post_with_the_names_of_its_instances_is_brought() {
     let peer = Peer::here().await;
     let forward = receiver(peer.whose(), secret("of all"));
-    let reading = Reading { instance_from_sender: true, ..Reading::default() };
+    let sender_attribute = Some("o".to_string());
+    let reading = Reading { instance_from_sender: true, sender_attribute, ..Reading::default() };
     let mut longest = 0;
     for name in ["x".into(), "web-1".into(), "y".repeat(64)] {
         let with_names = |resources: usize| {
-            let body = longest_json(resources);
-            crate::otlp::with_instance(&name, Encoding::Json, body, &reading).ok()
+            let (body, names) = (longest_json(resources), SenderNames { name: &name, proved: Some(&name) });
+            with_sender_attributes(names, Encoding::Json, body, &reading).ok()
         };
         let most = (1 << 20) / (name.len() + 80);
         assert!(with_names(most + 1).is_none(), "more of them may be named");
-        let (body, named) = with_names(most).unwrap();
-        assert_eq!(named, most);
+        let Attributed { body, proved, instances } = with_names(most).unwrap();
+        assert_eq!((proved, instances), (most, most));
         longest = longest.max(body.len());
         let part = Original { encoding: Encoding::Json, body };
         assert_eq!(forward.post(3, &name, part).await, Outcome::taken(0), "{name}");

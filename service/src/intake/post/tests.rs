@@ -1,9 +1,11 @@
 //! What each slot is asked, and one answer of several.
 
 use super::*;
+use crate::identity::Sender;
 use crate::intake::head::Packing;
+use crate::intake::sender::Poster;
 use crate::intake::{Budget, Intake};
-use crate::otlp::{slot_of, Resources};
+use crate::otlp::{slot_of, Reason, Resources};
 use crate::slot::{ByNumber, Elsewhere};
 use std::future::Future;
 use std::pin::Pin;
@@ -14,18 +16,25 @@ const SLOTS: u16 = 3;
 /// Keeps what it is asked, and answers as it was told; where it was told nothing it fails.
 struct Kept {
     posts: Mutex<Vec<(String, Bytes)>>,
+    /// As they came.
+    originals: Mutex<Vec<Bytes>>,
     outcome: Option<Outcome>,
 }
 
 impl Taker for Kept {
+    fn wants_originals(&self) -> bool {
+        true
+    }
+
     fn post(
         self: &Arc<Self>,
         sender: &str,
         request: Request,
-        _: Option<Original>,
+        original: Option<Original>,
     ) -> impl Future<Output = Outcome> + Send {
         let body = request.source().text().unwrap();
         self.posts.lock().unwrap().push((sender.into(), body));
+        self.originals.lock().unwrap().extend(original.map(|original| original.body));
         let outcome = self.outcome.clone();
         async move { outcome.expect("it was told to fail") }
     }
@@ -59,9 +68,13 @@ struct Served {
 
 /// Slot 1 is here, and the others are elsewhere.
 fn served(here: Option<Outcome>, elsewhere: Outcome) -> Served {
-    let kept = Arc::new(Kept { posts: Mutex::default(), outcome: here });
+    served_with(here, elsewhere, Reading::default())
+}
+
+fn served_with(here: Option<Outcome>, elsewhere: Outcome, reading: Reading) -> Served {
+    let kept = Arc::new(Kept { posts: Mutex::default(), originals: Mutex::default(), outcome: here });
     let others = Arc::new(Others { posts: Mutex::default(), outcome: elsewhere });
-    let reading = Arc::<Reading>::default();
+    let reading = Arc::new(reading);
     let slots = Slots::several(Resources::new(SLOTS, reading.clone()), Some(others.clone()));
     slots.set(1, Some(kept.clone()));
     let (budget, metrics) = (Budget::new(64 << 20), Arc::new(Metrics::new().unwrap()));
@@ -71,7 +84,11 @@ fn served(here: Option<Outcome>, elsewhere: Outcome) -> Served {
 
 impl Served {
     async fn post(&self, encoding: Encoding, body: Bytes) -> Outcome {
-        let head = Head { sender: "A".into(), encoding, packing: Packing::Plain };
+        self.post_as("A".into(), encoding, body).await
+    }
+
+    async fn post_as(&self, sender: Poster, encoding: Encoding, body: Bytes) -> Outcome {
+        let head = Head { sender, encoding, packing: Packing::Plain };
         let said = self.intake.put(head, body, self.budget.hold()).await;
         assert_eq!(self.budget.used(), 0);
         said
@@ -79,6 +96,10 @@ impl Served {
 
     fn kept(&self) -> Vec<(String, Bytes)> {
         std::mem::take(&mut *self.kept.posts.lock().unwrap())
+    }
+
+    fn originals(&self) -> Vec<Bytes> {
+        std::mem::take(&mut *self.kept.originals.lock().unwrap())
     }
 
     fn others(&self) -> Vec<(u16, String, Bytes)> {
@@ -90,10 +111,15 @@ fn attributes(name: &str) -> String {
     format!(r#"[{{"key":"id","value":{{"stringValue":"{name}"}}}}]"#)
 }
 
+/// What a resource of a slot is called.
+fn name_of(slot: u16) -> String {
+    let mut names = (0..).map(|number| number.to_string());
+    names.find(|name| slot_of(&attributes(name), SLOTS) == slot).unwrap()
+}
+
 /// The element of a resource that has a slot, with so many points.
 fn element(slot: u16, points: usize) -> String {
-    let name = (0..).map(|number| number.to_string());
-    let name = name.clone().find(|name| slot_of(&attributes(name), SLOTS) == slot).unwrap();
+    let name = name_of(slot);
     let point = r#"{"asInt":"1","startTimeUnixNano":"1","timeUnixNano":"2"}"#;
     format!(
         r#"{{"resource":{{"attributes":{}}},"scopeMetrics":[{{"scope":{{"name":"","version":"","attributes":[]}},"metrics":[{{"name":"m","unit":"","sum":{{"aggregationTemporality":1,"isMonotonic":false,"dataPoints":[{}]}}}}]}}]}}"#,
@@ -218,6 +244,44 @@ impl Taker for WithoutRoom {
     async fn post(self: &Arc<Self>, _: &str, _: Request, _: Option<Original>) -> Outcome {
         panic!("it was not read")
     }
+}
+
+/// The slot here, another instance, and what is handed on: none of them sees what the body says of its sender.
+#[tokio::test]
+async fn whoever_gets_a_part_of_a_post_gets_the_name_that_its_sender_proves() {
+    let reading = Reading { sender_attribute: Some("id".into()), ..Reading::default() };
+    let body = request(&[element(0, 1), element(1, 1), element(2, 1)]);
+    for (slot, is_here) in [(1, true), (2, false)] {
+        let served = served_with(Some(Outcome::taken(0)), Outcome::taken(0), reading.clone());
+        let own = name_of(slot);
+        for (encoding, body) in [(Encoding::Json, body.clone()), (Encoding::Protobuf, in_protobuf(&body))] {
+            let proved = Sender { name: own.clone(), others: Vec::new() };
+            let sender = Poster { name: "B".into(), proved: Some(Arc::new(proved)) };
+            assert_eq!(served.post_as(sender, encoding, body).await, Outcome::taken(0));
+            let kept = served.kept().into_iter().map(|(sender, text)| (sender, Encoding::Json, text));
+            let originals = served.originals().into_iter().map(|body| ("B".into(), encoding, body));
+            let others = served.others();
+            assert!(others.iter().all(|(of, _, _)| *of == slot));
+            let others = others.into_iter().map(|(_, sender, body)| (sender, encoding, body));
+            let all: Vec<(String, Encoding, Bytes)> = kept.chain(originals).chain(others).collect();
+            assert_eq!(all.len(), if is_here { 2 } else { 1 });
+            for (sender, encoding, body) in all {
+                let text = otlp::prepare(encoding, body, &Reading::default()).unwrap().body;
+                let text = String::from_utf8(text.to_vec()).unwrap();
+                assert_eq!((sender.as_str(), text.matches(&attributes(&own)).count()), ("B", 3), "{text}");
+            }
+        }
+    }
+}
+
+/// Of whom nothing is proved, as no address lets in where the option is given.
+#[tokio::test]
+async fn who_proves_nothing_is_refused_where_its_series_are_to_be_its_own() {
+    let reading = Reading { sender_attribute: Some("id".into()), ..Reading::default() };
+    let served = served_with(Some(Outcome::taken(0)), Outcome::taken(0), reading);
+    let said = served.post(Encoding::Json, request(&[element(1, 1)])).await;
+    assert_eq!((said.status(), said.reason()), (400, Some(Reason::NoSender)));
+    assert!(served.kept().is_empty() && served.others().is_empty());
 }
 
 /// It is not the body that is too long.
