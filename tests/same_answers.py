@@ -311,8 +311,8 @@ class Run:
             self.post(self.last[sender], sender)
 
     def order(self) -> None:
-        """A quarantine or its end, which may be refused."""
-        path = f"/{self.chance.choice(['quarantine'] + ['lift'] * 8)}/{self.chance.choice(SENDERS)}"
+        """A quarantine or its end, which may be refused; of who has posted: of others the service says that nothing is known."""
+        path = f"/{self.chance.choice(['quarantine'] + ['lift'] * 8)}/{self.chance.choice(sorted(self.last) or SENDERS[:1])}"
         found = {name: ask(party.orders, "POST", path) for name, party in self.parties().items()}
         if len({status for status, _ in found.values()}) > 1:
             self.wrong.append((path, found))

@@ -75,10 +75,14 @@ pub fn sender(text: &str) -> Result<String, String> {
     Err("a sender's name is 1 to 64 of A-Z a-z 0-9 . _ -".to_string())
 }
 
-/// Gives an order.
+/// Gives an order, and says what there is to say of it.
 pub fn order(at: &Address, path: &str) -> Result<Vec<u8>> {
-    client::ask(at, Method::POST, path)?;
-    Ok(line("done"))
+    let body = client::ask(at, Method::POST, path)?;
+    let read: serde_json::Value = serde_json::from_slice(&body).unwrap_or_default();
+    Ok(match read["message"].as_str() {
+        Some(message) => line(format_args!("done: {message}")),
+        None => line("done"),
+    })
 }
 
 /// Gives an order that flushes, and says what came of it.

@@ -3,6 +3,7 @@
 use super::reach::{Answer, Command};
 use super::{reply, Desk, Unit, TEXT};
 use crate::otlp::Reason;
+use crate::slot::is_sender;
 use crate::work::blocking;
 use hyper::{Body, Response};
 use serde_json::json;
@@ -34,7 +35,10 @@ impl Desk {
     /// Has each slot do what is asked, wherever it is.
     pub(super) async fn carry_out(self: &Arc<Self>, who: &str, command: &Command) -> Answer {
         match self.in_all_slots(who, command).await.all() {
-            Ok(answers) => together(&answers),
+            Ok(answers) => match command {
+                Command::Quarantine(sender) | Command::Lift(sender) => of_sender(sender, command, answers),
+                Command::Flush | Command::Find(_) => together(&answers),
+            },
             Err(not_all) => not_all,
         }
     }
@@ -62,6 +66,23 @@ async fn report_of(unit: Arc<Unit>) -> Result<String, Answer> {
         Ok(report) => Ok(String::from_utf8_lossy(&report).into_owned()),
         Err(refused) => Err(Answer::told(refused.status(), &refused.to_string())),
     }
+}
+
+/// Of an order about a sender: slots that know nothing of it leave the answer to those that do. If none does, that is said.
+fn of_sender(sender: &str, command: &Command, mut all: Vec<(u16, Answer)>) -> Answer {
+    let has_failed = |(_, answer): &(u16, Answer)| answer.status >= 500;
+    if all.iter().any(has_failed) || !is_sender(sender) {
+        return together(&all);
+    }
+    all.retain(|(_, answer)| !answer.knows_nothing());
+    if !all.is_empty() {
+        return together(&all);
+    }
+    let what = match command {
+        Command::Lift(_) => "it is not quarantined",
+        _ => "its posts will be refused",
+    };
+    Answer::told(200, &format!("nothing of {sender} is known yet: {what}"))
 }
 
 /// One answer: what one slot could not do is not done, and what another had done before is.
@@ -109,5 +130,28 @@ mod tests {
         let not = (400, r#"{"message":"not quarantined"}"#);
         assert_eq!(of(&[not, taken]).0, 200);
         assert_eq!(of(&[not, not]), (400, not.1.to_string()));
+    }
+
+    /// Else an operator who has the name wrong would think that it is done, or one who is early that it can't be.
+    #[test]
+    fn an_order_about_a_sender_of_whom_nothing_is_known_is_done_and_said_so() {
+        let of = |command: fn(String) -> Command, answers: &[(u16, &str)]| {
+            let all = (0..).zip(answers);
+            let all = all.map(|(slot, (status, body))| (slot, Answer::new(*status, *body))).collect();
+            let told = of_sender("A", &command("A".into()), all);
+            (told.status, told.message())
+        };
+        let (done, not) = ((200, "{}"), (400, r#"{"message":"not quarantined"}"#));
+        let (new, none) =
+            ((200, r#"{"known":false}"#), (400, r#"{"known":false,"message":"not quarantined"}"#));
+        let nothing = |what: &str| (200, format!("nothing of A is known yet: {what}"));
+        assert_eq!(of(Command::Quarantine, &[new, new]), nothing("its posts will be refused"));
+        assert_eq!(of(Command::Lift, &[none, none]), nothing("it is not quarantined"));
+        // Somewhere it is known.
+        assert_eq!(of(Command::Quarantine, &[new, done]), (200, "{}".into()));
+        assert_eq!(of(Command::Lift, &[none, not]), (400, "not quarantined".into()));
+        assert_eq!(of(Command::Lift, &[none, done]), (200, "{}".into()));
+        let no_memory = (503, r#"{"known":false,"message":"no memory"}"#);
+        assert_eq!(of(Command::Quarantine, &[new, no_memory]).0, 503);
     }
 }

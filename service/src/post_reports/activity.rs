@@ -78,6 +78,11 @@ impl SenderActivity {
         last.into_iter().map(|(name, of)| (name.clone(), of.clone())).collect()
     }
 
+    /// Whether a sender has posted.
+    pub fn has(&self, sender: &str) -> bool {
+        locked(&self.0).contains_key(sender)
+    }
+
     /// How many senders are known.
     pub fn count(&self) -> usize {
         locked(&self.0).len()

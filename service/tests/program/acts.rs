@@ -1,6 +1,6 @@
 //! What operators do is recorded in the folder and in the log.
 
-use crate::support::Place;
+use crate::support::{points, Place};
 use std::os::unix::fs::MetadataExt;
 
 /// The name of who runs this test, as the machine knows it.
@@ -15,11 +15,13 @@ fn own_name() -> String {
 fn who_did_what_and_what_came_of_it() {
     let place = Place::new();
     let service = place.serve();
+    assert_eq!(service.post("A", &points(&["a"], 100, 1)).unwrap().0, 200);
     for (path, status) in [
         ("/flush", 200),
         ("/quarantine/A", 200),
         ("/lift/A", 200),
-        ("/lift/B", 400),
+        ("/lift/A", 400),
+        ("/lift/B", 200),
         ("/dead/0-a-1/drop", 404),
         ("/dead/0-a-1/resend", 404),
     ] {
@@ -32,10 +34,11 @@ fn who_did_what_and_what_came_of_it() {
     let mut wanted = Vec::new();
     let no_such =
         "404: no such request: it was never put aside, or is gone, taken by the sink or thrown away";
-    let told: [[serde_json::Value; 3]; 5] = [
+    let told: [[serde_json::Value; 3]; 6] = [
         ["quarantine".into(), "A".into(), "done".into()],
         ["lift".into(), "A".into(), "done".into()],
-        ["lift".into(), "B".into(), "400: not quarantined".into()],
+        ["lift".into(), "A".into(), "400: not quarantined".into()],
+        ["lift".into(), "B".into(), "done: nothing of B is known yet: it is not quarantined".into()],
         ["dead drop".into(), "0-a-1".into(), no_such.into()],
         ["dead resend".into(), "0-a-1".into(), no_such.into()],
     ];

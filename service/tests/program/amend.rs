@@ -65,6 +65,10 @@ fn a_series_is_put_back_and_what_the_sink_has_of_it_is_told() {
     assert_eq!(service.post("A", &points(&["a"], begun + 10, 2)).unwrap().0, 200);
     let said = service.said(&["forget", "b"]);
     assert!(said.contains("1 series is forgotten"), "{said}");
+    let (code, said) = service.ended_by(&["forget", "b{host=x}"]);
+    let wanted =
+        "done: no series is named b{host=x}: nothing of it is known yet, or it is forgotten already\n";
+    assert_eq!((code, said.as_str()), (Some(0), wanted));
     // It ended ahead, and ends at the sink when it was forgotten.
     assert_eq!(service.post("B", &points(&["b"], now(), 1)).unwrap().0, 200);
     service.drain();
@@ -76,6 +80,7 @@ fn a_series_is_put_back_and_what_the_sink_has_of_it_is_told() {
         "repair a to 2100-01-01 00:00:00",
         "repair a to 2026-01-01 00:00:00",
         "forget b",
+        "forget b{host=x}",
     ];
     assert_eq!(acts(&place), wanted);
     assert_eq!(service.end(), Some(0));

@@ -36,17 +36,21 @@ impl Desk {
     }
 
     async fn amended(self: &Arc<Self>, who: String, sought: Sought) -> Result<Answer, Answer> {
-        if self.totals.is_none() && !sought.anyway {
-            let what = "can't tell what it has already, so what is posted again would count twice";
-            let what = format!("the sink {} {what}", self.sink.name());
-            return Err(Answer::told(409, &format!("{what}; give --anyway where nobody posts it again")));
-        }
         // What was posted so far is known then.
         let flushed = self.carry_out(&who, &Command::Flush).await;
         if flushed.status != 200 {
             return Err(flushed);
         }
         let found = self.in_all_slots(&who, &Command::Find(sought.clone())).await.all()?;
+        if sought.to.is_none() && InAllSlots::read(&found)?.has_none() {
+            let nothing = "nothing of it is known yet, or it is forgotten already";
+            return Ok(Answer::told(200, &format!("no series is named {}: {nothing}", sought.written)));
+        }
+        if self.totals.is_none() && !sought.anyway {
+            let what = "can't tell what it has already, so what is posted again would count twice";
+            let what = format!("the sink {} {what}", self.sink.name());
+            return Err(Answer::told(409, &format!("{what}; give --anyway where nobody posts it again")));
+        }
         let meant_in = |found: &[(u16, Answer)], sought: &Sought| {
             InAllSlots::read(found)?.meant(sought).map_err(|why| Answer::told(409, &why))
         };

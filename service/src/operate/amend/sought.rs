@@ -173,6 +173,11 @@ impl InAllSlots {
         all
     }
 
+    /// Whether no slot has one that is named so.
+    pub fn has_none(&self) -> bool {
+        self.count(|of| of.count) == 0
+    }
+
     /// The series that are meant, or why there are none.
     pub fn meant(&self, sought: &Sought) -> Result<Meant, String> {
         if let Some(to) = sought.to.filter(|to| *to > sought.now) {

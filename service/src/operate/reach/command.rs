@@ -5,9 +5,13 @@ use crate::keeper::{Done, Order};
 use crate::operate::amend::Sought;
 use crate::operate::{Asked, Unit};
 use crate::otlp::{Encoding, Outcome};
+use crate::work::blocking;
 use serde::{Deserialize, Serialize};
 use serde_json::{json, Value};
 use std::sync::Arc;
+
+/// What a slot says of a sender that it knows nothing of.
+const KNOWN: &str = "known";
 
 /// What is asked of all slots, wherever they are.
 #[derive(Clone, Debug, PartialEq, Eq, Serialize, Deserialize)]
@@ -48,6 +52,20 @@ impl Answer {
     /// As it is in the body; all of that where there is none.
     pub fn message(&self) -> String {
         self.says()["message"].as_str().unwrap_or(&self.body).to_string()
+    }
+
+    /// The same of an order about a sender, of whom a slot may know nothing.
+    fn of_sender(mut self, is_known: bool) -> Answer {
+        if let (false, Value::Object(mut says)) = (is_known, self.says()) {
+            says.insert(KNOWN.into(), false.into());
+            self.body = Value::Object(says).to_string();
+        }
+        self
+    }
+
+    /// Whether a slot knows nothing of the sender that an order is about.
+    pub fn knows_nothing(&self) -> bool {
+        self.says()[KNOWN] == false
     }
 
     /// Whether all was done that was asked for: what a sink has not taken of a letter was not.
@@ -101,10 +119,26 @@ impl Desk {
                 unit.hurry();
                 flushed
             }
-            Command::Quarantine(sender) => ordered(&unit, Order::Quarantine(sender)).await,
-            Command::Lift(sender) => ordered(&unit, Order::Lift(sender)).await,
+            Command::Quarantine(sender) => {
+                let is_known = self.knows(&unit, &sender).await;
+                ordered(&unit, Order::Quarantine(sender)).await.map(|answer| answer.of_sender(is_known))
+            }
+            Command::Lift(sender) => {
+                let is_known = self.knows(&unit, &sender).await;
+                ordered(&unit, Order::Lift(sender)).await.map(|answer| answer.of_sender(is_known))
+            }
             Command::Find(sought) => Some(sought.found_in(&unit).await),
         }
+    }
+}
+
+impl Desk {
+    /// Whether a sender has posted here since the start, or has series in a slot or is quarantined there.
+    async fn knows(&self, unit: &Arc<Unit>, sender: &str) -> bool {
+        let (outbox, of) = (unit.slot.outbox.clone(), sender.to_string());
+        let in_slot =
+            move || outbox.quarantined().contains(&of) || outbox.series_by_owner().contains_key(&*of);
+        self.activity.has(sender) || blocking(in_slot).await
     }
 }
 

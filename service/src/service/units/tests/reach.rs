@@ -316,7 +316,10 @@ async fn series_are_found_in_all_slots_and_forgotten_by_the_instances_that_have_
     let (status, why) = both.b.ask("POST", "/forget?series=m&anyway").await;
     assert!(status == 409 && why.contains("3 series are named so"), "{status} {why}");
     let (status, why) = both.b.ask("POST", "/forget?series=x&anyway").await;
-    assert!(status == 409 && why.contains("no series is named x"), "{status} {why}");
+    assert!(
+        status == 200 && why.contains("no series is named x: nothing of it is known yet"),
+        "{status} {why}"
+    );
     let process: Json = serde_json::from_str(&attributes(2)).unwrap();
     let process = process[0]["value"]["stringValue"].as_str().unwrap();
     let one = format!("/forget?series=m%7Bservice.instance.id%3D{process}%7D&anyway");
