@@ -1,11 +1,13 @@
-//! `totxegun explain`: what becomes of each point of a request that was captured, and why.
+//! `totxegun explain`: what a request that was captured is answered, and what becomes of each of its points, and why.
 
 use super::reading::OfReading;
 use super::table::Table;
 use super::values::counted;
 use super::{json, Ended, Form};
 use crate::intake::refusal::Refusal;
-use crate::otlp::{self, Attributed, Clock, Encoding, Explained, Reading, Refused, Rounding, SenderNames};
+use crate::otlp::{self, Attributed, Clock, Encoding, Explained, Outcome, Profile, Reading, Refused};
+use crate::otlp::{Rounding, SenderNames};
+use crate::post_reports::of_twice;
 use anyhow::{anyhow, Context};
 use clap::Args;
 use serde::Serialize;
@@ -17,6 +19,10 @@ use std::path::{Path, PathBuf};
 const MOST: u64 = 4 << 20;
 /// One more than the longest message of gRPC has: what is longer is refused, and not read on.
 const MOST_READ: u64 = MOST + 6;
+
+/// What is said of what no body says.
+const UNKNOWN: &str = "unless the running service refuses it for what it alone knows: whose each series is and where it ends, who is \
+                       quarantined, shares and limits\n";
 
 #[derive(Args)]
 pub struct Options {
@@ -46,6 +52,9 @@ struct Explanation {
     named: usize,
     /// Unpacked.
     bytes: usize,
+    /// What the service answers if it refuses none of it for what it alone knows: of HTTP, and its text.
+    status: u16,
+    answer: Option<String>,
     taken: usize,
     foreign: usize,
     rounded: BTreeMap<String, Rounding>,
@@ -94,9 +103,11 @@ fn found(
     let attributed = otlp::with_sender_attributes(names, encoding, body.into(), reading).map_err(refused)?;
     let Attributed { body, proved, instances: named } = attributed;
     let prepared = otlp::prepare(encoding, body, reading).map_err(refused)?;
-    let points = otlp::explained(&prepared.body, reading.profile, clock.window())
-        .context("refused with 400: wrong shape")?;
+    let (body, profile, window) = (&prepared.body, reading.profile, clock.window());
+    let points = otlp::explained(body, profile, window).context("refused with 400: wrong shape")?;
     let foreign = points.iter().filter(|point| point.foreign.is_some()).count();
+    let outcome = otlp::answered(body, profile, window).context("refused with 400: wrong shape")?;
+    let outcome = with_twice(outcome, body, profile).with(&prepared.rounded);
     Ok(Explanation {
         encoding: match encoding {
             Encoding::Json => "JSON",
@@ -108,11 +119,21 @@ fn found(
         proved,
         named,
         bytes,
-        taken: points.len() - foreign,
+        status: outcome.status(),
+        answer: outcome.message(),
+        taken: if outcome.reason().is_some() { 0 } else { points.len() - foreign },
         foreign,
         rounded: prepared.rounded.by_rule.into_iter().collect(),
         points,
     })
+}
+
+/// What a refusal for a point says beside its own words.
+fn with_twice(outcome: Outcome, body: &[u8], profile: Profile) -> Outcome {
+    let Outcome::Refused(rejection) = outcome else { return outcome };
+    let at = rejection.point.and_then(|point| Some((point.place, point.frontier?)));
+    let more = at.and_then(|at| of_twice(body, profile, at));
+    rejection.and(&more.unwrap_or_default()).into()
 }
 
 fn refused(refused: Refused) -> anyhow::Error {
@@ -167,6 +188,12 @@ fn text(found: &Explanation) -> String {
         let resources = counted(found.named as u64, "resource");
         text.push_str(&format!("{resources} without a service.instance.id: the sender's name is given\n"));
     }
+    text.push_str(&format!("answered {}", found.status));
+    match &found.answer {
+        Some(answer) => text.push_str(&format!(": {answer}\n")),
+        None => text.push('\n'),
+    }
+    text.push_str(UNKNOWN);
     for (rule, rounded) in &found.rounded {
         text.push_str(&format!(
             "values rounded by {rule}: {}, by {:.3} together\n",
@@ -178,7 +205,11 @@ fn text(found: &Explanation) -> String {
     }
     let mut table = Table::new(&["", "kind", "metric", "attributes", "why"]);
     for point in &found.points {
-        let said = if point.foreign.is_some() { "foreign" } else { "taken" };
+        let said = match point.foreign {
+            Some(_) => "foreign",
+            None if found.status == 200 => "taken",
+            None => "refused",
+        };
         let why = point.foreign.as_deref().unwrap_or("");
         table.row(&[said, point.kind, &point.metric, &point.attributes, why]);
     }
@@ -204,8 +235,37 @@ mod tests {
         let text = text(&found);
         assert!(text.starts_with("JSON, ") && text.contains("1 point taken, 1 foreign"), "{text}");
         let lines: Vec<&str> = text.lines().collect();
-        assert!(lines[2].starts_with("taken    sum    a       route=/"), "{text}");
-        assert!(lines[3].contains("gauges are not added up"), "{text}");
+        assert_eq!(
+            lines[1],
+            "answered 200: points outside the profile: 1 gauge: see docs/OPERATING.md, \"Senders\""
+        );
+        assert!(lines[2].starts_with("unless the running service refuses it"), "{text}");
+        assert!(lines[4].starts_with("taken    sum    a       route=/"), "{text}");
+        assert!(lines[5].contains("gauges are not added up"), "{text}");
+    }
+
+    /// Of six points, one of which begins before another of its series ends, none is taken.
+    #[test]
+    fn a_body_that_is_refused_whole_has_no_point_taken() {
+        let point = |number: u32| {
+            format!(
+                r#"{{"startTimeUnixNano":"1","timeUnixNano":"9","asInt":"5","attributes":[{{"key":"n","value":{{"intValue":"{number}"}}}}]}}"#
+            )
+        };
+        let of = |points: &[u32]| {
+            let points = points.iter().map(|number| point(*number)).collect::<Vec<_>>().join(",");
+            let sum = format!(r#"{{"aggregationTemporality":1,"dataPoints":[{points}]}}"#);
+            format!(
+                r#"{{"resourceMetrics":[{{"scopeMetrics":[{{"metrics":[{{"name":"a","sum":{sum}}}]}}]}}]}}"#
+            )
+        };
+        let found = plain(of(&[0, 1, 2, 3, 1, 5])).unwrap();
+        let told = text(&found);
+        assert_eq!((found.status, found.taken, found.foreign), (400, 0, 0));
+        assert!(told.contains("0 points taken, 0 foreign\nanswered 400: out of order: point 4, frontier 9: the post has `a`"), "{told}");
+        assert!(told.contains("twice over one time") && told.matches("\nrefused ").count() == 6, "{told}");
+        let found = plain(of(&[0, 1, 2, 3, 4, 5])).unwrap();
+        assert_eq!((found.status, found.taken, text(&found).contains("\nanswered 200\n")), (200, 6, true));
     }
 
     #[test]

@@ -1,12 +1,13 @@
-//! What becomes of each point of a request in the book's form, in words.
+//! What becomes of each point of a request in the book's form, in words, and what the request is answered.
 
 use super::clock::Window;
 use super::json::Value;
 use super::outside::is_passed;
-use super::series::{said, visit_body, Profile, Seen, SeriesKey, What, LOOKED_AT};
-use super::Reason;
+use super::series::{said, visit_body, Profile, Seen, SeriesKey, Temporality, What, LOOKED_AT};
+use super::{Causes, OffClock, Outcome, Reason, RejectedPoint, Rejection};
 use crate::log::cut;
 use serde::Serialize;
+use std::collections::HashMap;
 use std::sync::Arc;
 
 /// How much of an attribute's value is shown.
@@ -50,6 +51,33 @@ pub fn explained(body: &[u8], profile: Profile, window: Window) -> Option<Vec<Ex
         all.push(point);
     })?;
     Some(all)
+}
+
+/// What a body is answered that is posted within the window to a book that has nothing of its series; `None` where the book refuses
+/// its shape. A delta point may not begin before one of its series ends that is ahead of it in the body.
+pub fn answered(body: &[u8], profile: Profile, window: Window) -> Option<Outcome> {
+    let (mut causes, mut off) = (Causes::default(), OffClock::default());
+    let (mut ends, mut place, mut twice) = (HashMap::<Arc<str>, u64>::new(), 0, None);
+    visit_body(body, profile, |seen| {
+        let Ok(temporality) = seen.found else {
+            causes.add(Reason::of_seen(&seen).unwrap_or(Reason::Other), 1);
+            return;
+        };
+        match window.off(seen.end()) {
+            Some(found) => off.count(found),
+            None if temporality == Temporality::Delta => {
+                let before = ends.insert(seen.key.into(), seen.end());
+                let frontier = before.filter(|end| seen.words[0] < *end);
+                twice = twice.or(frontier.map(|_| RejectedPoint { place, frontier }));
+            }
+            None => {}
+        }
+        place += 1;
+    })?;
+    Some(match twice {
+        Some(point) => Rejection::of_point(Reason::OutOfOrder, point).into(),
+        None => Outcome::taken_but(0, off, causes),
+    })
 }
 
 /// The first of its points that are foreign, until `is_enough` says so.

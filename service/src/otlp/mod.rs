@@ -42,7 +42,7 @@ pub(crate) use answers::partial_success;
 pub use causes::Causes;
 pub use clock::{Clock, Off, OffClock, Window};
 pub use combined_outcome::{combined, OfPart};
-pub use explain::{explained, foreign_points, point_at, second_at, taken_points, Explained};
+pub use explain::{answered, explained, foreign_points, point_at, second_at, taken_points, Explained};
 pub use exponential::Bounds;
 pub use finer_units::{Choice, Decided, FinerUnits, Rounded, Rounding, Rule, ShownSeries};
 pub(crate) use messages::{Detail, ExportMetricsServiceResponse, Status};

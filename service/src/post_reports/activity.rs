@@ -27,6 +27,8 @@ pub struct OfSender {
     pub last: u64,
     /// By reason.
     pub refused: BTreeMap<Reason, OfReason>,
+    /// By the reason for which points of it were not taken, the metric of the first of them that the log had last.
+    pub rejected: BTreeMap<Reason, String>,
 }
 
 /// What was refused of a sender for one reason.
@@ -67,6 +69,20 @@ impl SenderActivity {
             of_reason.text = shown(message, TEXT);
         }
         Some(reason)
+    }
+
+    /// Notes the metric of a point of a sender that was not taken, if it is known.
+    pub fn note_rejected(&self, sender: &str, reason: Reason, metric: Option<&str>) {
+        let mut all = locked(&self.0);
+        if !all.contains_key(sender) {
+            make_room(&mut all);
+        }
+        let of = all
+            .entry(sender.to_string())
+            .or_insert_with(|| OfSender { last: seconds(), ..OfSender::default() });
+        if let Some(metric) = metric {
+            of.rejected.insert(reason, shown(metric, TEXT));
+        }
     }
 
     /// Those that posted last, the last one first.

@@ -9,23 +9,23 @@ mod activity;
 mod texts;
 
 pub use activity::{OfReason, OfSender, SenderActivity};
-pub(crate) use texts::SERIES_SHOWN;
+pub(crate) use texts::{of_twice, SERIES_SHOWN};
 
 use crate::intake::{Hears, Taker};
 use crate::log::{shown, OnceAnHour};
 use crate::metrics::Metrics;
 use crate::otlp::series::SeriesKey;
 use crate::otlp::{
-    foreign_points, point_at, Causes, Original, Outcome, Profile, Reason, RejectedPoint, NO_NAME,
+    foreign_points, point_at, Causes, OffClock, Original, Outcome, Profile, Reason, RejectedPoint, NO_NAME,
 };
 use crate::pass::Pass;
 use crate::slot::{is_sender, Request, Slot, Source};
 use crate::work::{locked, Readers};
 use bytes::Bytes;
-use std::collections::HashSet;
+use std::collections::{BTreeMap, HashSet};
 use std::sync::atomic::{AtomicBool, Ordering::Relaxed};
 use std::sync::{Arc, Mutex};
-use texts::{of_late, of_other_writer, of_twice, other_writer, reason};
+use texts::{metric, not_taken, of_late, of_other_writer, other_writer, reason};
 
 /// How many senders, series and refusals are remembered as told.
 const REMEMBERED: usize = 1000;
@@ -62,8 +62,8 @@ pub struct Reporter {
 /// What the log has of each sender, so that it is told once an hour.
 struct Logged {
     foreign: OnceAnHour<String, LoggedOf>,
-    /// Senders whose clock is off.
-    clocks: OnceAnHour<String>,
+    /// By sender and reason: points of requests that are taken.
+    rejected: OnceAnHour<(String, Reason)>,
     series: OnceAnHour<SeriesKey>,
     /// Addresses of who has no name.
     strangers: OnceAnHour<String>,
@@ -75,7 +75,7 @@ impl Default for Logged {
     fn default() -> Logged {
         Logged {
             foreign: OnceAnHour::new(REMEMBERED),
-            clocks: OnceAnHour::new(REMEMBERED),
+            rejected: OnceAnHour::new(REMEMBERED),
             series: OnceAnHour::new(REMEMBERED),
             strangers: OnceAnHour::new(STRANGERS),
             refusals: OnceAnHour::new(REMEMBERED),
@@ -184,6 +184,7 @@ impl Reporter {
                 let causes = causes.and(&known);
                 let all = causes.clone().and(&Causes::of_clocks(off));
                 self.metrics.rejected(sender, &all, &self.options.expected);
+                self.tell_rejected(sender, source, &all, off).await;
                 Outcome::taken_but(0, off, causes)
             }
             Outcome::Refused(rejection) => match rejection.point {
@@ -246,17 +247,34 @@ impl Reporter {
         }
     }
 
-    /// A sender whose clock is off is in the log, once an hour.
-    fn note_clock(&self, sender: &str, outcome: &Outcome) {
-        let Outcome::Taken { off, .. } = outcome else {
-            return;
+    /// For each reason, points of a sender that are not taken are in the log once an hour, with the first metric among them.
+    async fn tell_rejected(&self, sender: &str, source: &Source, all: &Causes, off: OffClock) {
+        let is_due = |reason: &Reason| {
+            let is_expected = self.options.expected.contains(reason);
+            !is_expected && locked(&self.logged).rejected.is_due(&(sender.to_string(), *reason))
         };
-        if off.points() == 0 {
+        let due: Vec<(Reason, u64)> = all.iter().filter(|(reason, _)| is_due(reason)).collect();
+        if due.is_empty() {
             return;
         }
-        if locked(&self.logged).clocks.is_due(&sender.to_string()) {
-            let points = off.points();
-            tracing::warn!(sender, points, "points of {sender} are not taken: {off}");
+        let (profile, of_reasons) = (self.options.profile, due.len());
+        let first_of = move |body: &[u8]| {
+            let mut first = BTreeMap::new();
+            foreign_points(body, profile, |point| {
+                if let Some(reason) = point.cause {
+                    first.entry(reason).or_insert(point);
+                }
+                first.len() == of_reasons
+            });
+            first
+        };
+        let first = self.read(source, first_of).await.unwrap_or_default();
+        for (reason, points) in due {
+            let first = first.get(&reason);
+            let told = not_taken(reason, points, first, off);
+            self.activity.note_rejected(sender, reason, first.map(|point| &*point.metric));
+            let (reason, metric) = (reason.label(), first.map(metric));
+            tracing::warn!(sender, reason, points, metric, "points of {sender} are not taken: {told}");
         }
     }
 
@@ -329,7 +347,6 @@ impl<T: Taker> Taker for Reported<T> {
         if let Outcome::Taken { rejected: 0, .. } = outcome {
             return outcome; // as nearly all are: nothing is to be said
         }
-        reporter.note_clock(sender, &outcome);
         let report = reporter.report(sender, &outcome);
         let outcome = reporter.in_words(sender, &source, original, outcome).await;
         let report = report.filter(|_| outcome != Outcome::taken(0));

@@ -169,7 +169,7 @@ async fn a_sender_whose_clock_is_off_is_told_by_how_much() {
     let wanted = "points outside the profile: 3 gauges, 1 point ahead of time: its clock is ";
     assert!(answer.starts_with(wanted) && answer.contains("d ahead: see"), "{answer}");
     answered(&reported, GAUGES).await;
-    assert_eq!(locked(&reported.reporter.logged).clocks.count(), 1, "it is in the log once");
+    assert_eq!(locked(&reported.reporter.logged).rejected.count(), 2, "each reason is in the log once");
     let page = String::from_utf8(reported.reporter.metrics.page()).unwrap();
     let line = "totxegun_rejected_points_total{reason=\"clock_ahead\",sender=\"a\"} 2";
     assert!(page.lines().any(|found| found == line), "{page}");
@@ -283,11 +283,12 @@ fn who_is_refused_behind_a_thousand_others_is_told_of() {
         let clock = Clock { most_ahead: Some(Duration::from_secs(600)), most_behind: None };
         let mut off = OffClock::default();
         off.count(clock.window().off(u64::MAX).unwrap());
-        Outcome::taken_but(1, off, Causes::default())
+        off
     };
+    let (runtime, source) = (runtime(), Source::Text(body("")));
     let tell = |sender: &str| {
         reporter.answered(sender, &late);
-        reporter.note_clock(sender, &off);
+        runtime.block_on(reporter.tell_rejected(sender, &source, &Causes::of_clocks(off), off));
     };
     for number in 0..3 * REMEMBERED {
         tell(&format!("made-up-{number}"));
@@ -305,6 +306,40 @@ fn who_is_refused_behind_a_thousand_others_is_told_of() {
         "{told:?}"
     );
     assert!((2..=REMEMBERED).contains(&reporter.activity.count()));
+}
+
+fn runtime() -> tokio::runtime::Runtime {
+    tokio::runtime::Builder::new_current_thread().build().unwrap()
+}
+
+/// Also where nobody asked for it: else money that is counted in doubles is lost, and no line says so.
+#[test]
+fn each_reason_for_which_points_are_not_taken_is_told_of_once_with_a_metric() {
+    use tracing_subscriber::prelude::*;
+    let lines = Lines::default();
+    let _here = tracing_subscriber::registry().with(lines.clone()).set_default();
+    let double = r#"{"name":"EUR","sum":{"aggregationTemporality":1,"isMonotonic":true,"dataPoints":[{"startTimeUnixNano":"1","timeUnixNano":"2","asDouble":0.5}]}}"#;
+    let turned: Causes = [(Reason::WentDown, 2)].into_iter().collect();
+    let options = ReportOptions { expected: vec![Reason::Summary], ..ReportOptions::default() };
+    let reported = reported(Outcome::taken_but(5, OffClock::default(), turned), None, options);
+    let summary = r#"{"name":"s","summary":{"dataPoints":[{}]}}"#;
+    for _ in 0..3 {
+        runtime().block_on(answered(&reported, &[GAUGES, double, summary].join(",")));
+    }
+    let told = locked(&lines.0).clone();
+    let begins = [
+        "points of a are not taken: 3 gauges, the first of gauge `g`: gauges are not added up",
+        "points of a are not taken: 1 double, the first of sum `EUR`: ",
+        "points of a are not taken: 2 cumulative points that went down: a counter may not go down",
+    ];
+    assert_eq!(told.len(), begins.len(), "{told:?}");
+    for begin in begins {
+        assert!(told.iter().any(|line| line.starts_with(begin)), "{begin} in {told:?}");
+    }
+    let of_a = &reported.reporter.activity.last(9)[0].1;
+    let metric = |reason| of_a.rejected.get(&reason).map(String::as_str);
+    assert_eq!((metric(Reason::Double), metric(Reason::Gauge)), (Some("EUR"), Some("g")));
+    assert_eq!(metric(Reason::WentDown), None, "no body says which it is");
 }
 
 /// Else they would fill the log, and hide the refusals of senders.

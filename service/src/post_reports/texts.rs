@@ -2,7 +2,7 @@
 
 use crate::log::{all_shown, cut, of_nanoseconds, shown};
 use crate::otlp::series::SeriesKey;
-use crate::otlp::{point_at, second_at, Explained, Profile};
+use crate::otlp::{point_at, second_at, Causes, Explained, OffClock, Profile, Reason};
 
 /// How much of a metric's name is told, and of all that identifies a series, in characters.
 const NAME_SHOWN: usize = 100;
@@ -17,6 +17,21 @@ pub(super) fn reason(point: &Explained) -> String {
     all_shown(&format!("{} `{name}`: {why}", point.kind))
 }
 
+/// That so many points are not taken for one reason: one short line too.
+pub(super) fn not_taken(reason: Reason, points: u64, first: Option<&Explained>, off: OffClock) -> String {
+    let counted = Causes::from_iter([(reason, points)]);
+    match (reason, first) {
+        (Reason::ClockAhead | Reason::ClockBehind, _) => format!("{counted}: {off}"),
+        (_, Some(first)) => format!("{counted}, the first of {}", self::reason(first)),
+        (_, None) => format!("{counted}: {}", reason.advice()),
+    }
+}
+
+/// The name of a point's metric.
+pub(super) fn metric(point: &Explained) -> String {
+    shown(&point.metric, NAME_SHOWN)
+}
+
 /// What the answer to a post out of order says beside them: when that was, and what it means.
 pub(super) fn of_late(frontier: u64) -> String {
     let time = of_nanoseconds(frontier);
@@ -27,7 +42,7 @@ pub(super) fn of_late(frontier: u64) -> String {
 }
 
 /// The same where the post itself has its series up to there: nothing of it was taken, nor will be.
-pub(super) fn of_twice(body: &[u8], profile: Profile, (place, frontier): (u64, u64)) -> Option<String> {
+pub(crate) fn of_twice(body: &[u8], profile: Profile, (place, frontier): (u64, u64)) -> Option<String> {
     let named = named(&second_at(body, profile, place, frontier)?);
     Some(format!(
         ": the post has {named} twice over one time: give each process its own service.instance.id, each instrument its own name"

@@ -64,7 +64,9 @@ mod tests {
     fn what_others_wrote_is_no_markup_of_the_page() {
         let hostile = "<script>alert(1)</script>";
         let slot = SlotStatus { trouble: Some(hostile.into()), tries: 1, ..SlotStatus::default() };
-        let rejected = RejectedStatus { sender: hostile.into(), reason: Reason::Gauge, points: 1_234 };
+        let metric = Some(hostile.into());
+        let rejected =
+            RejectedStatus { sender: hostile.into(), reason: Reason::Gauge, points: 1_234, metric };
         let status = Status {
             unavailable: Some(hostile.into()),
             sink: hostile.into(),

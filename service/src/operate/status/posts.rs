@@ -6,6 +6,7 @@ use crate::operate::Desk;
 use crate::otlp::Reason;
 use crate::post_reports::OfSender;
 use serde::{Deserialize, Serialize};
+use std::collections::HashMap;
 
 /// How many there are of a kind at most.
 const MOST: usize = 50;
@@ -36,6 +37,9 @@ pub struct RejectedStatus {
     pub sender: String,
     pub reason: Reason,
     pub points: u64,
+    /// Of one of these points, if it is known.
+    #[serde(default, skip_serializing_if = "Option::is_none")]
+    pub metric: Option<String>,
 }
 
 #[derive(Debug, Serialize, Deserialize)]
@@ -69,7 +73,7 @@ impl Desk {
         Status {
             rates: self.pulse.rates(),
             refused: refused(&senders, now),
-            rejected: rejected(self.metrics.all_rejected()),
+            rejected: rejected(self.metrics.all_rejected(), &senders),
             senders: First::of(
                 senders.iter().map(|(sender, of)| SenderStatus::of(sender, of, now)).collect(),
             ),
@@ -104,8 +108,12 @@ fn refused(senders: &[(String, OfSender)], now: u64) -> First<RefusedStatus> {
     First::of(all)
 }
 
-fn rejected(all: Vec<(String, Reason, u64)>) -> First<RejectedStatus> {
-    let of = |(sender, reason, points)| RejectedStatus { sender, reason, points };
+fn rejected(all: Vec<(String, Reason, u64)>, senders: &[(String, OfSender)]) -> First<RejectedStatus> {
+    let senders: HashMap<&str, &OfSender> = senders.iter().map(|(sender, of)| (&**sender, of)).collect();
+    let of = |(sender, reason, points): (String, Reason, u64)| {
+        let metric = senders.get(&*sender).and_then(|of| of.rejected.get(&reason)).cloned();
+        RejectedStatus { sender, reason, points, metric }
+    };
     let mut all: Vec<RejectedStatus> = all.into_iter().map(of).collect();
     all.sort_by_key(|of| std::cmp::Reverse(of.points));
     First::of(all)
@@ -120,7 +128,10 @@ mod tests {
     fn what_was_refused_last_comes_first_and_many_are_counted() {
         let of = |last, posts| OfReason { posts, last, text: "why".into() };
         let refused_of = [(Reason::Quarantined, of(5, 2)), (Reason::Full, of(8, 3))].into();
-        let mut senders = vec![("A".to_string(), OfSender { taken: 1, last: 8, refused: refused_of })];
+        let mut senders = vec![(
+            "A".to_string(),
+            OfSender { taken: 1, last: 8, refused: refused_of, ..OfSender::default() },
+        )];
         let shown = SenderStatus::of("A", &senders[0].1, 10);
         assert_eq!((shown.last_seconds, shown.taken, shown.refused), (2, 1, 5));
         let first = |senders: &[(String, OfSender)]| refused(senders, 10).first[0].reason;
@@ -130,5 +141,14 @@ mod tests {
         assert_eq!(first(&senders), Reason::BadSender);
         let all = refused(&senders, 10);
         assert_eq!((all.first.len(), all.more), (MOST, 2));
+    }
+
+    #[test]
+    fn points_that_were_not_taken_have_a_metric_s_name() {
+        let of_a = OfSender { rejected: [(Reason::Double, "EUR".into())].into(), ..OfSender::default() };
+        let points = vec![("A".into(), Reason::Double, 83), ("B".into(), Reason::Double, 1)];
+        let all = rejected(points, &[("A".into(), of_a)]);
+        let metrics: Vec<_> = all.first.iter().map(|of| (of.points, of.metric.as_deref())).collect();
+        assert_eq!(metrics, [(83, Some("EUR")), (1, None)]);
     }
 }

@@ -252,9 +252,11 @@ fn refused(status: &Status) -> Section {
 }
 
 fn rejected(status: &Status) -> Section {
-    Section::of("Points not taken", &["sender", "reason", "points#", "what to do"], &status.rejected, |of| {
+    let heads = &["sender", "reason", "points#", "one metric", "what to do"];
+    Section::of("Points not taken", heads, &status.rejected, |of| {
         let (reason, advice) = (of.reason.label().to_string(), of.reason.advice().to_string());
-        vec![sender_shown(&of.sender), reason, grouped(of.points), advice]
+        let metric = of.metric.clone().unwrap_or_default();
+        vec![sender_shown(&of.sender), reason, grouped(of.points), metric, advice]
     })
 }
 
