@@ -21,7 +21,9 @@ struct Gate {
 struct State {
     /// So many parts pass yet; none: all.
     left: Option<u64>,
-    /// These connections were cut, and what they hold waits until it goes on.
+    /// The connection on which a part with this text comes next is silent from then on.
+    text: Option<&'static str>,
+    /// These connections were cut, or are silent, and what they hold waits until it goes on.
     cut: BTreeSet<usize>,
     clients: Vec<TcpStream>,
     /// Of each part that is held, on which connection.
@@ -40,8 +42,12 @@ impl State {
 }
 
 impl Gate {
-    fn pass(&self, connection: usize) {
+    fn pass(&self, connection: usize, part: &[u8]) {
         let mut state = self.state.lock().unwrap();
+        let has = |text: &&str| part.windows(text.len()).any(|some| some == text.as_bytes());
+        if state.text.take_if(|text| has(&&**text)).is_some() {
+            state.cut.insert(connection);
+        }
         state.held.push(connection);
         self.changed.notify_all();
         while state.left == Some(0) || state.cut.contains(&connection) {
@@ -87,6 +93,15 @@ impl Proxy {
         self.change(|state| state.left = Some(parts));
     }
 
+    pub fn silence_at(&self, text: &'static str) {
+        self.change(|state| state.text = Some(text));
+    }
+
+    /// How many there were.
+    pub fn connections(&self) -> usize {
+        self.gate.state.lock().unwrap().clients.len()
+    }
+
     pub fn holds(&self) -> bool {
         let state = self.gate.state.lock().unwrap();
         !state.held.is_empty() && (state.left == Some(0) || !state.cut.is_empty())
@@ -124,7 +139,7 @@ impl Proxy {
 fn pass(mut from: TcpStream, mut into: TcpStream, gate: &Gate, connection: usize) {
     let mut bytes = vec![0; 1 << 16];
     while let Ok(count @ 1..) = from.read(&mut bytes) {
-        gate.pass(connection);
+        gate.pass(connection, &bytes[..count]);
         if into.write_all(&bytes[..count]).is_err() {
             break;
         }

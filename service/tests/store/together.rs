@@ -2,7 +2,7 @@
 
 use super::proxy::Proxy;
 use super::server::{wait_until, Server};
-use super::work::{contents, take, Chance};
+use super::work::{contents, take, wait, Chance};
 use super::{make, open, STRAYS};
 use std::path::Path;
 use std::sync::Arc;
@@ -111,12 +111,8 @@ fn a_slot_whose_row_is_locked_keeps_no_other_slot_waiting() {
     assert_eq!(take(&store, SLOTS[0]).1[Path::new("journal/1")], b"ab");
 }
 
-#[test]
-fn a_long_write_holds_up_no_short_ones() {
-    let Some(server) = Server::start("") else { return };
-    make(&server.address());
-    let store = open(&server.address(), Copies::One);
-    let owners = SLOTS.map(|slot| Owner::of(&store, slot));
+/// A long one, which takes the server five seconds.
+fn slow_write(server: &Server, owner: &Owner) -> JoinHandle<()> {
     server.ask(
         "create function slow() returns trigger language plpgsql as $$ begin
             if new.length > 100000 then perform pg_sleep(5); end if; return new; end $$",
@@ -126,17 +122,66 @@ fn a_long_write_holds_up_no_short_ones() {
     );
     let mut chance = Chance(3);
     let long: Vec<u8> = (0..300_000).map(|_| chance.below(256) as u8).collect();
-    let (drive, file) = (owners[0].drive.clone(), owners[0].file);
+    let owner = owner.clone();
     let writing = thread::spawn(move || {
-        drive.write_at(file, &long, 1).unwrap();
-        drive.sync().unwrap();
+        owner.drive.write_at(owner.file, &long, 1).unwrap();
+        owner.drive.sync().unwrap();
     });
     wait_until("the long one is on its way", || server.ask(&waiting("PgSleep")) == "1");
+    writing
+}
+
+#[test]
+fn a_long_write_holds_up_no_short_ones() {
+    let Some(server) = Server::start("") else { return };
+    make(&server.address());
+    let store = open(&server.address(), Copies::One);
+    let owners = SLOTS.map(|slot| Owner::of(&store, slot));
+    let writing = slow_write(&server, &owners[0]);
     let begun = Instant::now();
     owners[1..].iter().for_each(|owner| owner.write("b").unwrap());
     assert!(begun.elapsed() < 4 * LONG, "it took {:?}", begun.elapsed());
     assert!(!writing.is_finished());
     writing.join().unwrap();
+}
+
+/// Files that go, and what is repeated, are long too.
+#[test]
+fn a_long_write_holds_up_long_ones_of_few_other_slots() {
+    let Some(server) = Server::start("") else { return };
+    make(&server.address());
+    let store = open(&server.address(), Copies::One);
+    let owners = [0, 1, 2, 3].map(|slot| Owner::of(&store, slot));
+    let writing = slow_write(&server, &owners[0]);
+    let begun = Instant::now();
+    thread::scope(|scope| owners[1..].iter().for_each(|owner| drop(scope.spawn(|| owner.replace_file()))));
+    assert!(begun.elapsed() < 4 * LONG, "it took {:?}", begun.elapsed());
+    assert!(!writing.is_finished());
+    writing.join().unwrap();
+}
+
+/// Neither of who writes, nor of who takes the slot: each would be one more process of the server.
+#[test]
+fn who_waits_for_a_locked_row_makes_few_connections() {
+    let Some(server) = Server::start("") else { return };
+    let proxy = Proxy::start(server.port);
+    make(&server.address());
+    let store = open(&proxy.address(), Copies::One);
+    let owner = Owner::of(&store, 0);
+    let taken = wait(store.take(1, 0, "a")).unwrap().unwrap();
+    thread::scope(|scope| {
+        let lock = "select 1 from totxegun_store.slot where slot < 2 for update; select pg_sleep(4)";
+        scope.spawn(|| server.ask(lock));
+        wait_until("the rows are locked", || server.ask(&waiting("PgSleep")) == "1");
+        let before = proxy.connections();
+        let writing = owner.writes("b");
+        let opening = scope.spawn(|| store.drive(1, taken).map(drop));
+        wait_until("the rows are free", || server.ask(&waiting("PgSleep")) == "0");
+        let made = proxy.connections() - before;
+        writing.join().unwrap().unwrap();
+        opening.join().unwrap().unwrap();
+        assert!(made <= 3, "{made} connections were made");
+    });
 }
 
 /// The slot's row is locked, and a read waits for it.
@@ -201,6 +246,75 @@ fn writes_of_several_slots_are_one_transaction_and_each_is_fenced_by_itself() {
         assert_eq!(take(&direct, slot).1[Path::new("journal/1")], text, "slot {slot}");
     }
     assert_eq!(take(&direct, SLOTS[2]).1, found);
+}
+
+/// As after an opening that failed: an instance may take a slot anew while a write of its earlier owner waits.
+#[test]
+fn of_two_owners_of_a_slot_in_one_transaction_the_later_one_alone_has_written() {
+    let Some(server) = Server::start("") else { return };
+    let proxy = Proxy::start(server.port);
+    make(&server.address());
+    let store = open(&proxy.address(), Copies::One);
+    let other = Owner::of(&store, 5);
+    for (slot, is_earlier_first) in [(0, true), (1, false)] {
+        let earlier = Owner::of(&store, slot);
+        let drive = take(&store, slot).0;
+        let file = drive.open(Path::new("journal/1")).unwrap();
+        let later = Owner { drive, file };
+        proxy.stop_after(0);
+        let first = other.writes("b");
+        wait_until("the lane is busy", || proxy.holds());
+        let writes = |is_earlier: bool| match is_earlier {
+            true => earlier.writes("x"),
+            false => later.writes("y"),
+        };
+        let both = [is_earlier_first, !is_earlier_first].map(writes);
+        proxy.go_on();
+        first.join().unwrap().unwrap();
+        let [one, two] = both.map(|writing| writing.join().unwrap());
+        let (of_earlier, of_later) = if is_earlier_first { (one, two) } else { (two, one) };
+        of_later.unwrap();
+        assert!(is_lost(&of_earlier.expect_err("the slot is another's")));
+        let written = format!("select count(*) from totxegun_store.piece where slot = {slot} and place = 1");
+        assert_eq!(server.ask(&written), "1", "who had lost the slot wrote to it");
+        assert_eq!(take(&store, slot).1[Path::new("journal/1")], b"ay");
+    }
+}
+
+/// Else who asks by a connection to a server that is silent, and not yet known to be of no use, would wait for half a minute.
+#[test]
+fn who_asks_by_a_silent_connection_leaves_it_once_another_one_breaks() {
+    let Some(server) = Server::start("") else { return };
+    let proxy = Proxy::start(server.port);
+    make(&server.address());
+    let store = open(&proxy.address(), Copies::One);
+    let owners = [0, 1].map(|slot| Owner::of(&store, slot));
+    server.ask(
+        "create function slow() returns trigger language plpgsql as $$ begin
+            if new.place > 0 then perform pg_sleep(1); end if; return new; end $$",
+    );
+    server.ask(
+        "create trigger slow before insert on totxegun_store.piece for each row execute function slow()",
+    );
+    let breaks_in_a_write = |owner: &Owner| {
+        let writing = owner.writes("b");
+        wait_until("it is on its way", || server.ask(&waiting("PgSleep")) == "1");
+        server.ask("select pg_terminate_backend(pid) from pg_stat_activity where wait_event = 'PgSleep'");
+        writing
+    };
+    for question in ["set link = link + 1", "as last (slot, number)"] {
+        proxy.silence_at(question);
+        let silent = breaks_in_a_write(&owners[0]);
+        wait_until("it is silent", || proxy.holds());
+        let begun = Instant::now();
+        let other = breaks_in_a_write(&owners[1]);
+        for one in [silent, other] {
+            one.join().unwrap().unwrap();
+        }
+        let took = begun.elapsed();
+        assert!(took < Duration::from_secs(12), "{question}: it took {took:?}");
+        proxy.go_on();
+    }
 }
 
 /// Each of its slots does its write again, and changes what it has, before it is done.

@@ -50,9 +50,8 @@ const SAID: [(&str, Next, &str); 9] = [
 impl Doubt {
     pub fn next(&self) -> Next {
         match self {
-            Doubt::Warned(_) => Same,
-            // Who holds the lock may wait for ever, where this server is no primary any more.
-            Doubt::Locked | Doubt::Silent(_) | Doubt::NotConnected(_) | Doubt::Refused(_) => Another,
+            Doubt::Warned(_) | Doubt::Locked => Same,
+            Doubt::Silent(_) | Doubt::NotConnected(_) | Doubt::Refused(_) => Another,
             Doubt::Said(error) if error.is_closed() => Another,
             Doubt::Said(error) => after(error.code().map_or("", |state| state.code())),
         }

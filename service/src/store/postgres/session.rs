@@ -1,13 +1,13 @@
 //! A connection with its statements, to the server that writes.
 
-use super::doubt::Doubt;
+use super::doubt::{Doubt, Next};
 use super::drive::{PackedPiece, Write};
 use super::shared::Stored;
 use crate::postgres::{self, Driver, Server};
 use std::collections::BTreeSet;
 use std::future::Future;
 use std::sync::atomic::{AtomicUsize, Ordering::Relaxed};
-use std::time::Duration;
+use std::time::{Duration, Instant};
 use tokio::sync::Mutex;
 use tokio::time::timeout;
 use tokio_postgres::types::ToSql;
@@ -18,6 +18,10 @@ const CONNECT: Duration = Duration::from_secs(5);
 /// How long a connection may be silent: it is left then, and never cancelled. The server ends what waits for a lock
 /// before, so that one backend a slot is left behind at most: the one that has the lock, and waits for its standby.
 pub(super) const SILENT: Duration = Duration::from_secs(30);
+
+/// So long a connection is kept on which the slot's row is locked. Who has the lock may wait for ever, if this server is no primary
+/// any more.
+const LOCKED: Duration = Duration::from_secs(5);
 
 /// What is said to be done is on the server's disk, and where there are synchronous standbys on theirs. A warning is heard
 /// whatever the role's own settings are.
@@ -104,6 +108,7 @@ pub(super) struct Session {
     put: Statement,
     pieces: Statement,
     driver: Driver,
+    made: Instant,
     /// One write at a time: whose warning it is must be known.
     writing: Mutex<()>,
 }
@@ -114,7 +119,16 @@ impl Session {
         let of = |text| client.prepare(text);
         let preparing = async { Ok::<_, Error>([of(APPEND).await?, of(PUT).await?, of(PIECES).await?]) };
         let [append, put, pieces] = within(CONNECT, preparing).await?;
-        Ok(Session { client, append, put, pieces, driver, writing: Mutex::new(()) })
+        let made = Instant::now();
+        Ok(Session { client, append, put, pieces, driver, made, writing: Mutex::new(()) })
+    }
+
+    /// Whether another connection is made after this.
+    pub fn is_left_after(&self, doubt: &Doubt) -> bool {
+        match doubt {
+            Doubt::Locked => self.made.elapsed() > LOCKED,
+            doubt => doubt.next() == Next::Another,
+        }
     }
 
     /// Those of these pieces that are there.
@@ -192,23 +206,24 @@ impl Session {
         }
     }
 
-    /// Whether these are several statements.
-    pub fn is_long(&self, writes: &[&Write]) -> bool {
-        parts_of(writes).len() > 1
-    }
-
     /// All of it, or nothing.
     async fn put_parts(&self, writes: &[&Write], parts: &[Vec<OfSlot<'_>>]) -> Result<BTreeSet<i32>, Error> {
         self.client.batch_execute("begin").await?;
+        let done = self.put_each(writes, parts).await;
+        let is_whole = done.as_ref().is_ok_and(|done| done.len() == writes.len());
+        self.client.batch_execute(if is_whole { "commit" } else { "rollback" }).await?;
+        done.map(|done| if is_whole { done } else { BTreeSet::new() })
+    }
+
+    /// Which of the slots were their owners' in each of these.
+    async fn put_each(&self, writes: &[&Write], parts: &[Vec<OfSlot<'_>>]) -> Result<BTreeSet<i32>, Error> {
         let mut done = BTreeSet::new();
         for (number, part) in parts.iter().enumerate() {
             done = self.put_part(writes, part, number == 0).await?;
             if done.len() < writes.len() {
-                self.client.batch_execute("rollback").await?;
-                return Ok(BTreeSet::new());
+                break;
             }
         }
-        self.client.batch_execute("commit").await?;
         Ok(done)
     }
 

@@ -1,6 +1,6 @@
 //! A connection to a database that all slots share.
 
-use super::doubt::{Backoff, Doubt, Next};
+use super::doubt::{Backoff, Doubt};
 use super::session::Session;
 use crate::log::RateLimit;
 use crate::postgres::Server;
@@ -41,7 +41,7 @@ impl Shared {
 
     /// What came of it on this connection. Another is made where this one may be at fault.
     pub async fn heard<T>(&self, session: &Arc<Session>, answer: Result<T, Doubt>) -> Result<T, Doubt> {
-        if answer.as_ref().err().is_some_and(|doubt| doubt.next() == Next::Another) {
+        if answer.as_ref().is_err_and(|doubt| session.is_left_after(doubt)) {
             let mut place = self.session.lock().await;
             place.take_if(|now| Arc::ptr_eq(now, session));
         }

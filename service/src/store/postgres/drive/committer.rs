@@ -1,33 +1,34 @@
 //! Brings what slots have to the store: one transaction for all slots whose callers wait, since a commit costs the servers more
 //! than what it brings.
 //!
-//! There are two lanes, each with a connection: a short one, and one for what is long, so that a long piece holds up no short
-//! ones. Each has one transaction under way; slots that are asked for meanwhile join the next one. A slot has one write under way
-//! at a time: what it has when that begins.
+//! Each lane has a connection, and one transaction under way; slots that are asked for meanwhile join the next one. All slots
+//! share a short lane. What is long goes to one of a few long lanes, by the slot's number, so it holds up no short writes, and few
+//! long ones. A slot has one write under way at a time: what it has when that begins.
 //!
 //! Each write locks the slot's row where term and link are the owner's. A row that another transaction has locked is passed over,
 //! so nobody waits for a slot of others. Where it is not known whether a write was done, or it was passed over, it is repeated on
-//! the long lane, by itself, behind a higher link: so what comes late of a broken connection finds another link and does nothing.
+//! a long lane, by itself, behind a higher link: so what comes late of a broken connection finds another link and does nothing.
 
+use super::connection::{Connection, Connections};
 use super::files::Batch;
 use super::linger::{Arrivals, Linger};
 use super::owned_slot::OwnedSlot;
 use super::packed::Packed;
-use crate::log::RateLimit;
 use crate::postgres::Server;
 use crate::store::postgres::counts::Counts;
-use crate::store::postgres::doubt::{Backoff, Doubt, Next};
+use crate::store::postgres::doubt::{Backoff, Doubt};
 use crate::store::postgres::session::Session;
 use crate::work::blocking;
+use std::cmp::Reverse;
 use std::collections::BTreeSet;
-use std::sync::atomic::{AtomicU64, Ordering::Relaxed};
+use std::sync::atomic::Ordering::Relaxed;
 use std::sync::Arc;
-use std::time::Duration;
 use tokio::runtime::Handle;
 use tokio::sync::mpsc::{unbounded_channel, UnboundedReceiver, UnboundedSender};
-use tokio::sync::watch;
 use tokio::task::{JoinError, JoinSet};
 
+/// Each has a connection once it is needed (docs/SEVERAL_MACHINES.md counts them).
+const LONG_LANES: usize = 4;
 /// A transaction takes no more once it has so many bytes.
 const MOST: usize = 1 << 20;
 /// A packed write of the short lane has no more.
@@ -35,14 +36,12 @@ const SHORT: usize = 64 << 10;
 /// A batch of fewer bytes is packed sooner than another thread is woken.
 const LITTLE: usize = 8 << 10;
 
-static IN_DOUBT: RateLimit = RateLimit::every(Duration::from_secs(10));
-
 pub struct GroupCommitter {
-    short: UnboundedSender<Asked>,
+    lanes: Lanes,
     pub arrivals: Arc<Arrivals>,
 }
 
-/// What a lane is asked for.
+/// What a long lane is asked for.
 enum Asked {
     /// To commit what a slot has.
     Sync(Arc<OwnedSlot>),
@@ -67,194 +66,165 @@ impl Write {
     }
 }
 
-/// What the lanes share.
-struct Connections {
-    server: Server,
-    counts: Arc<Counts>,
-    /// How many were made.
-    made: AtomicU64,
-    /// Those up to this number may be to a server that is of no use any more.
-    suspect: watch::Sender<u64>,
+/// How lanes are asked. Where the store has ended nobody waits.
+#[derive(Clone)]
+struct Lanes {
+    short: UnboundedSender<Arc<OwnedSlot>>,
+    long: Vec<UnboundedSender<Asked>>,
 }
 
-struct Lane {
-    connections: Arc<Connections>,
-    asked: UnboundedReceiver<Asked>,
-    short: UnboundedSender<Asked>,
-    long: UnboundedSender<Asked>,
-    /// None for the long lane.
-    linger: Option<Linger>,
-    /// Taken out while it is used: one that was left half-way is closed.
-    session: Option<Session>,
-    /// The connection's number.
-    number: u64,
+impl Lanes {
+    fn ask(&self, owner: Arc<OwnedSlot>) {
+        let _ = self.short.send(owner);
+    }
+
+    fn ask_long(&self, owner: Arc<OwnedSlot>) {
+        let _ = self.long_of(&owner).send(Asked::Sync(owner));
+    }
+
+    fn pass_on(&self, write: Write) {
+        let _ = self.long_of(&write.owner).send(Asked::Write(Box::new(write)));
+    }
+
+    fn long_of(&self, owner: &OwnedSlot) -> &UnboundedSender<Asked> {
+        &self.long[owner.slot as usize % self.long.len()]
+    }
+}
+
+struct Lane<T> {
+    asked: UnboundedReceiver<T>,
+    lanes: Lanes,
+    connection: Connection,
 }
 
 impl GroupCommitter {
     pub fn start(server: &Server, counts: &Arc<Counts>, runtime: &Handle) -> GroupCommitter {
-        let connections = Arc::new(Connections {
-            server: server.clone(),
-            counts: counts.clone(),
-            made: AtomicU64::new(0),
-            suspect: watch::channel(0).0,
-        });
+        let connections = Connections::to(server, counts);
         let arrivals = Arc::<Arrivals>::default();
-        let ((short, short_asked), (long, long_asked)) = (unbounded_channel(), unbounded_channel());
-        for (asked, linger) in [(short_asked, Some(Linger::for_these(&arrivals))), (long_asked, None)] {
-            let lane = Lane {
-                connections: connections.clone(),
-                asked,
-                short: short.clone(),
-                long: long.clone(),
-                linger,
-                session: None,
-                number: 0,
-            };
-            runtime.spawn(lane.run());
+        let (short, short_asked) = unbounded_channel();
+        let (long, long_asked): (Vec<_>, Vec<_>) = (0..LONG_LANES).map(|_| unbounded_channel()).unzip();
+        let lanes = Lanes { short, long };
+        runtime.spawn(Lane::new(short_asked, &lanes, &connections).run_short(Linger::for_these(&arrivals)));
+        for asked in long_asked {
+            runtime.spawn(Lane::new(asked, &lanes, &connections).run_long());
         }
-        GroupCommitter { short, arrivals }
+        GroupCommitter { lanes, arrivals }
     }
 
     /// Commits what the slot has: its round ends then.
     pub fn ask(&self, owner: Arc<OwnedSlot>) {
-        let _ = self.short.send(Asked::Sync(owner)); // where the store has ended nobody waits
+        self.lanes.ask(owner);
     }
 }
 
-impl Lane {
-    async fn run(mut self) {
+impl Lane<Arc<OwnedSlot>> {
+    async fn run_short(mut self, mut linger: Linger) {
         while let Some(first) = self.asked.recv().await {
-            if let Some(linger) = &mut self.linger {
-                linger.wait().await;
+            linger.wait().await;
+            let asked = self.all(first).await;
+            linger.begin();
+            let mut batches = Vec::new();
+            for owner in asked {
+                match owner.short_batch() {
+                    Some(batch) => batches.push((owner, batch)),
+                    None => self.lanes.ask_long(owner),
+                }
             }
-            let session = self.ready().await;
-            self.session = Some(session);
-            let mut asked = vec![first];
-            while let Ok(next) = self.asked.try_recv() {
-                asked.push(next);
+            let mut writes = packed(batches).await;
+            let long = writes.extract_if(.., |write| write.packed.size > SHORT);
+            long.for_each(|write| self.lanes.pass_on(write));
+            self.commit_all(writes).await;
+            linger.end();
+        }
+    }
+}
+
+impl Lane<Asked> {
+    async fn run_long(mut self) {
+        while let Some(first) = self.asked.recv().await {
+            let (mut batches, mut writes) = (Vec::new(), Vec::new());
+            for asked in self.all(first).await {
+                match asked {
+                    Asked::Sync(owner) => batches.push((owner.clone(), owner.batch())),
+                    Asked::Write(write) => writes.push(*write),
+                }
             }
-            if let Some(linger) = &mut self.linger {
-                linger.begin();
-            }
-            let writes = self.begin(asked).await;
-            let (mut repeated, mut writes): (Vec<Write>, Vec<Write>) =
+            writes.extend(packed(batches).await);
+            let (mut repeated, writes): (Vec<Write>, Vec<Write>) =
                 writes.into_iter().partition(|write| write.is_repeat);
             repeated.sort_by_key(|write| write.packed.size); // a short one waits for no long one
-            while !writes.is_empty() {
-                let some = writes.drain(..count_of(&writes)).collect();
-                self.commit(some).await;
-            }
+            self.commit_all(writes).await;
             for write in repeated {
                 self.commit_again(write).await;
             }
-            if let Some(linger) = &mut self.linger {
-                linger.end();
-            }
         }
     }
+}
 
-    fn is_short(&self) -> bool {
-        self.linger.is_some()
+impl<T> Lane<T> {
+    fn new(asked: UnboundedReceiver<T>, lanes: &Lanes, connections: &Arc<Connections>) -> Lane<T> {
+        Lane { asked, lanes: lanes.clone(), connection: Connection::of(connections) }
     }
 
-    fn pass_on(&self, asked: Asked) {
-        let _ = self.long.send(asked); // where the store has ended nobody waits
+    /// All that is asked for once there is a connection.
+    async fn all(&mut self, first: T) -> Vec<T> {
+        self.connection.make_ready().await;
+        let mut all = vec![first];
+        while let Ok(next) = self.asked.try_recv() {
+            all.push(next);
+        }
+        all
     }
 
-    /// A connection: it tries until there is one, as no slot could be written before.
-    async fn ready(&mut self) -> Session {
-        let suspect = *self.connections.suspect.borrow();
-        let is_sound = |session: &Session| self.number > suspect && !session.client.is_closed();
-        if let Some(session) = self.session.take().filter(is_sound) {
-            return session;
-        }
-        let mut backoff = Backoff::default();
-        loop {
-            self.number = self.connections.made.fetch_add(1, Relaxed) + 1;
-            match Session::open(&self.connections.server).await {
-                Ok(session) => return session,
-                Err(doubt) => self.connections.tell("the store", &doubt),
-            }
-            backoff.wait().await;
-        }
-    }
-
-    /// What the slots have now, packed: several at once. What is long for this lane goes to the other one.
-    async fn begin(&self, asked: Vec<Asked>) -> Vec<Write> {
-        let (mut writes, mut packing) = (Vec::new(), JoinSet::new());
-        for asked in asked {
-            match asked {
-                Asked::Write(write) => writes.push(*write),
-                Asked::Sync(owner) => match owner.batch(self.is_short()) {
-                    None => self.pass_on(Asked::Sync(owner)),
-                    Some(batch) if batch.bytes() < LITTLE => writes.push(Write::of(owner, batch)),
-                    Some(batch) => drop(packing.spawn(blocking(move || Write::of(owner, batch)))),
-                },
-            }
-        }
-        while let Some(packed) = packing.join_next().await {
-            match packed.map_err(JoinError::try_into_panic) {
-                Ok(write) => writes.push(write),
-                Err(Ok(panic)) => std::panic::resume_unwind(panic),
-                Err(Err(_)) => std::future::pending().await, // the runtime is ending, and this lane with it
-            }
-        }
+    /// Commits what was not tried before, but for slots that are lost since.
+    async fn commit_all(&mut self, mut writes: Vec<Write>) {
         writes.retain(|write| !write.owner.is_lost());
-        let is_long = |write: &mut Write| self.is_short() && write.packed.size > SHORT;
-        writes.extract_if(.., is_long).for_each(|write| self.pass_on(Asked::Write(Box::new(write))));
-        writes
+        self.drop_earlier(&mut writes);
+        while !writes.is_empty() {
+            let some = writes.drain(..count_of(&writes)).collect();
+            self.commit(some).await;
+        }
+    }
+
+    /// Of two owners of a slot the later one has it. Both would be one row of a transaction, which says of the slot alone whether it
+    /// was its owner's.
+    fn drop_earlier(&self, writes: &mut Vec<Write>) {
+        writes.sort_by_key(|write| (write.owner.slot, Reverse(write.owner.term)));
+        writes.dedup_by(|write, later| {
+            let is_earlier = write.owner.slot == later.owner.slot;
+            if is_earlier {
+                self.lose(&write.owner);
+            }
+            is_earlier
+        });
     }
 
     async fn commit(&mut self, writes: Vec<Write>) {
-        let session = self.ready().await;
-        let done = match self.try_commit(session, &writes).await {
-            Ok(done) => done,
-            Err(doubt) => {
-                let slots: Vec<String> = writes.iter().map(|write| write.owner.slot.to_string()).collect();
-                self.connections.doubts(self.number, &format!("slots {}", slots.join(", ")), &doubt);
-                BTreeSet::new()
-            }
-        };
+        let session = self.connection.take().await;
+        let done = self.connection.watched(self.try_commit(&session, &writes)).await;
+        self.connection.put_back(session, &done);
+        let done = done.unwrap_or_else(|doubt| {
+            let slots: Vec<String> = writes.iter().map(|write| write.owner.slot.to_string()).collect();
+            self.connection.doubts(&format!("slots {}", slots.join(", ")), &doubt);
+            BTreeSet::new()
+        });
         for write in writes {
             match done.contains(&write.owner.slot) {
                 true => self.done(write),
-                false => self.pass_on(Asked::Write(Box::new(Write { is_repeat: true, ..write }))),
+                false => self.lanes.pass_on(Write { is_repeat: true, ..write }),
             }
         }
     }
 
     /// The slots whose writes are there.
-    async fn try_commit(&mut self, session: Session, writes: &[Write]) -> Result<BTreeSet<i32>, Doubt> {
-        let is_new = |write: &&Write| write.owner.fence().connection != self.number;
-        let unknown: Vec<&Write> = writes.iter().filter(is_new).collect();
-        let known = writes.iter().filter(|write| !is_new(write));
+    async fn try_commit(&self, session: &Session, writes: &[Write]) -> Result<BTreeSet<i32>, Doubt> {
+        let is_new = |write: &&Write| write.owner.fence().connection != self.connection.number;
+        let (unknown, known): (Vec<&Write>, Vec<&Write>) = writes.iter().partition(is_new);
         // The others are told of it by the repeat, which looks too.
         let whole = session.whole(&unknown).await?;
-        let whole = unknown.iter().copied().filter(|write| whole.contains(&write.owner.slot));
-        let writes: Vec<&Write> = known.chain(whole).collect();
-        self.put(session, &writes).await
-    }
-
-    /// Keeps the session where its state is known.
-    async fn put(&mut self, session: Session, writes: &[&Write]) -> Result<BTreeSet<i32>, Doubt> {
-        let mut suspect = self.connections.suspect.subscribe();
-        let is_suspect = async {
-            while *suspect.borrow_and_update() < self.number {
-                if suspect.changed().await.is_err() {
-                    std::future::pending::<()>().await; // it is this lane's too
-                }
-            }
-        };
-        let done = tokio::select! {
-            done = session.put(writes) => done,
-            () = is_suspect => Err(Doubt::NotConnected("another connection to this server broke".into())),
-        };
-        let is_kept = match &done {
-            Ok(_) => true,
-            Err(doubt) => doubt.next() == Next::Same && !session.is_long(writes),
-        };
-        self.session = is_kept.then_some(session);
-        done
+        let whole = unknown.into_iter().filter(|write| whole.contains(&write.owner.slot));
+        let writes: Vec<&Write> = known.into_iter().chain(whole).collect();
+        session.put(&writes).await
     }
 
     /// Returns soon: what is still not known is asked for again.
@@ -262,84 +232,72 @@ impl Lane {
         if write.owner.is_lost() {
             return;
         }
-        let session = self.ready().await;
-        match self.try_again(session, &write).await {
+        let session = self.connection.take().await;
+        let done = self.connection.watched(self.try_again(&session, &write)).await;
+        self.connection.put_back(session, &done);
+        match done {
             Ok(true) => self.done(write),
-            Ok(false) => {
-                self.connections.counts.fenced.fetch_add(1, Relaxed);
-                write.owner.lose();
-            }
+            Ok(false) => self.lose(&write.owner),
             Err(doubt) => {
-                self.connections.doubts(self.number, &format!("slot {}", write.owner.slot), &doubt);
-                let long = self.long.clone();
+                self.connection.doubts(&format!("slot {}", write.owner.slot), &doubt);
+                let lanes = self.lanes.clone();
                 tokio::spawn(async move {
                     write.backoff.wait().await;
-                    let _ = long.send(Asked::Write(Box::new(write))); // where the store has ended nobody waits
+                    lanes.pass_on(write);
                 });
             }
         }
     }
 
     /// False where another has the slot, or the store has lost what it had of it.
-    async fn try_again(&mut self, session: Session, write: &Write) -> Result<bool, Doubt> {
+    async fn try_again(&self, session: &Session, write: &Write) -> Result<bool, Doubt> {
         let owner = &write.owner;
         let Some(link) = session.raise_link(owner.slot, owner.term).await? else {
-            self.session = Some(session);
             return Ok(false);
         };
         owner.is_linked(link);
         if session.whole(&[write]).await?.is_empty() {
-            self.connections.tell_vanished(owner.slot);
-            self.session = Some(session);
+            self.connection.all.tell_vanished(owner.slot);
             return Ok(false);
         }
-        match self.put(session, &[write]).await?.is_empty() {
+        match session.put(&[write]).await?.is_empty() {
             false => Ok(true),
             true => Err(Doubt::Locked),
         }
     }
 
+    /// Another has the slot.
+    fn lose(&self, owner: &OwnedSlot) {
+        self.connection.all.counts.fenced.fetch_add(1, Relaxed);
+        owner.lose();
+    }
+
     fn done(&self, write: Write) {
-        self.connections.counts.commits.fetch_add(1, Relaxed);
+        self.connection.all.counts.commits.fetch_add(1, Relaxed);
         let owner = write.owner.clone();
-        if owner.is_durable(write, self.number) {
-            let _ = self.short.send(Asked::Sync(owner)); // where the store has ended nobody waits
+        if owner.is_durable(write, self.connection.number) {
+            self.lanes.ask(owner);
         }
     }
 }
 
-impl Connections {
-    /// It is not known what came of a write, by the connection of this number.
-    fn doubts(&self, number: u64, whose: &str, doubt: &Doubt) {
-        if doubt.is_of_server() {
-            self.suspect.send_if_modified(|suspect| {
-                // One that was suspect already says nothing of those that were made since.
-                let is_new = number > *suspect;
-                if is_new {
-                    *suspect = self.made.load(Relaxed);
-                }
-                is_new
-            });
-        }
-        self.tell(whose, doubt);
-    }
-
-    fn tell(&self, whose: &str, doubt: &Doubt) {
-        self.counts.doubts.fetch_add(1, Relaxed);
-        if IN_DOUBT.is_due() {
-            let reason = doubt.to_string();
-            tracing::warn!(reason, "{whose}: a write is repeated until it is known to be there: {reason}");
+/// What slots had, several packed at once.
+async fn packed(batches: Vec<(Arc<OwnedSlot>, Batch)>) -> Vec<Write> {
+    let (mut writes, mut packing) = (Vec::new(), JoinSet::new());
+    for (owner, batch) in batches {
+        match batch.bytes() < LITTLE {
+            true => writes.push(Write::of(owner, batch)),
+            false => drop(packing.spawn(blocking(move || Write::of(owner, batch)))),
         }
     }
-
-    fn tell_vanished(&self, slot: i32) {
-        self.counts.vanished.fetch_add(1, Relaxed);
-        tracing::error!(
-            "slot {slot}: {} has lost what it said is durable: it went over to a standby that had not got all, or was put back \
-             from a copy",
-            self.server
-        );
+    while let Some(packed) = packing.join_next().await {
+        match packed.map_err(JoinError::try_into_panic) {
+            Ok(write) => writes.push(write),
+            Err(Ok(panic)) => std::panic::resume_unwind(panic),
+            Err(Err(_)) => std::future::pending().await, // the runtime is ending, and this lane with it
+        }
     }
+    writes
 }
 
 /// How many of these, from the first on, are one transaction: at least one.

@@ -7,6 +7,7 @@
 
 mod cache;
 mod committer;
+mod connection;
 mod extents;
 mod files;
 mod here;

@@ -6,7 +6,7 @@ use super::files::{Batch, Files};
 use super::rounds::SyncRounds;
 use crate::latch::Latch;
 use crate::work::locked;
-use std::sync::{Arc, Mutex};
+use std::sync::{Arc, Mutex, MutexGuard};
 use tokio::sync::watch;
 
 pub struct OwnedSlot {
@@ -67,14 +67,20 @@ impl OwnedSlot {
         fence.link = fence.link.max(link);
     }
 
-    /// What there is to commit now; none if that is long, and only something short is wanted.
-    pub fn batch(&self, only_short: bool) -> Option<Batch> {
-        let mut files = locked(&self.files);
-        if only_short && files.is_long() {
-            return None;
-        }
+    /// What there is to commit now; none if that is long.
+    pub fn short_batch(&self) -> Option<Batch> {
+        let files = locked(&self.files);
+        (!files.is_long()).then(|| self.begin(files))
+    }
+
+    /// What there is to commit now.
+    pub fn batch(&self) -> Batch {
+        self.begin(locked(&self.files))
+    }
+
+    fn begin(&self, mut files: MutexGuard<'_, Files>) -> Batch {
         self.rounds.begin();
-        Some(files.batch())
+        files.batch()
     }
 
     /// A connection has made a write durable. True if callers wait for another one.
