@@ -4,11 +4,13 @@ use super::server::{wait_until, Server};
 use super::work::{contents, take, wait, Work};
 use super::{make, open, runs};
 use nix::sys::signal::Signal;
+use std::path::Path;
 use std::sync::atomic::{AtomicBool, AtomicU64, Ordering::SeqCst};
 use std::sync::Arc;
 use std::thread::{self, sleep};
 use std::time::{Duration, Instant};
 use totxegun::cluster::terms::Refused;
+use totxegun::files::drive::Drive;
 use totxegun::store::postgres::{Copies, PostgresStore};
 
 const WAITS: &str = "pg_stat_activity where wait_event = 'SyncRep'";
@@ -282,6 +284,25 @@ fn a_slot_waits_for_a_database_that_is_gone_and_no_longer_than_it_is_wanted() {
     wait_until("it waits", || drive_waits(&drive));
     drive.lose();
     ending.join().unwrap();
+}
+
+/// As where the process is ending.
+#[test]
+fn a_slot_is_read_and_written_though_nobody_has_the_store_any_more() {
+    let Some(server) = Server::start("") else { return };
+    make(&server.address());
+    let store = open(&server.address(), Copies::One);
+    let drive = take(&store, 0).0;
+    let file = drive.create(Path::new("journal/1")).unwrap();
+    // The first piece is not in memory any more.
+    drive.write_at(file, &vec![7; 6 << 20], 0).unwrap();
+    drive.sync().unwrap();
+    drop(store);
+    let mut first = [0];
+    assert_eq!(drive.read_at(file, &mut first, 0).unwrap(), 1);
+    assert_eq!(first, [7]);
+    drive.write_at(file, &[8], 0).unwrap();
+    drive.sync().unwrap();
 }
 
 fn drive_waits(drive: &totxegun::store::postgres::PostgresDrive) -> bool {

@@ -58,7 +58,7 @@ pub struct PostgresStore {
     beater: Arc<Shared>,
     /// For writes of slots.
     committer: Arc<GroupCommitter>,
-    runtime: Threads,
+    threads: Arc<Threads>,
 }
 
 /// Ends without waiting, from wherever it is dropped.
@@ -132,14 +132,14 @@ impl PostgresStore {
 
     /// The same where nothing is served, whether it counts or not.
     pub fn look_into(server: &Server, copies: Copies) -> Result<PostgresStore, StoreFault> {
-        let runtime = Threads::start()?;
+        let threads = Arc::new(Threads::start()?);
         let checking = async {
             let (client, _driver) = session::connect(server).await?;
             let cluster = schema::check(&client, server).await?;
             copies::check(&client, server, copies).await?;
             Ok::<_, StoreFault>((cluster, within(SILENT, identity(&client)).await?))
         };
-        let (cluster, identity) = runtime.wait(checking)?;
+        let (cluster, identity) = threads.wait(checking)?;
         let shared = || Arc::new(Shared::new(server.clone()));
         let counts = Arc::default();
         Ok(PostgresStore {
@@ -148,9 +148,9 @@ impl PostgresStore {
             reader: shared(),
             taker: shared(),
             beater: shared(),
-            committer: Arc::new(GroupCommitter::start(server, &counts, &runtime.handle)),
+            committer: Arc::new(GroupCommitter::start(server, &counts, &threads.handle)),
             counts,
-            runtime,
+            threads,
         })
     }
 
@@ -159,7 +159,7 @@ impl PostgresStore {
     fn waited<T>(&self, work: impl AsyncFn() -> Result<T, Doubt>) -> Result<T, StoreFault> {
         let begun = Instant::now();
         loop {
-            match self.runtime.wait(work()) {
+            match self.threads.wait(work()) {
                 Err(doubt) if doubt.may_pass() && begun.elapsed() < PATIENCE => thread::sleep(PAUSE),
                 done => return Ok(done?),
             }
@@ -198,9 +198,8 @@ impl PostgresStore {
 
     /// The files of a slot that was taken under this term; none where another has it since. It asks until it knows.
     pub fn drive(&self, slot: u16, term: u64) -> Result<Arc<PostgresDrive>, Lost> {
-        let opened = self.runtime.wait(open(&self.reader, slot.into(), term as i64, &self.counts))?;
-        let runtime = &self.runtime.handle;
-        Ok(Arc::new(PostgresDrive::new(opened, &self.committer, &self.reader, runtime)))
+        let opened = self.threads.wait(open(&self.reader, slot.into(), term as i64, &self.counts))?;
+        Ok(Arc::new(PostgresDrive::new(opened, &self.committer, &self.reader, &self.threads)))
     }
 
     /// Its address, without a secret.

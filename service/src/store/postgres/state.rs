@@ -91,7 +91,7 @@ impl Shared {
 impl PostgresStore {
     /// Tries until there is an answer, but not for ever.
     fn tried<T>(&self, step: impl AsyncFn() -> Result<T, Doubt>) -> Result<T, StoreFault> {
-        self.runtime.wait(async {
+        self.threads.wait(async {
             let mut backoff = Backoff::default();
             let mut last = Doubt::NotConnected(String::new());
             for _ in 0..TRIES {

@@ -93,15 +93,15 @@ impl PostgresStore {
             let version = env!("CARGO_PKG_VERSION");
             beater.write(BEAT, &[&name, &address, &operate, &version, &refused]).await.map(drop)
         };
-        self.runtime.run(beat).await
+        self.threads.run(beat).await
     }
 
     pub async fn instances(&self) -> Result<Vec<Instance>, Doubt> {
-        self.runtime.run(self.beater.clone().instances()).await
+        self.threads.run(self.beater.clone().instances()).await
     }
 
     pub async fn slots(&self) -> Result<Vec<Row>, Doubt> {
-        self.runtime.run(self.beater.clone().slots()).await
+        self.threads.run(self.beater.clone().slots()).await
     }
 
     /// Writes the term behind the one that was seen: the new one, or none where another was first. After a doubt nothing was
@@ -109,27 +109,27 @@ impl PostgresStore {
     pub async fn take(&self, slot: u16, seen: u64, owner: &str) -> Result<Option<u64>, Doubt> {
         let (taker, owner) = (self.taker.clone(), owner.to_string());
         let take = async move { taker.write(TAKE, &[&i32::from(slot), &(seen as i64), &owner]).await };
-        Ok((self.runtime.run(take).await? == 1).then_some(seen + 1))
+        Ok((self.threads.run(take).await? == 1).then_some(seen + 1))
     }
 
     /// Says that nobody has the slot, where it has this term. The one who had it writes no more.
     pub async fn release(&self, slot: u16, term: u64) -> Result<(), Doubt> {
         let taker = self.taker.clone();
         let release = async move { taker.write(RELEASE, &[&i32::from(slot), &(term as i64)]).await };
-        self.runtime.run(release).await.map(drop)
+        self.threads.run(release).await.map(drop)
     }
 
     /// Where the database is silent its row stays, and is that of one that is gone.
     pub async fn leave(&self, name: &str) -> Result<(), Doubt> {
         let (beater, name) = (self.beater.clone(), name.to_string());
-        self.runtime.run(async move { beater.write(LEAVE, &[&name]).await }).await.map(drop)
+        self.threads.run(async move { beater.write(LEAVE, &[&name]).await }).await.map(drop)
     }
 
     /// Takes the row of an instance away that has not come back, where its beat is still this. Whether it was.
     pub async fn forget(&self, name: &str, beat: u64) -> Result<bool, Doubt> {
         let (taker, name) = (self.taker.clone(), name.to_string());
         let forget = async move { taker.write(FORGET, &[&name, &(beat as i64)]).await };
-        Ok(self.runtime.run(forget).await? == 1)
+        Ok(self.threads.run(forget).await? == 1)
     }
 
     /// On how many servers what is committed is now; none where this role may not look. Writes may wait meanwhile.
@@ -140,6 +140,6 @@ impl PostgresStore {
             let counted = within(READ, copies::count(&session.client)).await;
             reader.heard(&session, counted).await
         };
-        self.runtime.run(counting).await
+        self.threads.run(counting).await
     }
 }

@@ -26,6 +26,7 @@ pub(super) use owned_slot::OwnedSlot;
 pub(super) use packed::PackedPiece;
 
 use super::shared::{Shared, Stored};
+use super::Threads;
 use crate::files::drive::{lost, Drive, Lost};
 use crate::work::locked;
 use files::{Bytes, Files, Read};
@@ -35,14 +36,14 @@ use std::io;
 use std::path::Path;
 use std::sync::{Arc, MutexGuard};
 use std::time::Duration;
-use tokio::runtime::Handle;
 
 pub struct PostgresDrive {
     owner: Arc<OwnedSlot>,
     delivered: u64,
     committer: Arc<GroupCommitter>,
     reader: Arc<Shared>,
-    runtime: Handle,
+    /// They go on while there is a drive, whoever has ended the store.
+    threads: Arc<Threads>,
 }
 
 impl PostgresDrive {
@@ -51,10 +52,10 @@ impl PostgresDrive {
         (owner, delivered): (Arc<OwnedSlot>, u64),
         committer: &Arc<GroupCommitter>,
         reader: &Arc<Shared>,
-        runtime: &Handle,
+        threads: &Arc<Threads>,
     ) -> PostgresDrive {
-        let (committer, reader, runtime) = (committer.clone(), reader.clone(), runtime.clone());
-        PostgresDrive { owner, delivered, committer, reader, runtime }
+        let (committer, reader, threads) = (committer.clone(), reader.clone(), threads.clone());
+        PostgresDrive { owner, delivered, committer, reader, threads }
     }
 
     pub fn slot(&self) -> u16 {
@@ -89,8 +90,7 @@ impl PostgresDrive {
             let (key, raised) = ((owner.slot, owner.term), |link| owner.is_linked(link));
             self.reader.confirmed_pieces(key, file, &wanted, raised).await.ok_or(Lost)
         };
-        let _entered = self.runtime.enter();
-        let rows = on_this_thread(async {
+        let rows = self.threads.wait(async {
             tokio::select! {
                 rows = reading => rows,
                 () = owner.lost() => Err(Lost),
