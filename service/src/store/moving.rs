@@ -23,6 +23,9 @@ use target::To;
 /// Slots of a store that are filled side by side: each has a connection.
 const SIDE_BY_SIDE: usize = 16;
 
+const USED: &str = "the store has something already, and a folder is moved into one that `totxegun store init` has made and \
+                    nobody has used: make it in another database";
+
 /// It says all by itself.
 #[derive(Debug, thiserror::Error)]
 #[error("{0}")]
@@ -98,10 +101,14 @@ fn absolute(folder: &Path) -> Result<PathBuf, MoveFault> {
 /// From here on no instance starts on the store, and none runs.
 fn begin(store: &PostgresStore, to: Standing) -> Result<(), MoveFault> {
     let seen = store.standing()?;
-    if (seen.state, &seen.id) != (to.state, &to.id) {
-        check_unused(store, &seen)?;
+    match (seen.state, &seen.id) == (to.state, &to.id) {
+        true => change(store, &seen, to)?, // the folder may be elsewhere by now
+        false => {
+            check_unused(store, &seen)?;
+            let begun = store.begin_filling(&seen, &to)?;
+            check_meanwhile(begun.ok_or_else(|| MoveFault(USED.into()))?, to)?;
+        }
     }
-    change(store, &seen, to)?;
     check_idle(store)
 }
 
@@ -112,7 +119,11 @@ fn decide(store: &PostgresStore) -> Result<(), MoveFault> {
 }
 
 fn change(store: &PostgresStore, seen: &Standing, to: Standing) -> Result<(), MoveFault> {
-    match store.change(seen, &to)? == to {
+    check_meanwhile(store.change(seen, &to)?, to)
+}
+
+fn check_meanwhile(now: Standing, to: Standing) -> Result<(), MoveFault> {
+    match now == to {
         true => Ok(()),
         false => Err(StoreFault::Meanwhile.into()),
     }
@@ -123,10 +134,7 @@ fn check_unused(store: &PostgresStore, seen: &Standing) -> Result<(), MoveFault>
         return refused(why);
     }
     if !store.is_empty()? {
-        return refused(
-            "the store has something already, and a folder is moved into one that `totxegun store init` has made and nobody \
-             has used: make it in another database",
-        );
+        return refused(USED);
     }
     check_idle(store)
 }

@@ -1,9 +1,13 @@
 //! What a store says while a folder is moved into it, and once it was.
 
-use super::server::Server;
-use super::work::wait;
+use super::server::{wait_until, Server};
+use super::work::{take, wait};
 use super::{make, open, opened};
 use std::path::Path;
+use std::thread;
+use std::time::Duration;
+use totxegun::cluster::terms::Refused;
+use totxegun::files::drive::{is_lost, Drive};
 use totxegun::files::{Durability, Folder};
 use totxegun::store::moving::from_folder;
 use totxegun::store::postgres::{address, Copies, Standing, State};
@@ -26,19 +30,62 @@ fn nobody_takes_a_slot_or_starts_while_a_store_is_filled_but_who_fills_it() {
     let store = open(&server.address(), Copies::One);
     let before = store.standing().unwrap();
     assert_eq!((before.state, store.is_empty().unwrap()), (State::Counts, true));
-    assert_eq!(wait(store.take(2, 0, "a")).unwrap(), Some(1), "as yet");
+    let (owner, _) = take(&store, 2);
     let filling = standing(State::Filling);
-    assert_eq!(store.change(&before, &filling).unwrap(), filling);
+    for _ in 0..2 {
+        let begun = store.begin_filling(&before, &filling).unwrap();
+        assert_eq!(begun, Some(filling.clone()), "a doubt has it called twice");
+    }
     assert_eq!(store.change(&before, &before).unwrap(), filling, "it is no more as it was seen");
-    assert_eq!(wait(store.take(1, 0, "a")).unwrap(), None);
+    owner.create(Path::new("journal/1")).unwrap();
+    assert!(is_lost(&owner.sync().unwrap_err()), "who had a slot writes no more");
+    assert_eq!(wait(store.take(1, 1, "a")).unwrap(), None);
     refused(&server.address(), "what the folder /data has is on its way into this store");
     assert!(store.take_to_move(1, "f00").is_err(), "another move");
-    assert_eq!(store.take_to_move(2, "0123456789abcdef").unwrap(), 2);
-    store.release_moved(2, 2).unwrap();
-    assert!(store.release_moved(2, 1).is_err(), "another has it");
+    assert_eq!(store.take_to_move(2, "0123456789abcdef").unwrap(), 3);
+    store.release_moved(2, 3).unwrap();
+    assert!(store.release_moved(2, 2).is_err(), "another has it");
     store.change(&filling, &standing(State::Counts)).unwrap();
-    assert_eq!(wait(store.take(1, 0, "a")).unwrap(), Some(1));
+    assert_eq!(wait(store.take(1, 1, "a")).unwrap(), Some(2));
     assert!(store.take_to_move(1, "0123456789abcdef").is_err(), "the move has come to its end");
+}
+
+/// It was idle and empty when that was looked at, and an instance takes a post before it is told that it is filled.
+#[test]
+fn what_an_instance_takes_just_before_a_store_is_filled_stays() {
+    let Some(server) = Server::start("") else { return };
+    make(&server.address());
+    let of_store = address(&server.address()).unwrap();
+    let place = tempfile::tempdir().unwrap();
+    drop(Folder::open(place.path(), Durability::Disk).unwrap().slot().unwrap());
+    let moved = || from_folder(place.path(), &of_store, Copies::One).map_err(|why| why.to_string());
+    let store = open(&server.address(), Copies::One);
+    // One that is gone: whether its beats go on takes a while to see.
+    wait(store.beat("gone", "h:1", "h:1", Refused::new())).unwrap();
+    thread::scope(|scope| {
+        let moving = scope.spawn(moved);
+        thread::sleep(Duration::from_secs(1));
+        let lock = "select 1 from totxegun_store.cluster for update; select pg_sleep(5)";
+        scope.spawn(|| server.ask(lock));
+        let waits = "select count(*) from pg_stat_activity where query like 'update totxegun_store.cluster set state%'
+            and wait_event_type = 'Lock'";
+        wait_until("it looked, and waits for the lock", || server.ask(waits) == "1");
+        let (drive, _) = take(&store, 0);
+        let file = drive.create(Path::new("journal/1")).unwrap();
+        drive.write_at(file, b"post", 0).unwrap();
+        drive.sync().expect("the post is answered");
+        while !moving.is_finished() {
+            wait(store.beat("a", "h:1", "h:1", Refused::new())).unwrap();
+            thread::sleep(Duration::from_millis(300));
+        }
+        let why = moving.join().unwrap().unwrap_err();
+        println!("the first call: {why}");
+    });
+    wait(store.leave("a")).unwrap();
+    let why = moved().expect_err("the store is in use");
+    assert!(why.contains("has something already"), "{why}");
+    assert_eq!(store.standing().unwrap().state, State::Counts);
+    assert_eq!(take(&store, 0).1[Path::new("journal/1")], b"post");
 }
 
 /// Else a folder whose move was killed at its very end would never be known to have come into the store.

@@ -2,12 +2,13 @@
 
 use super::doubt::{Backoff, Doubt};
 use super::fault::StoreFault;
-use super::session::{within, SILENT};
+use super::session::{connect, within, SILENT};
 use super::shared::Shared;
 use super::terms::RELEASE;
 use super::PostgresStore;
 use std::time::Duration;
 use tokio_postgres::types::ToSql;
+use tokio_postgres::{Client, Error};
 
 /// How often a step is tried: who moves can be called again, wherever it ended.
 const TRIES: u32 = 12;
@@ -35,6 +36,8 @@ pub struct Standing {
 const STANDING: &str = "update totxegun_store.cluster set id = id returning state, move, folder";
 const CHANGE: &str = "update totxegun_store.cluster set state = $1, move = $2, folder = $3
     where state = $4 and move = $5";
+/// Whoever had a slot writes no more.
+const FENCE: &str = "update totxegun_store.slot set term = term + 1, link = 0, owner = $1";
 const FILES: &str = "select count(*) from totxegun_store.file";
 const TAKE: &str = "update totxegun_store.slot set term = term + 1, link = 0, owner = $3
     where slot = $1 and term = $2
@@ -42,9 +45,11 @@ const TAKE: &str = "update totxegun_store.slot set term = term + 1, link = 0, ow
 /// Who takes a slot to move it.
 const MOVER: &str = "store move";
 
-fn name_of(state: State) -> &'static str {
-    let found = STATES.iter().find(|(known, _)| *known == state);
-    found.map_or("", |(_, name)| name)
+impl State {
+    fn name(self) -> &'static &'static str {
+        let found = STATES.iter().find(|(known, _)| *known == self);
+        found.map_or(&"", |(_, name)| name)
+    }
 }
 
 impl Standing {
@@ -62,6 +67,24 @@ impl Standing {
     }
 }
 
+/// For `CHANGE`.
+fn values_of<'a>(seen: &'a Standing, to: &'a Standing) -> [&'a (dyn ToSql + Sync); 5] {
+    [to.state.name(), &to.id, &to.folder, seen.state.name(), &seen.id]
+}
+
+async fn begin_filling(client: &mut Client, seen: &Standing, to: &Standing) -> Result<bool, Error> {
+    let transaction = client.transaction().await?;
+    if transaction.execute(CHANGE, &values_of(seen, to)).await? == 0 {
+        return Ok(true); // it is not as it was seen, or the change is there: its reader finds which
+    }
+    transaction.execute(FENCE, &[&MOVER]).await?;
+    let is_unused = transaction.query_one(FILES, &[]).await?.get::<_, i64>(0) == 0;
+    if is_unused {
+        transaction.commit().await?;
+    }
+    Ok(is_unused)
+}
+
 impl Shared {
     async fn standing(&self) -> Result<Standing, Doubt> {
         let row = self.told(STANDING, &[]).await?;
@@ -76,9 +99,14 @@ impl Shared {
     }
 
     async fn change(&self, seen: &Standing, to: &Standing) -> Result<(), Doubt> {
-        let (from, state) = (name_of(seen.state), name_of(to.state));
-        let values: [&(dyn ToSql + Sync); 5] = [&state, &to.id, &to.folder, &from, &seen.id];
-        self.write(CHANGE, &values).await.map(drop)
+        self.write(CHANGE, &values_of(seen, to)).await.map(drop)
+    }
+
+    /// Fills a store from now on, where it is as it was seen: false if a slot has something. One transaction looks, behind which no
+    /// owner writes any more: so nothing is taken between the look and the change.
+    async fn begin_filling(&self, seen: &Standing, to: &Standing) -> Result<bool, Doubt> {
+        let (mut client, _driver) = connect(&self.server).await?;
+        within(SILENT, begin_filling(&mut client, seen, to)).await
     }
 
     async fn has_files(&self) -> Result<bool, Doubt> {
@@ -122,6 +150,15 @@ impl PostgresStore {
         self.tried(async || {
             self.taker.change(seen, to).await?;
             self.taker.standing().await
+        })
+    }
+
+    /// Has the store filled from now on, where it is as it was seen: what it is then. None if a slot has something. Whoever had a slot
+    /// has it no more.
+    pub fn begin_filling(&self, seen: &Standing, to: &Standing) -> Result<Option<Standing>, StoreFault> {
+        self.tried(async || match self.taker.begin_filling(seen, to).await? {
+            true => self.taker.standing().await.map(Some),
+            false => Ok(None),
         })
     }
 
