@@ -7,7 +7,6 @@ use super::units::Units;
 use super::{Ended, Settings};
 use crate::cluster::terms::{self, Doing, Unopened};
 use crate::cluster::{forward, Beats, Cluster, Forward, Internal, Secret};
-use crate::files::drive::{self, Drive};
 use crate::files::Fault;
 use crate::intake::connections::{serve_over, Limits};
 use crate::intake::Intake;
@@ -197,7 +196,7 @@ impl Instance {
         let epoch = store.cluster.epoch.clone();
         let read = blocking(move || {
             let drive = store.drive(slot, term).map_err(Fault::Lost)?;
-            let files = drive::open(drive.clone() as Arc<dyn Drive>, &epoch)?;
+            let files = drive.open_files(&epoch)?;
             Ok::<_, Fault>((drive, files))
         });
         let (drive, files) = read.await.map_err(|fault| match fault {

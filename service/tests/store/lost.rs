@@ -42,7 +42,8 @@ fn a_piece_that_is_gone_is_named_and_the_slot_stays_its_owners() {
     let gone = owner.read_at(file, &mut [0; 8], 0).unwrap_err();
     assert_eq!(gone.kind(), ErrorKind::InvalidData, "{gone}");
     owner.sync().expect("the slot is its own");
-    let fault = drive::open(owner, "e").err().unwrap();
+    let fault = owner.open_files("e").err().unwrap();
+    assert!(drive::is_lost(&owner.sync().unwrap_err()), "nothing of it is written any more");
     let text = fault.to_string();
     let says = ["outbox/000000000001.seg", "slot 0 is not served", "totxegun_store.piece back"];
     assert!(matches!(fault, Fault::Io { .. }) && says.iter().all(|part| text.contains(part)), "{text}");

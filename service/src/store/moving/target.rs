@@ -1,7 +1,7 @@
 //! Where it is moved to.
 
 use super::MoveFault;
-use crate::files::drive::{self, Drive};
+use crate::files::drive::Drive;
 use crate::files::{Dead, Fault, Journal, Names, Outbox, Post};
 use crate::store::postgres::{PostgresDrive, PostgresStore};
 use std::path::Path;
@@ -24,7 +24,7 @@ impl To {
     pub fn slot(store: &PostgresStore, number: u16, term: u64) -> Result<To, MoveFault> {
         let drive = store.drive(number, term).map_err(Fault::from)?;
         wipe(&drive)?;
-        let (journal, outbox, dead) = drive::open(drive as Arc<dyn Drive>, &store.cluster.epoch)?;
+        let (journal, outbox, dead) = drive.open_files(&store.cluster.epoch)?;
         Ok(To { number, journal, outbox, dead, written: 0 })
     }
 

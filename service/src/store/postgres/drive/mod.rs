@@ -27,7 +27,8 @@ pub(super) use packed::PackedPiece;
 
 use super::shared::{Shared, Stored};
 use super::Threads;
-use crate::files::drive::{lost, Drive, Lost};
+use crate::files::drive::{lost, open as open_files, Drive, Lost};
+use crate::files::{Dead, Fault, Journal, Outbox};
 use crate::work::locked;
 use files::{Bytes, Files, Read};
 use std::collections::HashMap;
@@ -70,6 +71,12 @@ impl PostgresDrive {
     /// away, or ends.
     pub fn lose(&self) {
         self.owner.lose();
+    }
+
+    /// Opens the files. Nothing of the slot is written any more if they can't be opened.
+    pub fn open_files(self: &Arc<Self>, epoch: &str) -> Result<(Journal, Outbox, Dead), Fault> {
+        let opened = open_files(self.clone() as Arc<dyn Drive>, epoch);
+        opened.inspect_err(|_| self.lose())
     }
 
     /// The files, while the slot is this owner's.
