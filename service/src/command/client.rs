@@ -30,9 +30,6 @@ const NO_PATH: &str = "no such path";
 /// Of an answer that is not as this program reads it.
 pub const OTHER_VERSION: &str = "the running service is of another version: ask it by its own totxegun";
 
-/// So many instances are asked, one after the other, where each says that the next one has it.
-const MOST_ASKED: usize = 32;
-
 /// What is read of an answer at most.
 const MOST: usize = 256 << 20;
 
@@ -57,15 +54,17 @@ struct Reply {
 /// Asks, and returns the answer's body where its status is 200, else its message. All that is asked for is JSON. An instance that
 /// says where to ask is left for that one.
 pub fn ask(at: &Address, method: Method, path: &str) -> Result<Vec<u8>> {
-    let (mut place, token) = (at.place(), at.token()?);
-    let mut reply = reply(&place, token.as_deref(), &method, path, ANSWER)?;
-    for _ in 0..MOST_ASKED {
-        let Some(next) = reply.location.take() else { break };
+    let (mut place, token, mut asked) = (at.place(), at.token()?, Vec::new());
+    loop {
+        let reply = reply(&place, token.as_deref(), &method, path, ANSWER)?;
+        asked.push(place);
+        // An order of all slots is done where it was asked for: what is there again has come since.
+        let Some(next) = reply.location.clone().filter(|next| !asked.contains(next)) else {
+            return read_reply(reply, &asked[asked.len() - 1], token.is_some());
+        };
         crate::complain(format_args!("{}", message(&reply.body)));
         place = next;
-        reply = self::reply(&place, token.as_deref(), &method, path, ANSWER)?;
     }
-    read_reply(reply, &place, token.is_some())
 }
 
 fn read_reply(reply: Reply, place: &str, has_token: bool) -> Result<Vec<u8>> {
@@ -77,6 +76,10 @@ fn read_reply(reply: Reply, place: &str, has_token: bool) -> Result<Vec<u8>> {
         ),
         status => match message(&reply.body) {
             said if said == NO_PATH => bail!(another(place)),
+            said if reply.location.is_some() => {
+                let said = format!("{said}; it was asked already: give the command again if there is more to do");
+                bail!(Refused { place: place.into(), status, said })
+            }
             said => bail!(Refused { place: place.into(), status, said }),
         },
     }
@@ -336,8 +339,10 @@ mod tests {
             writes(b"HTTP/1.1 200 OK\r\ncontent-type: application/json\r\ncontent-length: 2\r\n\r\n{}");
         let body = r#"{"message":"slot 1 is at instance b"}"#;
         let head = "HTTP/1.1 307 Temporary Redirect\r\ncontent-type: application/json\r\n";
+        let answer =
+            move |location: &str| format!("{head}{location}content-length: {}\r\n\r\n{body}", body.len());
         let sends = |location: &str| {
-            let answer = format!("{head}{location}content-length: {}\r\n\r\n{body}", body.len());
+            let answer = answer(location);
             answers(move |stream| stream.write_all(answer.as_bytes()).unwrap())
         };
         let first = sends(&format!("location: http://{last}/dead/1-a-7/drop\r\n"));
@@ -345,6 +350,13 @@ mod tests {
         let nowhere = sends("");
         let said = format!("{:#}", ask(&at(&nowhere), Method::POST, "/dead/1-a-7/drop").unwrap_err());
         assert!(said.contains("answered 307: slot 1 is at instance b"), "{said}");
+        // As where a series of each of two is posted again as soon as it is forgotten: that would never end.
+        let itself = answers(move |stream| {
+            let there = format!("location: http://{}/forget\r\n", stream.local_addr().unwrap());
+            stream.write_all(answer(&there).as_bytes()).unwrap();
+        });
+        let said = format!("{:#}", ask(&at(&itself), Method::POST, "/forget?all").unwrap_err());
+        assert!(said.contains("slot 1 is at instance b; it was asked already"), "{said}");
     }
 
     /// Whatever its status is: else an order would be said to be done.

@@ -8,13 +8,14 @@ pub(super) use sought::Sought;
 use super::named::named;
 use super::query::Query;
 use super::reach::{slots_shown, Answer, Command};
-use super::{Actor, Desk, ANYWAY};
+use super::{Actor, Desk, Unit, ANYWAY};
 use crate::log::{since_1970, utc};
 use crate::otlp::series::SeriesKey;
 use crate::sinks::periods::{hour_shown, seconds_of};
 use crate::sinks::sql::totals::Hour;
 use crate::sinks::sql::totals::SeriesTotal;
 use sought::{InAllSlots, Meant};
+use std::collections::BTreeMap;
 use std::sync::Arc;
 
 const SECOND: u64 = 1_000_000_000;
@@ -55,14 +56,18 @@ impl Desk {
             InAllSlots::read(found)?.meant(sought).map_err(|why| Answer::told(409, &why))
         };
         let all = meant_in(&found, &sought)?;
-        let (here, there): (Vec<u16>, Vec<u16>) =
-            all.slots.iter().partition(|slot| self.units.get(**slot).is_some());
-        let rest = there.first().and_then(|slot| self.unit_here(*slot).err());
+        let (mut here, mut rest) = (BTreeMap::new(), None);
+        for slot in all.slots.iter().copied() {
+            match self.unit_here(slot) {
+                Ok(unit) => drop(here.insert(slot, unit)),
+                Err(elsewhere) => rest = rest.or(Some(elsewhere)),
+            }
+        }
         let told = match here.is_empty() {
             true => String::new(),
             false => {
-                self.amended_here(&here, &all.sought).await?;
-                let of_here: Vec<_> = found.into_iter().filter(|(slot, _)| here.contains(slot)).collect();
+                amended_here(&here, &all.sought).await?;
+                let of_here: Vec<_> = found.into_iter().filter(|(slot, _)| here.contains_key(slot)).collect();
                 self.told(&sought, &meant_in(&of_here, &all.sought)?).await
             }
         };
@@ -74,19 +79,6 @@ impl Desk {
                 Err(Answer { location: rest.location, ..Answer::told(rest.status, &told) })
             }
         }
-    }
-
-    /// Changes what these slots know, one after the other.
-    async fn amended_here(&self, slots: &[u16], sought: &Sought) -> Result<(), Answer> {
-        for (number, slot) in slots.iter().enumerate() {
-            let unit = self.unit_here(*slot)?;
-            let moved = || Answer::told(503, &format!("slot {slot} is being moved: give the order again"));
-            let answer = sought.clone().amended_in(&unit).await.unwrap_or_else(moved);
-            if answer.status != 200 {
-                return Err(refused_by(&answer, &slots[..number]));
-            }
-        }
-        Ok(())
     }
 
     async fn told(&self, sought: &Sought, meant: &Meant) -> String {
@@ -129,6 +121,20 @@ impl Desk {
         };
         format!("; {what}")
     }
+}
+
+/// Changes what these slots know, one after the other.
+async fn amended_here(slots: &BTreeMap<u16, Arc<Unit>>, sought: &Sought) -> Result<(), Answer> {
+    let mut done = Vec::new();
+    for (slot, unit) in slots {
+        let moved = || Answer::told(503, &format!("slot {slot} is being moved: give the order again"));
+        let answer = sought.clone().amended_in(unit).await.unwrap_or_else(moved);
+        if answer.status != 200 {
+            return Err(refused_by(&answer, &done));
+        }
+        done.push(*slot);
+    }
+    Ok(())
 }
 
 /// What a slot has refused, and which others have done it.
