@@ -3,7 +3,7 @@
 //! | file | what it is |
 //! |---|---|
 //! | `lock` | locked by the service that has the folder |
-//! | `version` | lines: `totxegun 1`, the format's version; `epoch`, 16 hexadecimal digits; `lock`, the inode of the lock's file; `born`, when the lock's file was made, in nanoseconds since 1970, if the file system knows it; `begun`, the journal's segment that the last start has begun; `sink`, the id (or `-`), kind and address of the sink; `moved`, the store that has all of it: then no service starts on it |
+//! | `version` | lines: `totxegun 3`, the format's version; `epoch`, 16 hexadecimal digits; `lock`, the inode of the lock's file; `born`, when the lock's file was made, in nanoseconds since 1970, if the file system knows it; `begun`, the journal's segment that the last start has begun; `sink`, the id (or `-`), kind and address of the sink; `moved`, the store that has all of it: then no service starts on it |
 //! | `slot-0/journal`, `slot-0/outbox` | segments |
 //! | `dead/` | one file a request that was refused for good |
 //!

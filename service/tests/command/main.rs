@@ -212,7 +212,7 @@ fn an_interrupt_leaves_no_copy_of_a_folder() {
     use nix::sys::signal::{kill, Signal};
     let (data, temporary) = (tempfile::tempdir().unwrap(), tempfile::tempdir().unwrap());
     std::fs::write(data.path().join("lock"), "").unwrap();
-    std::fs::write(data.path().join("version"), "totxegun 1\nepoch 0123456789abcdef\nlock 1\n").unwrap();
+    std::fs::write(data.path().join("version"), "totxegun 3\nepoch 0123456789abcdef\nlock 1\n").unwrap();
     std::fs::create_dir(data.path().join("dead")).unwrap();
     // Who copies it waits for somebody who writes.
     let pipe = data.path().join("dead/0-a-1.json");

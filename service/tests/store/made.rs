@@ -33,10 +33,16 @@ fn a_start_refuses_what_is_no_store_or_another_or_can_lose() {
     server.ask("alter role postgres set synchronous_commit = 'local'");
     server.ask("alter system set fsync = on");
     server.ask("alter system set synchronous_standby_names = 'nobody'");
-    server.ask("set synchronous_commit = 'local'; update totxegun_store.cluster set version = 2");
+    let versions = |version| {
+        format!("set synchronous_commit = 'local'; update totxegun_store.cluster set version = {version}")
+    };
     server.ask("select pg_reload_conf()");
-    refused(&one, Copies::Two, "a", "of another version");
-    server.ask("set synchronous_commit = 'local'; update totxegun_store.cluster set version = 1");
+    for other in [1, 3] {
+        server.ask(&versions(other));
+        let told = format!("of format version {other}, and this totxegun reads 2 alone: ");
+        refused(&one, Copies::Two, "a", &told);
+    }
+    server.ask(&versions(2));
     // A start would wait: nobody is there, so no commit ends.
     let store = PostgresStore::look_into(&address(&one).unwrap(), Copies::Two).unwrap();
     assert_eq!(wait(store.copies()).unwrap(), Some(1));

@@ -150,8 +150,8 @@ fn another_or_missing_version_is_refused_by_name() {
     let version = place.path().join("version");
     let text = std::fs::read_to_string(&version).unwrap();
     let refused = || open(place.path()).err().unwrap().to_string();
-    for number in [0, 2] {
-        std::fs::write(&version, text.replacen("totxegun 1", &format!("totxegun {number}"), 1)).unwrap();
+    for number in [0, 1, 2, 4] {
+        std::fs::write(&version, text.replacen("totxegun 3", &format!("totxegun {number}"), 1)).unwrap();
         let why = refused();
         assert!(
             why.contains(&format!("of format version {number}")) && why.contains("another --data"),
@@ -161,10 +161,10 @@ fn another_or_missing_version_is_refused_by_name() {
     for wrong in [
         "",
         "totxegun\n",
-        "totxegun 1\nepoch 12\nlock 1\n",
-        "totxegun 1\nepoch 0123456789abcdef\n",
-        "totxegun 1\nepoch 0123456789abcdef\nlock 1\nbegun x\n",
-        "totxegun 1\nepoch 0123456789abcdef\nlock 1\nsink x\n",
+        "totxegun 3\nepoch 12\nlock 1\n",
+        "totxegun 3\nepoch 0123456789abcdef\n",
+        "totxegun 3\nepoch 0123456789abcdef\nlock 1\nbegun x\n",
+        "totxegun 3\nepoch 0123456789abcdef\nlock 1\nsink x\n",
     ] {
         std::fs::write(&version, wrong).unwrap();
         assert!(refused().contains("put a copy"), "{}", refused());

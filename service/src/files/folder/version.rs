@@ -6,8 +6,8 @@ use std::os::unix::fs::MetadataExt;
 use std::path::Path;
 use std::time::UNIX_EPOCH;
 
-/// Of the folder: which files there are, and where.
-const VERSION: u32 = 1;
+/// Of the folder: which files there are, and where. 1 and 2 stood for other forms.
+const VERSION: u32 = 3;
 const UNREADABLE: &str = "has no epoch, no inode of the lock, or says otherwise what was begun or which sink it has: put a copy of this file in its place";
 
 /// Its lines.

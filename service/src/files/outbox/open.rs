@@ -36,12 +36,16 @@ impl Outbox {
         let disk = &disk.of_its_own();
         disk.make_folder(folder)?;
         let numbers = segment::numbers(disk, folder)?;
+        let last = numbers.last().copied();
+        if let Some(last) = last {
+            Reading::open(disk, folder, last)?; // nothing is written to one of another version
+        }
         // Each is begun once the one before it is durable.
-        segment::settle(disk, folder, numbers.last().copied().unwrap_or(0), |_| 0)?;
+        segment::settle(disk, folder, last.unwrap_or(0), |_| 0)?;
         let EarlierRun { mut state, has_requests, ended, dropped } = read_all(disk, folder, &numbers, epoch)?;
         state.facts.epoch = epoch.into();
         // A segment without a request is replaced: starts that end at once would leave one each.
-        let number = numbers.last().map_or(1, |last| last + u64::from(has_requests));
+        let number = last.map_or(1, |last| last + u64::from(has_requests));
         let segment = Segment::create(disk, folder, Which::Outbox, number, Ahead::Nothing, None)?;
         // What was read is durable.
         let settled = AtomicU64::new(state.facts.next);

@@ -12,7 +12,7 @@ pub enum StoreFault {
     None(String),
     #[error("{0} has a store already: it is used as it is, or dropped by `drop schema totxegun_store cascade`, with all in it")]
     IsThere(String),
-    #[error("the store in {server} is of another version of totxegun (store {found}; this one knows {known}): use that version")]
+    #[error("the store in {server} is of format version {found}, and this totxegun reads {known} alone: use the totxegun that made it, or make a store in another database")]
     Version { server: String, found: i32, known: i32 },
     #[error("a store has 1 to {most} slots: not {given}")]
     Slots { given: u16, most: u16 },

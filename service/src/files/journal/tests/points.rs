@@ -134,7 +134,7 @@ fn a_segment_and_a_file_of_a_sender_go_on_behind_these_bytes() {
     let header = |which: u8, number: u64| {
         let mut header = Vec::new();
         let number = number.to_le_bytes();
-        records::put(&mut header, 1, &[b"totxegun", &[1, 0, which], &number]);
+        records::put(&mut header, 1, &[b"totxegun", &[5, 0, which], &number]);
         header
     };
     let record = |kind: u8, sender: &str, text: &[u8]| {

@@ -1,7 +1,7 @@
 //! Groups that are cut or changed, and calls on the disk that fail.
 
 use super::*;
-use crate::files::records::MARK_LENGTHS;
+use crate::files::records::{self, MARK_LENGTHS};
 
 #[tokio::test]
 async fn a_group_that_is_cut_anywhere_is_not_there() {
@@ -30,6 +30,22 @@ async fn a_group_that_is_cut_anywhere_is_not_there() {
     outbox.commit(&[body(&[("d", 2)], "another")], 3).unwrap();
     take(&outbox).await;
     assert_eq!(take(&outbox).await, (2, body(&[("d", 2)], "another")));
+}
+
+/// It is refused before a start writes to it.
+#[test]
+fn a_last_segment_of_another_version_stays_as_it_is() {
+    let folder = tempfile::tempdir().unwrap();
+    kill(open(folder.path()));
+    let path = last_segment(folder.path());
+    let mut other = Vec::new();
+    records::put(&mut other, records::HEADER, &[b"totxegun", &1u16.to_le_bytes(), b"what comes"]);
+    std::fs::write(&path, &other).unwrap();
+    let before = std::time::UNIX_EPOCH + Duration::from_secs(1000);
+    std::fs::File::options().write(true).open(&path).unwrap().set_modified(before).unwrap();
+    let fault = open_on(&Disk::default(), folder.path(), "e", SEGMENT).err().unwrap().to_string();
+    assert!(fault.contains("is of format version 1, and this totxegun reads 5 alone"), "{fault}");
+    assert_eq!(std::fs::metadata(&path).unwrap().modified().unwrap(), before);
 }
 
 #[test]
