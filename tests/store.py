@@ -5,11 +5,12 @@
 
 Senders post requests of two resources, and so to two slots, to an instance for so many seconds (30), while it is killed,
 stopped and ended, and the servers of the store are killed, promoted and held; for the second half there are two instances,
-that take slots from each other. Then what senders were told is compared with what the sink has. Skipped without
-PostgreSQL.
+that take slots from each other. Then what senders were told is compared with what the sink has. Rows of slots that the store
+has lost are told of. Skipped without PostgreSQL.
 
 Each line is one check; the last line counts those that passed and failed, and the status is 0 where none failed.
 """
+import json
 import os
 import random
 import signal
@@ -175,8 +176,8 @@ def compare(checks: Checks, instances: Sequence[Service], senders: Sequence[Send
     checks.same("a key brings the same bytes", [], sink.wrong())
 
 
-def load(checks: Checks, program: str, store: Pair, folder: str, seconds: float, seed: float) -> None:
-    chance, sink = random.Random(seed), OtlpSink(seed)
+def load(checks: Checks, program: str, store: Pair, folder: str, seconds: float, seed: float, sink: OtlpSink) -> None:
+    chance = random.Random(seed)
     first, second = (instance(program, folder, name, store, sink) for name in "ab")
     first.start()
     senders = [AtAny([first], number) for number in range(SENDERS)]
@@ -198,8 +199,7 @@ def load(checks: Checks, program: str, store: Pair, folder: str, seconds: float,
                     [first.last_lines(30), second.last_lines(30)])
         compare(checks, [first, second], senders, sink)
         posts, repeats = sum(one.posts for one in senders), sum(one.repeats for one in senders)
-        terms = store.primary.ask("select sum(term) from totxegun_store.slot")
-        print(f"{posts} posts, {repeats} repeats, {terms} terms; {', '.join(done)}", flush=True)
+        print(f"{posts} posts, {repeats} repeats, {terms(store)} terms; {', '.join(done)}", flush=True)
         for one in (first, second):
             status = one.end()[0]
             checks.true("it ends", status == 0, f"status {status}: {one.last_lines(30)}")
@@ -208,12 +208,49 @@ def load(checks: Checks, program: str, store: Pair, folder: str, seconds: float,
     finally:
         for one in (first, second):
             one.kill()
-        sink.close()
+
+
+def terms(store: Pair) -> int:
+    """How often slots were taken."""
+    return int(store.ask("select sum(term) from totxegun_store.slot") or 0)
 
 
 def waiting(service: Service) -> int:
     """How many requests its sink has not taken."""
     return sum(slot["waiting"] for slot in service.status()["slots"])
+
+
+def try_lost_rows(checks: Checks, program: str, store: Pair, folder: str, sink: OtlpSink) -> None:
+    """A slot of which the store has lost rows is not served. It is said why, and it is not taken all the time."""
+    one = instance(program, folder, "c", store, sink)
+    sink.mood(["busy"])
+    one.start()
+    try:
+        checks.true("an instance serves whose sink is busy", one.wait_ready(), one.last_lines())
+        if not one.is_running():
+            return
+        sender = OfTwoSlots(one, SENDERS)
+        sender.post(sender.next_points())
+        checks.true("its requests wait", wait_until(lambda: waiting(one) > 0), one.last_lines())
+        one.kill()
+        outboxes = "select slot, file from totxegun_store.file where name like 'outbox/%'"
+        lost = store.ask(f"with gone as (delete from totxegun_store.piece where (slot, file) in ({outboxes}) returning slot) "
+                         "select count(distinct slot) from gone")
+        one.start()
+
+        def says() -> bool:
+            status = one.status()
+            return status is not None and "instance c can't open it: outbox/" in json.dumps(status)
+
+        checks.true("status says which files have lost something", wait_until(says), one.last_lines())
+        time.sleep(2)
+        before = terms(store)
+        time.sleep(9)
+        # It is tried again after ten seconds, then later and later.
+        taken = terms(store) - before
+        checks.true("it is not taken all the time", taken <= int(lost or 0), f"{taken} times, of {lost} slots")
+    finally:
+        one.kill()
 
 
 def try_repeat_without_its_standby(checks: Checks, program: str, store: Pair, folder: str) -> None:
@@ -247,15 +284,17 @@ def main(words: list[str]) -> int:
     checks = Checks()
     if not checks.has("a store", *[] if initdb() else ["postgresql"]):
         return checks.end()
-    store = Pair()
+    store, sink = Pair(), OtlpSink(seed)
     with tempfile.TemporaryDirectory() as folder:
         try:
             try_starts(checks, program, store, folder)
             store.make_standby()
-            load(checks, program, store, folder, seconds, seed)
+            load(checks, program, store, folder, seconds, seed, sink)
+            try_lost_rows(checks, program, store, folder, sink)
             try_repeat_without_its_standby(checks, program, store, folder)
         finally:
             store.close()
+            sink.close()
     return checks.end()
 
 
