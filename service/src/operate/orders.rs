@@ -68,15 +68,17 @@ async fn report_of(unit: Arc<Unit>) -> Result<String, Answer> {
     }
 }
 
-/// Of an order about a sender: slots that know nothing of it leave the answer to those that do. If none does, that is said.
+/// Of an order about a sender: of a release, slots that know nothing of it leave the answer to those that do. If none does, that is
+/// said.
 fn of_sender(sender: &str, command: &Command, mut all: Vec<(u16, Answer)>) -> Answer {
     let has_failed = |(_, answer): &(u16, Answer)| answer.status >= 500;
     if all.iter().any(has_failed) || !is_sender(sender) {
         return together(&all);
     }
-    all.retain(|(_, answer)| !answer.knows_nothing());
-    if !all.is_empty() {
-        return together(&all);
+    if all.iter().any(|(_, answer)| !answer.knows_nothing()) {
+        all.retain(|(_, answer)| !answer.knows_nothing() || matches!(command, Command::Quarantine(_)));
+        let told = together(&all);
+        return if told.knows_nothing() { Answer::new(told.status, "{}") } else { told };
     }
     let what = match command {
         Command::Lift(_) => "it is not quarantined",

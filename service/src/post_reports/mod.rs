@@ -257,14 +257,15 @@ impl Reporter {
         if due.is_empty() {
             return;
         }
-        let (profile, of_reasons) = (self.options.profile, due.len());
+        let profile = self.options.profile;
+        let reasons: Vec<Reason> = due.iter().map(|(reason, _)| *reason).collect();
         let first_of = move |body: &[u8]| {
             let mut first = BTreeMap::new();
             foreign_points(body, profile, |point| {
-                if let Some(reason) = point.cause {
+                if let Some(reason) = point.cause.filter(|reason| reasons.contains(reason)) {
                     first.entry(reason).or_insert(point);
                 }
-                first.len() == of_reasons
+                first.len() == reasons.len()
             });
             first
         };

@@ -140,7 +140,7 @@ fn another_s_series_can_t_be_taken() {
             "200",
             "{form:?}"
         );
-        let refused = senders.post(&first, "shop-1", &[], form, &form.body("shop-1", 100, 1));
+        let refused = senders.post(&first, "shop-1", &[], form, &form.body("shop-1", 200, 2));
         assert!(refused != "200", "{form:?}: {refused}");
     }
     first.drain();

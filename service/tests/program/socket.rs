@@ -142,7 +142,7 @@ fn a_token_is_taken_over_tcp() {
     assert!(without.contains("give the file that has it by --token FILE"), "{without}");
     let both = ["--operate", &service.operate, "--token", &at("token")];
     let by_token = |words: &[&str]| text(&told(&[words, &both].concat(), ""));
-    assert_eq!(by_token(&["quarantine", "A"]), "done\n");
+    assert!(by_token(&["quarantine", "A"]).starts_with("done: nothing of A is known yet"));
     let acts = || std::fs::read_to_string(place.data().join("acts.jsonl")).unwrap();
     assert!(acts().contains("\"who\":\"ann\",\"act\":\"quarantine\""), "{}", acts());
     // A page that has it is one of somebody else all the same.

@@ -93,10 +93,16 @@ impl PostgresSink {
         let mut session = self.session(&mut place).await?;
         session.owners = Some(self.owners.of(request));
         let taken = within(self.patience, store::take(&mut session, request, sent, term, content)).await;
+        PostgresSink::put_back(session, &mut place, &taken);
+        taken
+    }
+
+    /// Keeps a session whose state is known by what it said.
+    fn put_back<T>(mut session: Session, place: &mut Option<Session>, taken: &Result<T, NotTaken>) {
+        session.owners = None;
         if matches!(taken, Ok(_) | Err(NotTaken::Refused(_))) {
             *place = Some(session);
         }
-        taken
     }
 
     /// The one that is there, or a new one.
@@ -121,9 +127,7 @@ impl PostgresSink {
         let mut session = self.session(&mut place).await?;
         session.owners = all.first().map(|first| self.owners.of(first));
         let taken = within(self.patience, store::take_together(&mut session, all, term, contents)).await;
-        if matches!(taken, Ok(_) | Err(NotTaken::Refused(_))) {
-            *place = Some(session);
-        }
+        PostgresSink::put_back(session, &mut place, &taken);
         taken
     }
 

@@ -176,6 +176,7 @@ async fn an_order_is_carried_out_in_all_slots_and_each_instance_writes_down_who_
     assert_eq!(flushed, (200, r#"{"requests":3}"#.to_string()));
     assert_eq!(both.a.ask("POST", "/quarantine/A").await.0, 200);
     assert_eq!(both.post(20).await, [403, 403]);
+    assert_eq!(both.a.ask("POST", "/flush").await.0, 200, "each slot has series of A then");
     let again = both.b.ask("POST", "/quarantine/A").await;
     assert_eq!(again.0, 400, "all had it: {}", again.1);
     assert_eq!(both.b.ask("POST", "/lift/A").await.0, 200);
