@@ -11,11 +11,12 @@ one; the series may be put back to an earlier end (a rewind, after which what it
 series of the folder, and of another slot with the same epoch, may be put back too.
 
 A sink keeps of the series where it ends, the life (an epoch of a slot) that added to it last, and its floor: above it there is
-nothing but what that life has sent since the series was put back. Of each life it keeps which request put the series back last. In no state has it counted two intervals that overlap, but for what a rewind lets
-count again: what was made and counted before it, and what was made and counted after. Where there is one life, and the series is
-not put back, it takes all. A copy that nobody could see is assumed to send what waits before it puts something aside, or sends a
-letter again; a series is assumed to have nothing that waits, and no letters, when its folder forgets it for its age, and nothing
-that a server's limits put aside after that.
+nothing but what that life has sent since the series was put back. Of each life it keeps which request put the series back last.
+In no state has it counted two intervals that overlap, but for what a rewind lets count again: what was made and counted before
+it, and what was made and counted after. Where there is one life, and the series is not put back, it takes all. A copy that
+nobody could see is assumed to send what waits before it puts something aside, or sends a letter again; a series is assumed to
+have nothing that waits, and no letters, when its folder forgets it for its age, and nothing that a server's limits put aside
+after that.
 
 With all rules kept no state breaks this. Without any one of them some state does, and the shortest way to it is printed: so the
 rule is needed, and the model can see it.

@@ -77,7 +77,8 @@ def statuses() -> str:
         wrong("two statuses have one number")
     consts = "\n".join(f"{about}pub const {name}: u32 = {number};" for about, name, number in found)
     named = ", ".join(name for _, name, _ in found)
-    return f"/// What a call answers with, in `Answer::status` or by itself.\n#[allow(dead_code)]\npub(in crate::core) mod status {{\n{consts}\n" \
+    return "/// What a call answers with, in `Answer::status` or by itself.\n#[allow(dead_code)]\n" \
+        f"pub(in crate::core) mod status {{\n{consts}\n" \
         f"/// All of them.\n#[cfg(test)]\npub const ALL: [u32; {len(found)}] = [{named}];\n}}\n"
 
 
