@@ -176,7 +176,6 @@ async fn an_order_is_carried_out_in_all_slots_and_each_instance_writes_down_who_
     assert_eq!(flushed, (200, r#"{"requests":3}"#.to_string()));
     assert_eq!(both.a.ask("POST", "/quarantine/A").await.0, 200);
     assert_eq!(both.post(20).await, [403, 403]);
-    assert_eq!(both.a.ask("POST", "/flush").await.0, 200, "each slot has series of A then");
     let again = both.b.ask("POST", "/quarantine/A").await;
     assert_eq!(again.0, 400, "all had it: {}", again.1);
     assert_eq!(both.b.ask("POST", "/lift/A").await.0, 200);
@@ -212,7 +211,8 @@ async fn where_an_instance_is_silent_it_is_said_by_slot_what_was_done_and_asked_
     let (status, why) = both.a.ask("POST", "/lift/A").await;
     assert!(status == 503 && why.contains("give the order again"), "{status} {why}");
     both.net.mood("b", Mood::Well);
-    assert_eq!(both.a.ask("POST", "/lift/A").await.0, 400, "it was done");
+    let (status, why) = both.a.ask("POST", "/lift/A").await;
+    assert!(status == 200 && why.contains("it is not quarantined"), "it was done: {status} {why}");
     assert_eq!(both.post(20).await, [200, 200]);
     for (service, slots) in [(&both.a, 2), (&both.b, 1)] {
         let (status, report) = service.ask("GET", "/report").await;
