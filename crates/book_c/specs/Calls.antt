@@ -79,9 +79,9 @@ TellsNotNamed names number old answer =
     ⊎ ((e : TextFault) × (answer ≡ plain (text_status e)) × IsNotNamed names number e)
 
 -- a post was not admitted
-abbrev pub TellsNotAdmitted : (old new : List Journal) → List (Option Part) → Answer → Type 0
-TellsNotAdmitted old new parts answer =
-    (e : DeskFault) × (answer ≡ admit_answer e) × IsNotAdmitted old new parts e
+abbrev pub TellsNotAdmitted : List Journal → List (Option Part) → Answer → Type 0
+TellsNotAdmitted books parts answer =
+    (e : DeskFault) × (answer ≡ admit_answer e) × IsNotAdmitted books parts e
 
 -- the reader has no points
 abbrev pub TellsNoPoints : List (Option Part) → Answer → Type 0

@@ -5,7 +5,7 @@ ghost use Rattle.book_desk.specs.Ends.{IsEndedBy};
 ghost use Rattle.book_desk.specs.Holds.{Holds, Releases, hold_refusal, is_held_in};
 ghost use Rattle.book_desk.specs.Crossings.{IsCrossing};
 ghost use Rattle.book_desk.specs.EndRanges.{IsRangeOf, ends_of};
-ghost use Rattle.book_desk.specs.Posts.{Keeps, Rests};
+ghost use Rattle.book_desk.specs.Posts.{Keeps};
 ghost use Rattle.book_desk.specs.Naming.{Extends};
 ghost use Rattle.book_desk.specs.Reads.{IsRead, IsReadBytes, IsPut};
 ghost use Rattle.book_desk.specs.Refusals.{post_refusal};
@@ -161,8 +161,9 @@ pub fn admit(desk: &mut Desk, reader: &mut Reader) -> Answer
     ensures taken { result.status ≡ DONE → Each Keeps desk.old.books.items desk.new.books.items
         reader.old }
     ensures none { result.status ≡ DONE → post_refusal desk.old.books.items reader.old ≡ None }
-    ensures refused { result.status ≢ DONE → TellsNotAdmitted desk.old.books.items
-        desk.new.books.items reader.old result }
+    ensures refused { result.status ≢ DONE → TellsNotAdmitted desk.old.books.items reader.old
+        result }
+    ensures same { result.status ≢ DONE → desk.new.books.items ≡ desk.old.books.items }
     ensures gone { reader.new ≡ [] }
 {
     match desk.admit(reader) {
@@ -172,11 +173,10 @@ pub fn admit(desk: &mut Desk, reader: &mut Reader) -> Answer
 }
 
 pub fn try_admit(desk: &mut Desk, reader: &mut Reader) -> Answer
-    ensures rests { result.status ≡ DONE → Each Rests desk.old.books.items desk.new.books.items
-        reader.old }
     ensures none { result.status ≡ DONE → post_refusal desk.old.books.items reader.old ≡ None }
-    ensures refused { result.status ≢ DONE → TellsNotAdmitted desk.old.books.items
-        desk.new.books.items reader.old result }
+    ensures refused { result.status ≢ DONE → TellsNotAdmitted desk.old.books.items reader.old
+        result }
+    ensures same { desk.new.books.items ≡ desk.old.books.items }
     ensures gone { reader.new ≡ [] }
 {
     match desk.try_admit(reader) {

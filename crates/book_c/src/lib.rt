@@ -13,11 +13,11 @@ ghost use Rattle.book_desk.specs.Each.{Each, EachBook};
 ghost use Rattle.book_desk.specs.EndRanges.{IsRangeOf, ends_of};
 ghost use Rattle.book_desk.specs.Ends.{IsEndedBy};
 ghost use Rattle.book_desk.specs.Holds.{Holds, Releases, hold_refusal, is_held_in};
-ghost use Rattle.book_desk.specs.Posts.{Keeps, Rests};
+ghost use Rattle.book_desk.specs.Posts.{Keeps};
 ghost use Rattle.book_desk.specs.Naming.{Extends};
 ghost use Rattle.book_desk.specs.Reads.{IsRead, IsReadBytes, IsPut};
 ghost use Rattle.book_desk.specs.Refusals.{post_refusal};
-ghost use Rattle.book_desk.specs.Rounds.{IsClosedAlone};
+ghost use Rattle.book_desk.specs.Rounds.{IsClosedAlone, most_entries};
 ghost use Rattle.book_desk.specs.Takes.{Takes, IsTakenAlone, count, take_all_refusal};
 ghost use Rattle.book_desk.specs.Written.{IsForwarded, IsReported, all_series};
 ghost use Rattle.book_c.specs.Answers.{counts_of, written_of, left_of, range_of};
@@ -333,7 +333,7 @@ pub extern "C" fn desk_free(alloc: Global, desk: &mut Handle)
 }
 
 /// Admits what the reader has read, which is gone from it then: all books have their parts,
-/// confirmed, or none has.
+/// confirmed, or each is as it was.
 #[unsafe(no_mangle)]
 pub extern "C" fn desk_admit(
     alloc: Global,
@@ -350,7 +350,8 @@ pub extern "C" fn desk_admit(
     ensures none { out.new.status ≡ DONE → post_refusal (books_of desk.old.kept)
         (parts_of reader.old.kept) ≡ None }
     ensures refused { out.new.status ≢ DONE → TellsNotAdmitted (books_of desk.old.kept)
-        (books_of desk.new.kept) (parts_of reader.old.kept) out.new }
+        (parts_of reader.old.kept) out.new }
+    ensures same { out.new.status ≢ DONE → books_of desk.new.kept ≡ books_of desk.old.kept }
     ensures gone { parts_of reader.new.kept ≡ [] }
 {
     let mut kept = out_of(alloc, desk);
@@ -367,19 +368,18 @@ pub extern "C" fn desk_admit(
 }
 
 /// Answers what `desk_admit` would; what was read is gone from the reader, and each book is as it
-/// was, or as if its part had never come.
+/// was.
 #[unsafe(no_mangle)]
 pub extern "C" fn desk_try(alloc: Global, desk: &mut Handle, reader: &mut Handle, out: &mut Answer)
     requires desk { HasDesk desk.old }
     requires reader { HasReader reader.old }
     ensures desk { HasDesk desk.new }
     ensures reader { HasReader reader.new }
-    ensures rests { out.new.status ≡ DONE → Each Rests (books_of desk.old.kept)
-        (books_of desk.new.kept) (parts_of reader.old.kept) }
     ensures none { out.new.status ≡ DONE → post_refusal (books_of desk.old.kept)
         (parts_of reader.old.kept) ≡ None }
     ensures refused { out.new.status ≢ DONE → TellsNotAdmitted (books_of desk.old.kept)
-        (books_of desk.new.kept) (parts_of reader.old.kept) out.new }
+        (parts_of reader.old.kept) out.new }
+    ensures same { books_of desk.new.kept ≡ books_of desk.old.kept }
     ensures gone { parts_of reader.new.kept ≡ [] }
 {
     let mut kept = out_of(alloc, desk);
@@ -714,6 +714,23 @@ pub extern "C" fn desk_close_round(
     let is_closed = books.close_round(i, entries);
     put_back(desk, kept);
     is_closed
+}
+
+/// How many entries the longest of the books' journals has.
+#[unsafe(no_mangle)]
+pub extern "C" fn desk_entries(alloc: Global, desk: &mut Handle) -> usize
+    requires { HasDesk desk.old }
+    ensures desk { HasDesk desk.new }
+    ensures entries { result ≡ most_entries (books_of desk.old.kept) }
+    ensures same { desk.new.kept ≡ desk.old.kept }
+{
+    let kept = out_of(alloc, desk);
+    let Kept::Desk(books) = &*kept else {
+        unreachable!()
+    };
+    let entries = books.entries();
+    put_back(desk, kept);
+    entries
 }
 
 /// How many series all books have.

@@ -1,6 +1,6 @@
 -- A call on the first of a list, and on the rest.
 use Rattle.std.proofs.Common.{◌≡◌, ◌<◌, ◌-◌, ◌+◌, List, [], ◌∷◌, length, get_or, set, take, drop}
-use Rattle.std.proofs.Common.{sym, subst, arith, rules, ap, suc}
+use Rattle.std.proofs.Common.{sym, subst, arith, rules, ap, suc, ◌∙◌}
 use Rattle.std.specs.List.{All}
 use Rattle.std.proofs.lemmas.List.{take_rest}
 use Rattle.std.proofs.lemmas.Slice.{overwrites}
@@ -72,6 +72,24 @@ each_rest {P = P} R (o ∷ os) ys (p ∷ ps) b d q f l e r rs =
           (take (length (set (o ∷ os) 0 b) - 1) (drop 1 (set (o ∷ os) 0 b))) ys qs)
           (rest_after ps p q) rs),
     )
+
+-- where neither the first nor the rest changes in the end
+pub same_first : (os ys : List Journal) (b n d : Journal) → 0 < length os → n ≡ get_or os 0 d
+    → ys ≡ take (length (set os 0 b) - 1) (drop 1 (set os 0 b))
+    → set (put_mid 1 (length (set os 0 b) - 1) (set os 0 b) ys) 0 n ≡ os
+same_first [] ys b n d l e s = absurd (omega arith)
+same_first (o ∷ os) ys b n d l e s =
+    let r : ys ≡ os = s ∙ rest_after os o b in
+    ap (λ (zs : List Journal). set zs 0 n) (put_rest os ys o b) ∙ cc
+
+-- the same where the first is not written again
+pub same_rest : (os ys : List Journal) (b d : Journal) → 0 < length os → b ≡ get_or os 0 d
+    → ys ≡ take (length (set os 0 b) - 1) (drop 1 (set os 0 b))
+    → put_mid 1 (length (set os 0 b) - 1) (set os 0 b) ys ≡ os
+same_rest [] ys b d l e s = absurd (omega arith)
+same_rest (o ∷ os) ys b d l e s =
+    let r : ys ≡ os = s ∙ rest_after os o b in
+    put_rest os ys o b ∙ cc
 
 -- of none
 pub each_none : {P : Type 0} (R : Journal → Journal → P → Type 0) (os : List Journal) (ps : List P)

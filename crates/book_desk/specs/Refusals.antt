@@ -11,8 +11,6 @@ use Rattle.delta_book.specs.declared.faults.AdmitFault.TheVariants.{TooLarge, No
 use Rattle.book_desk.specs.declared.part.Part.{Part}
 use Rattle.book_desk.specs.declared.desk.DeskFault.{DeskFault}
 use Rattle.book_desk.specs.declared.desk.DeskFault.TheVariants.{Nothing, Refused}
-use Rattle.book_desk.specs.Each.{Each}
-use Rattle.book_desk.specs.Posts.{Rests}
 
 -- in this order: the sender, the room, a point, the number of series, a sum, memory
 abbrev pub rank : AdmitFault → ℕ
@@ -66,9 +64,7 @@ abbrev pub GoesBy : (answer refusal : Option AdmitFault) → Type 0
 GoesBy None refusal = refusal ≡ None
 GoesBy (Some fault) refusal = fault ≡ unwrap_or refusal NoMemory
 
--- a post is not admitted: nothing was read for so many books, and nothing changes; or it is
--- refused, and each book is as it was, or as if its part had never come
-abbrev pub IsNotAdmitted : (old new : List Journal) → List (Option Part) → DeskFault → Type 0
-IsNotAdmitted old new parts Nothing = (length parts ≢ length old) × (new ≡ old)
-IsNotAdmitted old new parts (Refused fault) =
-    Each Rests old new parts × GoesBy (Some fault) (post_refusal old parts)
+-- why a post is not admitted: nothing was read for so many books, or it is refused
+abbrev pub IsNotAdmitted : List Journal → List (Option Part) → DeskFault → Type 0
+IsNotAdmitted books parts Nothing = length parts ≢ length books
+IsNotAdmitted books parts (Refused fault) = GoesBy (Some fault) (post_refusal books parts)

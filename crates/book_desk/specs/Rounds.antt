@@ -1,5 +1,5 @@
--- What the close of a round does to the books.
-use Rattle.std.specs.Prelude.{◌≡◌, ℕ, ◌<◌, ◌≤◌, List, length, get_or, set, None}
+-- What the close of a round does to the books, and how long their journals are.
+use Rattle.std.specs.Prelude.{◌≡◌, ℕ, ◌<◌, ◌≤◌, List, length, get_or, set, None, fold, max}
 use Rattle.metric_events.specs.Standing.{standing}
 use Rattle.metric_events.specs.Close.{renewed_standing}
 use Rattle.delta_book.specs.Journal.{Journal, history}
@@ -18,3 +18,10 @@ pub record IsClosedAlone (entries i : ℕ) (old new : List Journal) : Type 0 whe
   pub found : i < length old
   pub closed : (d : Journal) → IsClosed entries (get_or old i d) (get_or new i d)
   pub alone : (d : Journal) → new ≡ set old i (get_or new i d)
+
+-- how many entries the longest of the books' journals has
+abbrev pub or_entries : ℕ → Journal → ℕ
+or_entries n book = max n (length book.entries)
+
+abbrev pub most_entries : List Journal → ℕ
+most_entries books = fold or_entries 0 books

@@ -9,11 +9,11 @@ ghost use Rattle.book_desk.specs.Ends.{IsEndedBy, IsNotEnded, AreLeft};
 ghost use Rattle.book_desk.specs.Holds.{Holds, RestsFrom, Releases, HoldFails, hold_refusal};
 ghost use Rattle.book_desk.specs.Holds.{is_held_in};
 ghost use Rattle.book_desk.specs.Crossings.{IsCrossing, NoneCrosses};
-ghost use Rattle.book_desk.specs.Posts.{Keeps, Rests};
+ghost use Rattle.book_desk.specs.Posts.{Keeps};
 ghost use Rattle.book_desk.specs.Takes as takes;
 ghost use Rattle.book_desk.specs.Takes.{Takes, IsNotTaken, take_all_refusal};
 ghost use Rattle.book_desk.specs.Takes.{IsTakenAlone, IsNotTakenAlone};
-ghost use Rattle.book_desk.specs.Rounds.{IsClosedAlone};
+ghost use Rattle.book_desk.specs.Rounds.{IsClosedAlone, most_entries};
 ghost use Rattle.book_desk.specs.Written as written;
 ghost use Rattle.book_desk.specs.Written.{IsReported, IsNotReported, all_series};
 ghost use Rattle.book_desk.specs.Refusals.{post_refusal, IsNotAdmitted};
@@ -25,7 +25,7 @@ use crate::hold::{hold_each, lift_each};
 use crate::none::none_of;
 use crate::post::admit_each;
 use crate::reader::Reader;
-use crate::rounds::close_long;
+use crate::rounds::{close_long, count_entries};
 use crate::take::{take_each, take_one};
 use delta_book::book::Book;
 use delta_book::faults::{AdmitFault, QuarantineFault, TakeFault};
@@ -109,14 +109,14 @@ impl Desk {
     }
 
     /// Admits what the reader has read, which is gone from it then. All books have their parts
-    /// afterwards, confirmed, and nothing else has happened. Or none has: each is as it was, or as
-    /// if its part had never come. The refusal is the one that comes first in the whole post.
+    /// afterwards, confirmed, and nothing else has happened. Or each book is as it was, its journal
+    /// included. The refusal is the one that comes first in the whole post.
     pub fn admit(&mut self, reader: &mut Reader) -> Result<(), DeskFault>
         ensures taken { OnOk result (Each Keeps self.old.books.items self.new.books.items
             reader.old) }
         ensures none { OnOk result (post_refusal self.old.books.items reader.old ≡ None) }
-        ensures refused { IfErr result (λ e. IsNotAdmitted self.old.books.items
-            self.new.books.items reader.old e) }
+        ensures refused { IfErr result (λ e. IsNotAdmitted self.old.books.items reader.old e) }
+        ensures same { OnErr result (self.new.books.items ≡ self.old.books.items) }
         ensures gone { reader.new ≡ [] }
     {
         let mut parts = reader.take_parts();
@@ -130,14 +130,12 @@ impl Desk {
     }
 
     /// Whether all books would take what the reader has read, which is gone from it then: the
-    /// answer is the one that `admit` would give. Each book is as it was, or as if its part had
-    /// never come.
+    /// answer is the one that `admit` would give. Each book is as it was, its journal included.
+    /// Memory may run out, since the parts are put to find out.
     pub fn try_admit(&mut self, reader: &mut Reader) -> Result<(), DeskFault>
-        ensures rests { OnOk result (Each Rests self.old.books.items self.new.books.items
-            reader.old) }
         ensures none { OnOk result (post_refusal self.old.books.items reader.old ≡ None) }
-        ensures refused { IfErr result (λ e. IsNotAdmitted self.old.books.items
-            self.new.books.items reader.old e) }
+        ensures refused { IfErr result (λ e. IsNotAdmitted self.old.books.items reader.old e) }
+        ensures same { self.new.books.items ≡ self.old.books.items }
         ensures gone { reader.new ≡ [] }
     {
         let mut parts = reader.take_parts();
@@ -301,6 +299,13 @@ impl Desk {
             return false;
         }
         close_long(&mut self.books[i], entries)
+    }
+
+    /// How many entries the longest of the books' journals has.
+    pub fn entries(&self) -> usize
+        ensures { result ≡ most_entries self.now.books.items }
+    {
+        count_entries(&self.books)
     }
 
     /// How many series all books have.

@@ -1,6 +1,6 @@
-//! Closes the round of a book.
+//! Closes the round of a book, and says how long the rounds' journals are.
 ghost use Rattle.std.specs.Prelude.{◌≡◌, true, false};
-ghost use Rattle.book_desk.specs.Rounds.{IsClosed};
+ghost use Rattle.book_desk.specs.Rounds.{IsClosed, most_entries};
 
 use delta_book::book::Book;
 
@@ -13,4 +13,16 @@ pub fn close_long(book: &mut Book, entries: usize) -> bool
         return false;
     }
     book.close_round().is_ok()
+}
+
+/// How many entries the longest of the books' journals has.
+#[tactic(auto, using(std::proofs::lemmas::List::Sums::fold_more))]
+pub fn count_entries(books: &[Book]) -> usize
+    ensures { result ≡ most_entries books.now }
+{
+    let mut most: usize = 0;
+    for book in books {
+        most = most.max(book.journal().len());
+    }
+    most
 }
