@@ -114,7 +114,7 @@ class Runs:
         service.order_done(f"/close/{NAME}?anyway")
         self.look(folder, 1, (), 0)
         # Also a repeat, whose first answer was lost.
-        service.until(lambda: post(service, FIRST + 100, 7), lambda status, text: status == 200 or b"out of order" in text)
+        service.until(lambda: post(service, FIRST + 100, 7), lambda status, text: (status, text) == (200, b"{}"))
         service.order_done("/flush")
         service.until(lambda: (service.is_drained(), None), lambda is_drained, _: is_drained)
         self.look(folder, 1, (7,), 0)

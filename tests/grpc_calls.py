@@ -88,14 +88,15 @@ def one_point(place: int, value: int = 1, name: str = "calls") -> list[tuple[str
 
 
 def as_over_http(checks: Checks, service: Service, client: Client) -> None:
-    """Calls and posts of the same series: what the one took the other refuses."""
+    """Calls and posts of the same series: what the one took the other knows."""
     first = in_protobuf(one_point(0, 5))
     checks.same("a call is taken", ("OK", b""), client.call(first))
-    found = client.call(first)
-    checks.true("its repeat is refused", found[0] == "INVALID_ARGUMENT" and "out of order" in found[1], found)
+    checks.same("its repeat is answered as the first time", ("OK", b""), client.call(first))
     headers = {"Content-Type": PROTOBUF, "x-sender": "A"}
     status, text = ask(service.listen, "POST", "/v1/metrics", first, headers)
-    checks.true("over HTTP too", status == 400 and b"out of order" in text, (status, text))
+    checks.same("over HTTP too", (200, b""), (status, text))
+    found = client.call(in_protobuf(one_point(0, 6)))
+    checks.true("what is late is refused", found[0] == "INVALID_ARGUMENT" and "out of order" in found[1], found)
     checks.same("a packed call is taken", ("OK", b""),
                 client.call(in_protobuf(one_point(1, 7)), packing=grpc.Compression.Gzip))
     service.order("/flush")
@@ -127,7 +128,7 @@ def broken_off(checks: Checks, service: Service, client: Client, grpc_port: int)
     checks.same("a deadline that passes", "DEADLINE_EXCEEDED", late[0])
     for sender, body in bodies.items():
         found = client.call(body, sender=sender)
-        checks.true(f"the repeat of {sender} is taken, or was", found[0] == "OK" or "out of order" in found[1], found)
+        checks.same(f"the repeat of {sender} is taken, or was", ("OK", b""), found)
     for junk in (b"GET / HTTP/1.1\r\n\r\n", b"PRI * HTTP/2.0\r\n\r\nSM\r\n\r\n" + b"\xff" * 300, os.urandom(5000)):
         with socket.create_connection(("127.0.0.1", grpc_port), 5) as raw:
             raw.settimeout(5)
@@ -146,14 +147,14 @@ def over_kills(checks: Checks, service: Service, client: Client) -> None:
 
     def go_on() -> None:
         for place in range(10, 10 + CALLS):
-            for attempt in range(10_000):
+            for _ in range(10_000):
                 call = client.begin(in_protobuf(one_point(place, 1, "killed")), sender="K", seconds=3)
                 name, text = said(call)
                 answers[name] = answers.get(name, 0) + 1
                 if name == "UNAVAILABLE" and text in ("recovering", "stopping"):
                     details = dict(call.trailing_metadata()).get("grpc-status-details-bin", b"")
                     has_retry_info.append(RETRY_INFO in details)
-                if name == "OK" or (name == "INVALID_ARGUMENT" and attempt and "out of order" in text):
+                if name == "OK":
                     break
                 time.sleep(0.01)
 
@@ -169,7 +170,7 @@ def over_kills(checks: Checks, service: Service, client: Client) -> None:
     calling.join(120)
     checks.true("all calls are answered", not calling.is_alive(), service.last_lines())
     checks.true("who may try again is told when", all(has_retry_info), has_retry_info)
-    expected = {"OK", "UNAVAILABLE", "INVALID_ARGUMENT", "DEADLINE_EXCEEDED", "CANCELLED"}
+    expected = {"OK", "UNAVAILABLE", "DEADLINE_EXCEEDED", "CANCELLED"}
     checks.true(f"no other status over {kills} kills", set(answers) <= expected, answers)
     print(f"note: {answers}, {len(has_retry_info)} with RetryInfo", flush=True)
 
@@ -206,7 +207,7 @@ def given_up_at_the_end(checks: Checks, service: Service, port: int) -> None:
     checks.true("the service is ready again", service.wait_ready(), service.last_lines())
     client = Client(port)
     found = client.call(body, sender="L")
-    checks.true("the repeat is taken, or was", found[0] == "OK" or "out of order" in found[1], found)
+    checks.same("the repeat is taken, or was", ("OK", b""), found)
     client.close()
 
 

@@ -5,7 +5,7 @@
 
 Honest senders post at a steady rate, each post until it is answered, on connections that they keep. For the first quarter of
 the seconds (40, at most two minutes of it) they are alone; for the rest attackers are at work, all of them or those that are
-named (`--only`): posts that are refused for their last point, floods of new series that are refused, floods of cumulative
+named (`--only`): posts of which the last point is refused, of known series and of ever new ones, floods of cumulative
 points, others' series, bodies that come a byte a second or not to their end, gzip of empty members, long bodies and deep ones,
 connections that say nothing, and readers of every page. With --stalls, which needs root, the service's folder is on a file
 system of its own that stands still for a second or two now and then; posts of that time are not timed.

@@ -1,5 +1,5 @@
 #!/usr/bin/env python3
-"""The service answers the same JSON as the bare gateway does, and forwards the same points.
+"""The service answers the same JSON as the bare gateway does, but for what it takes point by point, and forwards the same points.
 
     tests/same_answers.py TOTXEGUN GATEWAY [POSTS] [SEED]
 
@@ -10,6 +10,11 @@ type, what is no JSON, deep nesting, names that are none; and now and then a sen
 are flushed. Each answer has to have the same status, the gateway's text, and the same count of foreign points; what
 each flush forwards has to have the same points, of a single book in the same bytes; at the end the reports have the
 same series, owners, frontiers and pending sums. A last part has more series than the service may have.
+
+What differs, and why (`DIFFERENT`): a post that the gateway refuses for one of its series the service takes but for the points
+that their series refuse, since one wrong clock may not cost others their points; and what it has taken before it answers as the
+first time, since else nobody could tell it from a loss. What it has to take is asked of the gateway point by point, which then
+has the same.
 
 The service's texts may go on where the gateway's end: with the causes of foreign points, with a series, with a limit. Where it
 reads JSON by the protobuf mapping, its text is another (`wrong shape`, `not JSON`): of these the status alone is compared.
@@ -42,6 +47,10 @@ MOST_SERIES = 8_000
 FLUSH, ORDER, STRANGE, FOREIGN = 400, 20, 12, 6
 DELTA = 1
 OWN_TEXTS = ("not JSON", "wrong shape")
+# What the gateway refuses a whole post for, and what the service says of the points that are refused so.
+DIFFERENT = {"out of order: ": "late, or a duplicate", "other writer: ": "refused alone"}
+# The data of a metric, in the order in which its points are read.
+KINDS = ("gauge", "exponentialHistogram", "summary", "sum", "histogram")
 LINE = re.compile(r"^(series .*) accepted \S+ acknowledged \S+ dropped \S+ in-flight \S+ (stored \S+ quarantined \S+)$")
 
 
@@ -247,6 +256,73 @@ def goes_on(text: str, longer: str) -> bool:
     return longer == text or longer.startswith(f"{text}: ")
 
 
+def is_different(answer: Answer) -> bool:
+    """Whether the gateway refuses a whole post for one of its series."""
+    message = json.loads(answer[1]).get("message", "")
+    return answer[0] == 400 and any(message.startswith(begin) for begin in DIFFERENT)
+
+
+def lists_of(request: dict[str, Any]) -> Iterator[tuple[str, list[Any]]]:
+    """Each list of points, with the name of its metric."""
+    for group in request.get("resourceMetrics") or []:
+        for part in group.get("scopeMetrics") or []:
+            for metric in part.get("metrics") or []:
+                for kind in KINDS:
+                    if metric.get(kind) and metric[kind].get("dataPoints"):
+                        yield json.dumps(metric.get("name")), metric[kind]["dataPoints"]
+
+
+def points_in(body: bytes) -> Iterator[tuple[str, str, bytes]]:
+    """Each point: its metric, what it says, and the request with that point alone."""
+    request = json.loads(body)
+    lists = [(name, points, list(points)) for name, points in lists_of(request)]
+    for _, points, _ in lists:
+        points.clear()
+    for name, points, found in lists:
+        for point in found:
+            points.append(point)
+            yield name, json.dumps(point, sort_keys=True), json.dumps(request).encode()
+            points.clear()
+
+
+class PointByPoint:
+    """What the gateway says of each point of a post by itself, and how many of those that are late are duplicates."""
+
+    def __init__(self) -> None:
+        self.foreign = self.taken = self.refused = 0
+        # At least and at most.
+        self.duplicates = [0, 0]
+
+    def is_answer(self, wanted: Answer, found: Answer) -> bool:
+        if self.taken == 0 and self.duplicates[0] == 0 and found[0] == 400:
+            return goes_on(json.loads(wanted[1])["message"], json.loads(found[1])["message"])
+        if found[0] != 200 or self.taken + self.duplicates[1] == 0:
+            return False
+        rejected = int(json.loads(found[1]).get("partialSuccess", {}).get("rejectedDataPoints", 0)) - self.foreign
+        return self.refused - self.duplicates[1] <= rejected <= self.refused - self.duplicates[0]
+
+
+class Known:
+    """What was taken: of each metric its last post, if that is known for sure, and all its points."""
+
+    def __init__(self) -> None:
+        self.last: dict[str, list[str]] = {}
+        self.all: set[tuple[str, str]] = set()
+
+    def note(self, points: list[tuple[str, str]], is_sure: bool) -> None:
+        self.all |= set(points)
+        for name in {name for name, _ in points}:
+            self.last[name] = [point for one, point in points if one == name] if is_sure else []
+
+    def duplicates(self, late: list[tuple[str, str]]) -> list[int]:
+        """How many of these are duplicates, at least and at most."""
+        least = 0
+        for name in {name for name, _ in late}:
+            of_it = [point for one, point in late if one == name]
+            least += len(of_it) if of_it == self.last.get(name) else 0
+        return [least, sum(one in self.all for one in late)]
+
+
 def points_of(bodies: list[bytes]) -> list[str]:
     """Each point by its series and its span, as it is forwarded."""
     found: list[str] = []
@@ -277,6 +353,7 @@ class Run:
         self.chance = random.Random(f"same answers {seed}")
         self.series = {sender: [Series(self.chance, f"{sender}.{number}") for number in range(SERIES)] for sender in SENDERS}
         self.last: dict[str, bytes] = {}
+        self.known = Known()
         self.answers: collections.Counter[str] = collections.Counter()
         self.wrong: list[tuple[Any, ...]] = []
 
@@ -289,10 +366,34 @@ class Run:
         text = json.loads(wanted[1])
         self.answers[f"{wanted[0]} {re.sub(r'[0-9]+', 'N', text.get('message', 'taken'))}"] += 1
         self.answers["foreign"] += "partialSuccess" in text
+        by_point = self.by_point(body, headers) if is_different(wanted) else None
+        if wanted[0] == 200:
+            self.known.note([(name, point) for name, point, _ in points_in(body)], wanted[1] == b"{}")
         for name, service in self.services.items():
             found = service.post(body, headers)
-            if not is_same(wanted, found):
-                self.wrong.append((name, sender, body[:300], wanted, found))
+            if not (by_point.is_answer(wanted, found) if by_point else is_same(wanted, found)):
+                self.wrong.append((name, sender, body[:300], wanted, found, by_point and vars(by_point)))
+
+    def by_point(self, body: bytes, headers: dict[str, Any]) -> PointByPoint:
+        """Posts each point by itself to the gateway, which has what the service has to take then."""
+        found, taken, late = PointByPoint(), [], []
+        for name, point, single in points_in(body):
+            status, text = self.bare.post(single, headers)
+            if status == 200 and text == b"{}":
+                taken.append((name, point))
+            elif status == 200:
+                found.foreign += 1
+            else:
+                found.refused += 1
+                if b"out of order" in text:
+                    late.append((name, point))
+        found.taken = len(taken)
+        found.duplicates = self.known.duplicates(late)
+        found.duplicates[1] += sum(one in taken for one in late if one not in self.known.all)
+        self.known.note(taken, found.foreign == 0)
+        self.answers["apart"] += found.taken > 0
+        self.answers["duplicates"] += found.duplicates[0]
+        return found
 
     def one(self) -> None:
         """A post of a sender, mostly of its own series."""
@@ -387,7 +488,7 @@ def work(totxegun: str, gateway: str, checks: Checks, stack: contextlib.ExitStac
     run.look("until the service has as many series as it may")
     checks.same("the services found nothing that must not be", [], [it for one in services.values() for it in one.service.faults()])
     expected = ["200 taken", "400 out of order: point N, frontier N", "400 other writer: point N", "403 quarantined", "400 wrong shape",
-                "400 not JSON", "400 bad sender", "foreign", "forwarded points"]
+                "400 not JSON", "400 bad sender", "foreign", "forwarded points", "apart", "duplicates"]
     checks.same("each kind of answer was there", [], [it for it in expected if not run.answers[it]])
     print(f"note: {dict(run.answers)}", flush=True)
 

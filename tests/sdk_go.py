@@ -202,15 +202,12 @@ def compare(checks: Checks, what: str, sink: Any, number: int, folder: str) -> N
     checks.true(f"{what}: there are totals", len(found["totals"]) > 10, found["totals"])
     wrong = [difference(way, found) for way in ways]
     checks.true(f"{what}: the sink has its totals and buckets", [] in wrong, wrong)
-    _, _, in_seconds, temporality = PROGRAMS[number]
+    _, _, in_seconds, _ = PROGRAMS[number]
     if in_seconds:
         wanted = {("http.server.request.duration", "us"), ("worker.busy", "us"), ("worker.ticks", "s")}
         checks.same(f"{what}: doubles are in the finer unit", wanted, {one for one in units if one[1]})
     checks.same(f"{what}: nothing was rejected", 0, answers["rejected"])
-    # A repeat of what is cumulative is no fault.
-    may_be_late = temporality == DELTA
-    surprises = [answer for answer in answers["answers"]
-                 if answer not in EXPECTED and not (may_be_late and "out of order" in answer)]
+    surprises = [answer for answer in answers["answers"] if answer not in EXPECTED]
     checks.same(f"{what}: no answer surprises", ([], 0), (surprises, answers["gave_up"]))
     print(f"note: {what}: {answers['answers']}", flush=True)
 

@@ -18,7 +18,7 @@ each way has each EVERY-th call alone, from another one on than the way before, 
     after which the power is lost. Where none comes it is lost five seconds later.
 Then the service is started without the library, and the run goes on where it was: each sender repeats what was not
 answered, each order is given again. At the end the sink, a SQLite file, has each point once that a sender was told is
-taken, and refused none that it has already; late repeats are refused, and the service has found nothing that must not be.
+taken, and answers what it has already as the first time, late repeats too; and the service has found nothing that must not be.
 
 Others, of each sixth of such calls and in the ways in which no power is lost, are with `--durable process`.
 A last run forgets what was synced, and has to fail: so a loss of power is seen.
@@ -36,7 +36,7 @@ import time
 from collections.abc import Iterator, Sequence
 
 from testing import TESTS
-from testing.service import OUT_OF_ORDER, Sender, Service, SqliteSink, Value, add_points, differences, overlaps, told_to_all, wait_until
+from testing.service import Sender, Service, SqliteSink, Value, add_points, differences, is_whole, overlaps, told_to_all, wait_until
 from tooling.files import content
 
 WAYS = ("before", "middle", "behind", "ENOSPC", "EIO", "cut", "torn", "twice", "late", "held")
@@ -223,7 +223,7 @@ class Run:
         add_points(found, points)
         wrong = differences(told_to_all(self.senders.values()), found) or overlaps(points) or self.service.faults()
         repeats = [sender.late_repeat() for sender in self.senders.values()]
-        wrong = wrong or [str(repeat) for repeat in repeats if repeat[0] != 400 or OUT_OF_ORDER not in repeat[1]]
+        wrong = wrong or [str(repeat) for repeat in repeats if not is_whole(repeat)]
         wrong = wrong or [f"the sink refused {letter}" for letter in os.listdir(f"{self.data}/dead")]
         if wrong:
             raise Failed(str(wrong))

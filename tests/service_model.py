@@ -11,11 +11,11 @@ In a search of its own the outbox has x ahead of its time, as a wrong clock has 
 once he was told so. Faults come at any place: the service is killed, the power is lost, a write of the outbox fails.
 
 In each state in which nothing is on its way:
-  - a post whose sender was told that it is taken (200, or `out of order` to a repeat) counts exactly once: in the sink,
+  - a post whose sender was told that it is taken (200, also as a duplicate) counts exactly once: in the sink,
     in the outbox, or in the books, which have what the journal has;
   - a post whose sender was told that it is refused (`other writer`) does not count;
   - any other post counts once or not at all, and all of its points do or none;
-  - a late repeat of a post that was taken is refused.
+  - a late repeat of a post that was taken is a duplicate: it is left out.
 
 And in each state what is pending of a series, and each request, is of one hour, and requests have a series' points in order.
 
@@ -51,7 +51,7 @@ class Rules:
 
     # A sender is answered 200 once the record of its post is synced.
     answer_waits_for_journal: bool = True
-    # A refusal waits for all records before it: a repeat's `out of order` says that the first attempt is there for good.
+    # A refusal waits for all records before it, and so does what is said of a duplicate: that the first attempt is there for good.
     refusal_waits_for_journal: bool = True
     # A post is admitted and confirmed, and has its place in the journal's queue, in one step under the lock.
     admission_and_place_are_one_step: bool = True
@@ -300,7 +300,7 @@ def answer_of(books: Books, post: int) -> int | None:
     for series, (start, _) in spans.items():
         known = books.series[series]
         if known and start < known[1]:
-            # `out of order`: senders send in order, so a repeat alone is told this, and it means that it is there.
+            # A duplicate: senders send in order, so a repeat alone is out of order, and is answered as the first time.
             return None
     return Told.TAKEN
 

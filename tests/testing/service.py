@@ -24,7 +24,8 @@ DELTA = 1
 SECONDS = 60
 BOUNDS = [1, 5, 25]
 JSON, PROTOBUF = "application/json", "application/x-protobuf"
-OUT_OF_ORDER = b"out of order"
+# What is answered where all points are taken, now or before: in JSON, and in protobuf.
+WHOLE = (b"{}", b"")
 # Answers after which a post is repeated.
 AGAIN = (403, 429, 502, 503, 504)
 # Of a monotonic sum a whole number, of a histogram (buckets, sum); a point's name, start, end and value.
@@ -369,9 +370,8 @@ class Sender:
         body, headers = self.encoded(points)
         for attempt in range(1_000_000):
             status, text = self.try_once(body, headers)
-            is_taken = status == 200 or (status == 400 and OUT_OF_ORDER in text and attempt > 0)
-            if is_taken:
-                if b"points outside the profile" in text:
+            if status == 200:
+                if text not in WHOLE:
                     self.surprises.append((status, text))
                 self.note(points, (body, headers))
                 return True
@@ -398,11 +398,16 @@ class Sender:
             if time.monotonic() > until:
                 raise TimeoutError(f"a repeat of the last post of {self.name} is not answered within {SECONDS} s: {answer}")
             time.sleep(0.1)
-        return 400, OUT_OF_ORDER
+        return 200, WHOLE[0]
 
     def close(self) -> None:
         if self.connection is not None:
             self.connection.close()
+
+
+def is_whole(answer: Answer) -> bool:
+    """Whether all points are taken, now or before."""
+    return answer[0] == 200 and answer[1] in WHOLE
 
 
 class Bursts:

@@ -57,6 +57,8 @@ struct Explanation {
     answer: Option<String>,
     taken: usize,
     foreign: usize,
+    /// The places of points that begin before one of their series ends that is ahead of them.
+    late: Vec<usize>,
     rounded: BTreeMap<String, Rounding>,
     points: Vec<Explained>,
 }
@@ -106,7 +108,7 @@ fn found(
     let (body, profile, window) = (&prepared.body, reading.profile, clock.window());
     let points = otlp::explained(body, profile, window).context("refused with 400: wrong shape")?;
     let foreign = points.iter().filter(|point| point.foreign.is_some()).count();
-    let outcome = otlp::answered(body, profile, window).context("refused with 400: wrong shape")?;
+    let (outcome, late) = otlp::answered(body, profile, window).context("refused with 400: wrong shape")?;
     let outcome = with_twice(outcome, body, profile).with(&prepared.rounded);
     Ok(Explanation {
         encoding: match encoding {
@@ -121,19 +123,24 @@ fn found(
         bytes,
         status: outcome.status(),
         answer: outcome.message(),
-        taken: if outcome.reason().is_some() { 0 } else { points.len() - foreign },
+        taken: points.len() - foreign - late.len(),
         foreign,
+        late,
         rounded: prepared.rounded.by_rule.into_iter().collect(),
         points,
     })
 }
 
-/// What a refusal for a point says beside its own words.
-fn with_twice(outcome: Outcome, body: &[u8], profile: Profile) -> Outcome {
-    let Outcome::Refused(rejection) = outcome else { return outcome };
-    let at = rejection.point.and_then(|point| Some((point.place, point.frontier?)));
-    let more = at.and_then(|at| of_twice(body, profile, at));
-    rejection.and(&more.unwrap_or_default()).into()
+/// What is said of a point that is refused, beside its own words.
+fn with_twice(mut outcome: Outcome, body: &[u8], profile: Profile) -> Outcome {
+    if let Outcome::Taken { parts, .. } = &mut outcome {
+        for (_, rejection) in parts {
+            let at = rejection.point.and_then(|point| Some((point.place, point.frontier?)));
+            let more = at.and_then(|at| of_twice(body, profile, at));
+            rejection.message += &more.unwrap_or_default();
+        }
+    }
+    outcome
 }
 
 fn refused(refused: Refused) -> anyhow::Error {
@@ -204,11 +211,11 @@ fn text(found: &Explanation) -> String {
         return text;
     }
     let mut table = Table::new(&["", "kind", "metric", "attributes", "why"]);
-    for point in &found.points {
+    for (place, point) in found.points.iter().enumerate() {
         let said = match point.foreign {
             Some(_) => "foreign",
-            None if found.status == 200 => "taken",
-            None => "refused",
+            None if found.late.contains(&place) => "refused",
+            None => "taken",
         };
         let why = point.foreign.as_deref().unwrap_or("");
         table.row(&[said, point.kind, &point.metric, &point.attributes, why]);
@@ -244,28 +251,35 @@ mod tests {
         assert!(lines[5].contains("gauges are not added up"), "{text}");
     }
 
-    /// Of six points, one of which begins before another of its series ends, none is taken.
+    /// Of six points: one that begins before another of its series ends is left out.
     #[test]
-    fn a_body_that_is_refused_whole_has_no_point_taken() {
-        let point = |number: u32| {
+    fn a_point_that_its_body_has_before_is_no_point_taken() {
+        let point = |(series, value): &(u32, u32)| {
             format!(
-                r#"{{"startTimeUnixNano":"1","timeUnixNano":"9","asInt":"5","attributes":[{{"key":"n","value":{{"intValue":"{number}"}}}}]}}"#
+                r#"{{"startTimeUnixNano":"1","timeUnixNano":"9","asInt":"{value}","attributes":[{{"key":"n","value":{{"intValue":"{series}"}}}}]}}"#
             )
         };
-        let of = |points: &[u32]| {
-            let points = points.iter().map(|number| point(*number)).collect::<Vec<_>>().join(",");
+        let of = |points: &[(u32, u32)]| {
+            let points = points.iter().map(point).collect::<Vec<_>>().join(",");
             let sum = format!(r#"{{"aggregationTemporality":1,"dataPoints":[{points}]}}"#);
             format!(
                 r#"{{"resourceMetrics":[{{"scopeMetrics":[{{"metrics":[{{"name":"a","sum":{sum}}}]}}]}}]}}"#
             )
         };
-        let found = plain(of(&[0, 1, 2, 3, 1, 5])).unwrap();
+        let explained = |fourth| plain(of(&[(0, 5), (1, 5), (2, 5), (3, 5), fourth, (5, 5)])).unwrap();
+        let found = explained((1, 6));
         let told = text(&found);
-        assert_eq!((found.status, found.taken, found.foreign), (400, 0, 0));
-        assert!(told.contains("0 points taken, 0 foreign\nanswered 400: out of order: point 4, frontier 9: the post has `a`"), "{told}");
-        assert!(told.contains("twice over one time") && told.matches("\nrefused ").count() == 6, "{told}");
-        let found = plain(of(&[0, 1, 2, 3, 4, 5])).unwrap();
-        assert_eq!((found.status, found.taken, text(&found).contains("\nanswered 200\n")), (200, 6, true));
+        assert_eq!((found.status, found.taken, found.foreign), (200, 5, 0));
+        assert!(told.contains("5 points taken, 0 foreign\nanswered 200: 1 point is refused: out of order: point 4, frontier 9: the post has `a`"), "{told}");
+        assert!(told.contains("twice over one time") && told.matches("\nrefused ").count() == 1, "{told}");
+        // The second one is equal to the one ahead of it, and a duplicate; or it is of another series.
+        for fourth in [(1, 5), (4, 5)] {
+            let found = explained(fourth);
+            assert_eq!(
+                (found.status, found.taken, text(&found).contains("\nanswered 200\n")),
+                (200, 6, true)
+            );
+        }
     }
 
     #[test]

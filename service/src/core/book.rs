@@ -150,7 +150,7 @@ impl Desk {
         asked(|answer| unsafe { desk_admit(&mut self.0, &mut reader.0, answer) })
     }
 
-    /// What `admit` would answer. Each book is as it was, or as if its part had never come; what was read is gone.
+    /// What `admit` would answer. Each book is as it was; what was read is gone.
     pub fn try_admit(&mut self, reader: &mut Reader) -> Answer {
         // SAFETY: both handles are live and lent for this call alone.
         asked(|answer| unsafe { desk_try(&mut self.0, &mut reader.0, answer) })
@@ -201,6 +201,12 @@ impl Desk {
     pub fn close_round(&mut self, book: usize) -> bool {
         // SAFETY: the handle is live and lent for this call alone.
         memory::with_reserve(|| unsafe { desk_close_round(&mut self.0, book, 1) })
+    }
+
+    /// How many entries the longest of the books' journals has.
+    pub fn entries(&mut self) -> usize {
+        // SAFETY: the handle is live and lent for this call alone.
+        unsafe { desk_entries(&mut self.0) }
     }
 
     pub fn series(&mut self) -> usize {

@@ -17,7 +17,7 @@ impl Book {
 
     /// Of all books, where nobody waits, and only once these have no room: it takes longer than many posts.
     pub(super) fn close_full_rounds(&mut self) {
-        if self.rounds.are_full() {
+        if self.rounds.are_full(self.desk.entries()) {
             self.close_rounds();
         }
     }
@@ -29,7 +29,7 @@ impl Book {
 
     /// From now on somebody waits, who has to find room. Where there are many points alone rounds are closed as ever, one by one.
     pub fn note_filled(&mut self) {
-        if self.rounds.have_many_entries() {
+        if self.rounds.have_many_posts() {
             self.close_rounds();
         }
     }
@@ -44,7 +44,7 @@ impl Book {
 
     /// Closes the round of a book where nobody posts: whether there is another. Each keeps what came since it began.
     pub fn close_round_at_rest(&mut self) -> bool {
-        if self.earlier.in_flight > 0 || !self.rounds.have_entries() {
+        if self.earlier.in_flight > 0 || self.desk.entries() == 0 {
             return false;
         }
         if self.rounds.being_closed().is_none() {
@@ -56,9 +56,9 @@ impl Book {
         self.rounds.being_closed().is_some()
     }
 
-    /// How much has come to it so far: posts, taken or refused, and ends of what was taken.
+    /// How much has come to it so far: posts, taken, refused or only tried, and ends of what was taken.
     pub fn came(&self) -> u64 {
-        self.rounds.came()
+        self.came
     }
 
     fn close_round(&mut self, book: usize) {

@@ -5,8 +5,13 @@
 
 use super::book::{Desk, Flushes, Reader, MAX_TAKEN};
 use super::refusal::check;
+use super::rounds::have_room_for;
 use super::{memory, Book, Flushed, Read, Refused};
 use crate::files::Points;
+
+/// What one of several stretches of a post may add to a book's journal: the post itself, and as many flushes as 10,000 series
+/// need, each taken and settled.
+const ENTRIES_OF_A_PART: usize = 2 + 2 * 10_000_usize.div_ceil(MAX_TAKEN);
 
 /// What belongs to the next group ahead of what the book has.
 #[derive(Default)]
@@ -51,7 +56,7 @@ impl Book {
             return Ok(());
         }
         let mut crossed = self.cross_books(reader);
-        if self.rounds.have_entries() && crossed.is_err_and(|refused| refused.may_be_cured_by_a_round()) {
+        if self.desk.entries() > 0 && crossed.is_err_and(|refused| refused.may_be_cured_by_a_round()) {
             self.close_rounds();
             crossed = self.cross_books(reader);
         }
@@ -111,11 +116,11 @@ impl Book {
 
     /// Whether the books take all of it: so it is refused whole. Behind that there is room for each part.
     fn try_whole(&mut self, read: &mut Read, parts: usize) -> Result<(), Refused> {
-        let entries = 2 * parts + 1;
-        if !self.rounds.have_room_for(entries) {
+        let entries = ENTRIES_OF_A_PART * parts;
+        if !have_room_for(self.desk.entries(), entries) {
             self.close_rounds();
         }
-        match self.rounds.have_room_for(entries) {
+        match have_room_for(self.desk.entries(), entries) {
             true => self.ask(read, None, Desk::try_admit),
             false => Err(Refused::Full),
         }
@@ -128,6 +133,7 @@ impl Book {
         let stretch = self.across.stretch(end);
         self.cross(read.put(part)?, stretch)?;
         self.ask(read, Some(part), Desk::admit)?;
+        self.rounds.count(part.count() as u64);
         self.earlier.note(stretch);
         Ok(())
     }

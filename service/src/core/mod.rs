@@ -1,7 +1,8 @@
 //! The book: proved, linked in, and asked by calls. `book` is the wrapper over its library, the only file that calls what
 //! is not Rust, `refusal` what it says no by, `memory` what it may have, `names` has numbers for series, `rounds` when rounds are
 //! closed, `close` how, `read` a post that was read, `readers` what reads them, `stretch` which points are of one hour, `earlier`
-//! what is taken where a later one begins, `flushed` what was taken, `out_of_order` where the series of a refused post end.
+//! what is taken where a later one begins, `flushed` what was taken, `point_refusals` which points of a refused post their series refuse, `recent`
+//! what posts had last of each series.
 //!
 //! A post is read by a reader, which needs no lock. All else is asked of the one `Book` under the lock of `Core`: so
 //! there is one order of all that changes it, and what is put into the journal under that lock has the same.
@@ -13,9 +14,10 @@ mod earlier;
 mod flushed;
 mod memory;
 mod names;
-mod out_of_order;
+mod point_refusals;
 mod read;
 mod readers;
+mod recent;
 mod refusal;
 mod rounds;
 mod stretch;
@@ -27,8 +29,10 @@ pub(crate) use book::{allocated, given_back};
 pub use flushed::Flushed;
 pub use memory::{bound as bound_memory, used as memory_used, with_reserve};
 pub use names::Names;
+pub use point_refusals::PointRefusal;
 pub use read::Read;
 pub use readers::{free_idle_readers, free_spare_readers};
+pub use recent::{Changed, Unknown};
 pub use refusal::Refused;
 pub use stretch::Across;
 
@@ -38,6 +42,7 @@ use book::{Answer, Desk, Flushes, Reader, MAX_TAKEN};
 use bytes::Bytes;
 use earlier::Earlier;
 use flushed::copied;
+use recent::RecentPoints;
 use refusal::check;
 use rounds::Rounds;
 use std::sync::{Arc, Mutex, MutexGuard};
@@ -62,9 +67,12 @@ pub struct Book {
     desk: Desk,
     books: usize,
     rounds: Rounds,
+    /// How many calls came so far: see `came()`.
+    came: u64,
     across: Across,
     earlier: Earlier,
     reserve: Arc<memory::Reserve>,
+    recent: RecentPoints,
 }
 
 /// A call of all books with what a reader has.
@@ -153,9 +161,11 @@ impl Book {
             desk: Desk::new(books).ok_or(Refused::NoMemory)?,
             books,
             rounds: Rounds::new(books),
+            came: 0,
             across,
             earlier: Earlier::default(),
             reserve,
+            recent: RecentPoints::default(),
         })
     }
 
@@ -163,6 +173,9 @@ impl Book {
     pub fn admit(&mut self, read: &mut Read) -> Result<(), Refused> {
         let admitted = self.admit_in_turn(read);
         self.close_next_round();
+        if admitted.is_ok() {
+            self.note_recent(read);
+        }
         admitted
     }
 
@@ -183,6 +196,18 @@ impl Book {
         admitted
     }
 
+    /// The book has these points now.
+    fn note_recent(&mut self, read: &Read) {
+        if let (Body::Points(points), Some(names)) = (&read.post.body, read.named()) {
+            self.recent.note(names, points);
+        }
+    }
+
+    /// The same of posts that were put in again, as one or each by itself.
+    pub fn note_recent_again<'p>(&mut self, names: &Arc<Names>, posts: impl Iterator<Item = &'p Points>) {
+        posts.for_each(|points| self.recent.note(names, points));
+    }
+
     fn admit_in_turn(&mut self, read: &mut Read) -> Result<(), Refused> {
         let Some((first, last)) = read.first_and_last() else {
             return Ok(());
@@ -197,6 +222,7 @@ impl Book {
 
     fn admit_whole(&mut self, read: &mut Read, first: u64) -> Result<(), Refused> {
         self.ask(read, None, Desk::admit)?;
+        self.rounds.count(read.points);
         self.earlier.note(first);
         Ok(())
     }
@@ -204,9 +230,10 @@ impl Book {
     /// Asks the books for all that the reader has, which is the whole post or a part of it; and once more after rounds are closed,
     /// if that may help. A part has to go in: half of a post ends the service.
     fn ask(&mut self, read: &mut Read, part: Option<&Points>, call: Ask) -> Result<(), Refused> {
-        let asked = self.ask_once(read, part, call);
+        let asked = self.ask_once(read, call);
         let Err(refused) = asked else { return asked };
-        if !self.rounds.may_cure(refused) && (part.is_none() || !refused.may_be_cured_by_a_round()) {
+        let may_cure = self.rounds.may_cure(refused, self.desk.entries());
+        if !may_cure && (part.is_none() || !refused.may_be_cured_by_a_round()) {
             return asked;
         }
         self.close_rounds();
@@ -214,22 +241,18 @@ impl Book {
             Some(part) => read.put(part)?,
             None => read.again()?,
         };
-        self.ask_once(read, part, call)
+        self.ask_once(read, call)
     }
 
-    /// A refused post counts as a taken one: in each other book it stays until the round is closed.
-    fn ask_once(&mut self, read: &mut Read, part: Option<&Points>, call: Ask) -> Result<(), Refused> {
+    fn ask_once(&mut self, read: &mut Read, call: Ask) -> Result<(), Refused> {
         let reader = read.reader.as_mut().ok_or(Refused::Nothing)?;
         let mut call = || call(&mut self.desk, reader);
-        let asked = check(match read.is_of_known_series {
+        self.came += 1;
+        check(match read.is_of_known_series {
             true => call(),
             false => memory::with_new_series(call),
-        });
-        self.rounds.count(part.map_or(read.points, |part| part.count() as u64));
-        if asked.is_err() {
-            self.rounds.count_refused(read.bytes());
-        }
-        asked.map(drop)
+        })
+        .map(drop)
     }
 
     /// Takes all that may be forwarded, or nothing. Until it is settled no round can be closed.
@@ -302,16 +325,22 @@ impl Book {
     fn end(&mut self, taken: Flushed, end: fn(&mut Desk, &mut Flushes) -> Answer) -> Result<(), Refused> {
         // Each is ended, also after one that says no, which none does.
         let ended = taken.parts.into_iter().map(|(mut flushes, _)| {
-            self.rounds.count(0);
+            self.count_entries();
             let answer = end(&mut self.desk, &mut flushes);
             check(answer).map(drop)
         });
         ended.fold(Ok(()), Result::and)
     }
 
+    /// Something adds entries as a post does, and has no points.
+    fn count_entries(&mut self) {
+        self.came += 1;
+        self.rounds.count(0);
+    }
+
     pub fn quarantine(&mut self, sender: &str) -> Result<(), Refused> {
         let sender = sender.as_bytes();
-        self.rounds.count(0);
+        self.count_entries();
         let mut done = check(self.desk.quarantine(sender));
         if done.is_err_and(|refused| refused.may_be_cured_by_a_round()) {
             self.close_rounds();
@@ -322,7 +351,7 @@ impl Book {
 
     pub fn lift(&mut self, sender: &str) -> Result<(), Refused> {
         self.earlier.note(0); // of whatever stretch it has something
-        self.rounds.count(0);
+        self.count_entries();
         check(self.desk.lift(sender.as_bytes())).map(drop)
     }
 

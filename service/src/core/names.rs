@@ -34,6 +34,7 @@ pub struct Names {
     /// How many words the last post had beyond those of sums: so the next one's have room at once.
     more: AtomicUsize,
     generation: u64,
+    is_of_one_post: bool,
 }
 
 /// Of each number a request of one point, and how many words say a point, with its number: known once it is asked for, and 0
@@ -69,6 +70,15 @@ impl Named {
 
 impl Names {
     pub fn new() -> Result<Arc<Names>, Refused> {
+        Names::of(false)
+    }
+
+    /// For the series of one post.
+    pub fn of_one_post() -> Result<Arc<Names>, Refused> {
+        Names::of(true)
+    }
+
+    fn of(is_of_one_post: bool) -> Result<Arc<Names>, Refused> {
         let handle = book::Names::new().ok_or(Refused::NoMemory)?;
         Ok(Arc::new(Names {
             handle: Mutex::new(handle),
@@ -76,7 +86,13 @@ impl Names {
             is_closed: AtomicBool::new(false),
             more: AtomicUsize::new(0),
             generation: GENERATIONS.fetch_add(1, Relaxed),
+            is_of_one_post,
         }))
+    }
+
+    /// Whether no other post has these numbers.
+    pub fn are_of_one_post(&self) -> bool {
+        self.is_of_one_post
     }
 
     /// Whether no series gets a number any more.
@@ -225,6 +241,13 @@ impl Names {
         let named = self.named();
         let lengths = numbers.filter_map(|number| named.texts.length(usize::try_from(number).ok()?));
         lengths.sum()
+    }
+
+    /// A request of one point of the series of a number; none where it is not kept and there is no memory for it.
+    pub fn text_if_room(&self, number: u64) -> Option<Bytes> {
+        let kept = usize::try_from(number).ok().and_then(|number| self.named().texts.get(number));
+        let text = kept.or_else(|| text_of(&mut self.handle(), number).ok());
+        text.map(Bytes::from)
     }
 
     /// A request that is not kept. A start that goes on without one has not what the series' run had come to, and the next point

@@ -196,6 +196,19 @@ impl Read {
         }
     }
 
+    /// Whether it was read from a body: the points that it has by number may be in another order then.
+    pub fn is_of_body(&self) -> bool {
+        self.source.is_some()
+    }
+
+    /// Has these points by number alone, of those that it has, and is read again.
+    pub fn keep(&mut self, points: Points) -> Result<(), Refused> {
+        self.source = None;
+        self.post.body = Body::Points(points);
+        self.stretches.clear();
+        self.be_read()
+    }
+
     /// Whether it was read from protobuf as it came.
     #[cfg(test)]
     pub(crate) fn is_of_protobuf(&self) -> bool {

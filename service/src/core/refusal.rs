@@ -122,6 +122,11 @@ impl Refused {
         }
     }
 
+    /// Whether it is for the series of some points, and others of the same post may be taken.
+    pub fn is_of_series(self) -> bool {
+        matches!(self, Refused::OtherWriter { .. } | Refused::OutOfOrder { .. })
+    }
+
     /// Whether the same may be taken once a round is closed: its entries are gone then, and sums begin anew.
     pub(super) fn may_be_cured_by_a_round(self) -> bool {
         matches!(self, Refused::Full | Refused::TooLarge | Refused::NoMemory)

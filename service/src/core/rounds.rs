@@ -10,12 +10,11 @@ const MOST_POSTS: usize = 16_000;
 const SERIES_FOR_A_POST: usize = 5;
 const LEAST_POINTS: usize = 50_000;
 const POINTS_FOR_A_SERIES: usize = 20;
-/// And after so many bytes of refused posts. Nothing else has the series that these name, so a point takes many times what one of
-/// a known series does.
-const MOST_REFUSED: u64 = 16 << 20;
-/// A post takes two places of a book's journal, also one that another book refuses, and so does what is taken of it and ended: there
-/// are so many, and some more.
-const MOST_ENTRIES: u64 = 30_000;
+/// A book takes nothing that it may have to end without room for that in its journal of 65,536 entries: these are for
+/// what comes, the others for the end of what is open, in flight or quarantined.
+const MOST_ENTRIES: usize = 60_000;
+/// What a post adds to the journal of each book that it touches.
+const ENTRIES_OF_A_POST: usize = 2;
 /// While what was taken is live no round can be closed: it is tried again after so many posts.
 const POSTS_UNTIL_ANOTHER_TRY: u64 = 500;
 /// All books are closed within this part of the way to when it is begun again.
@@ -23,24 +22,19 @@ const PART: u64 = 2;
 /// Where there is no memory they are closed after this part of it.
 const WORTH: u64 = 10;
 
+/// What a refused post would have added is in no journal, so only what was taken counts here.
 pub(super) struct Rounds {
     books: usize,
-    /// Since it was begun to close them: posts, taken or refused, and ends of what was taken.
-    entries: u64,
+    /// Posts that were taken since it was begun to close the rounds, and ends of what was taken.
+    posts: u64,
     points: u64,
-    /// Bytes of refused posts.
-    refused: u64,
-    /// Entries before: a book that could not be closed has them still.
-    before: u64,
     /// When that is begun again.
-    most_entries: u64,
+    most_posts: u64,
     most_points: u64,
     /// The book that is closed next, while they are being closed, and whether all before it are empty.
     next: Option<(usize, bool)>,
     /// How many were closed, and nobody was told.
     closed: usize,
-    /// All entries so far.
-    came: u64,
 }
 
 /// What came of closing the round of a book.
@@ -57,46 +51,29 @@ impl Rounds {
     pub fn new(books: usize) -> Rounds {
         Rounds {
             books,
-            entries: 0,
+            posts: 0,
             points: 0,
-            refused: 0,
-            before: 0,
-            most_entries: LEAST_POSTS as u64,
+            most_posts: LEAST_POSTS as u64,
             most_points: LEAST_POINTS as u64,
             next: None,
             closed: 0,
-            came: 0,
         }
     }
 
-    /// Whether a round may have anything: also one that has not come up yet of those that are being closed.
-    pub fn have_entries(&self) -> bool {
-        self.entries > 0 || self.next.is_some()
-    }
-
-    /// Whether a post that was refused, and counted, may be taken once they are closed. It takes long, so not for a little memory.
-    pub fn may_cure(&self, refused: Refused) -> bool {
+    /// Whether a post that was refused may be taken once they are closed, the longest journal having so many entries. It takes
+    /// long, so not for a little memory.
+    pub fn may_cure(&self, refused: Refused, entries: usize) -> bool {
         match refused {
             Refused::NoMemory => self.next.is_some() || self.are_past(1, WORTH),
-            Refused::Full | Refused::TooLarge => self.before + self.entries > 1 || self.next.is_some(),
+            Refused::Full | Refused::TooLarge => entries > 0,
             _ => false,
         }
     }
 
-    /// Whether each book has room for so many entries more.
-    pub fn have_room_for(&self, more: usize) -> bool {
-        self.before + self.entries + more as u64 <= MOST_ENTRIES
-    }
-
+    /// A post of so many points was taken, or what was taken is ended.
     pub fn count(&mut self, points: u64) {
-        self.came += 1;
-        self.entries += 1;
+        self.posts += 1;
         self.points += points;
-    }
-
-    /// A refused post was counted that has so many bytes.
-    pub fn count_refused(&mut self, bytes: usize) {
-        self.refused += bytes as u64;
     }
 
     /// The book whose round is to be closed after this post.
@@ -116,22 +93,20 @@ impl Rounds {
     /// Whether this part of the way is behind them to where it is begun again.
     fn are_past(&self, part: u64, of: u64) -> bool {
         let is_past = |count: u64, most: u64| of * count >= part * most;
-        is_past(self.entries, self.most_entries)
-            || is_past(self.points, self.most_points)
-            || is_past(self.refused, MOST_REFUSED)
+        is_past(self.posts, self.most_posts) || is_past(self.points, self.most_points)
     }
 
-    /// Whether there is no room for more, or there are as many points as else before the last book is closed: where nobody waits
-    /// all are closed at once, and not before.
-    pub fn are_full(&self) -> bool {
-        let may_be_tried = self.entries >= POSTS_UNTIL_ANOTHER_TRY;
+    /// Whether there is no room for another post where the longest journal has so many entries, or there are as many points as
+    /// else before the last book is closed: where nobody waits all are closed at once, and not before.
+    pub fn are_full(&self, entries: usize) -> bool {
+        let may_be_tried = self.posts >= POSTS_UNTIL_ANOTHER_TRY;
         let most_points = self.most_points + self.most_points / PART;
-        may_be_tried && !self.have_room_for(1) || self.points >= most_points
+        may_be_tried && !have_room_for(entries, ENTRIES_OF_A_POST) || self.points >= most_points
     }
 
-    /// Whether it is time to begin to close them for their entries.
-    pub fn have_many_entries(&self) -> bool {
-        self.entries >= self.most_entries
+    /// Whether it is time to begin to close them for their posts.
+    pub fn have_many_posts(&self) -> bool {
+        self.posts >= self.most_posts
     }
 
     /// Whether it is time to begin to close them.
@@ -142,8 +117,7 @@ impl Rounds {
     /// All of them are to be closed, from the first one on.
     pub fn begin(&mut self) {
         self.next = Some((0, true));
-        self.before += self.entries;
-        (self.entries, self.points, self.refused) = (0, 0, 0);
+        (self.posts, self.points) = (0, 0);
     }
 
     /// What came of the one that was to be closed. There are so many series.
@@ -157,27 +131,26 @@ impl Rounds {
         }
         self.next = None;
         self.last_for(series());
-        match are_empty {
-            true => self.before = 0,
-            false => self.most_entries = POSTS_UNTIL_ANOTHER_TRY,
+        if !are_empty {
+            self.most_posts = POSTS_UNTIL_ANOTHER_TRY;
         }
     }
 
     /// The next ones are as long as so many series need.
     pub fn last_for(&mut self, series: usize) {
         self.most_points = (POINTS_FOR_A_SERIES * series).max(LEAST_POINTS) as u64;
-        self.most_entries = (series / SERIES_FOR_A_POST).clamp(LEAST_POSTS, MOST_POSTS) as u64;
-    }
-
-    /// How many entries came so far.
-    pub fn came(&self) -> u64 {
-        self.came
+        self.most_posts = (series / SERIES_FOR_A_POST).clamp(LEAST_POSTS, MOST_POSTS) as u64;
     }
 
     /// How many were closed since this was asked last.
     pub fn closed(&mut self) -> usize {
         std::mem::take(&mut self.closed)
     }
+}
+
+/// Whether each book has room for so many entries more, the longest journal having so many.
+pub(super) fn have_room_for(entries: usize, more: usize) -> bool {
+    entries + more <= MOST_ENTRIES
 }
 
 #[cfg(test)]
@@ -217,63 +190,32 @@ mod tests {
         assert_eq!(rounds.closed(), 0);
     }
 
-    /// Else a post of several hours begins where it finds no room.
-    #[test]
-    fn a_book_that_can_t_be_closed_has_its_entries_still() {
-        let mut rounds = Rounds::new(3);
-        (0..4_000).for_each(|_| rounds.count(1));
-        for (last, room) in [(Closing::GoesOn, 26_000), (Closing::Empty, 30_000)] {
-            rounds.begin();
-            for closing in [Closing::Closed, Closing::Closed, last] {
-                rounds.note(closing, || 1);
-            }
-            assert_eq!(rounds.being_closed(), None);
-            assert!(rounds.have_room_for(room) && !rounds.have_room_for(room + 1), "{last:?}");
-        }
-    }
-
-    /// The post that begins it has closed the first book alone: a refusal by another may be cured still.
-    #[test]
-    fn what_is_not_closed_yet_has_entries() {
-        let mut rounds = Rounds::new(3);
-        assert!(!rounds.have_entries());
-        assert_eq!(behind(&mut rounds, 4_000, Closing::Closed), [(4_000, 0)]);
-        assert!(rounds.have_entries());
-        assert_eq!(rounds.being_closed(), Some(1), "it may be closed at once");
-    }
-
     #[test]
     fn where_nobody_waits_they_are_as_long_as_there_is_room() {
         let mut rounds = Rounds::new(3);
         rounds.last_for(100_000);
-        let full = (1..).find(|_| {
+        let full = (1..).find(|posts| {
             rounds.count(1);
-            rounds.are_full()
+            rounds.are_full(2 * posts)
         });
         assert_eq!(full, Some(30_000));
         rounds.begin();
-        assert!(!rounds.are_full(), "where none could be closed it is tried again later");
+        assert!(!rounds.are_full(60_000), "where none could be closed it is tried again later");
         rounds.count(2_999_999);
-        assert!(!rounds.are_full() && rounds.are_due() && !rounds.have_many_entries());
+        assert!(!rounds.are_full(2) && rounds.are_due() && !rounds.have_many_posts());
         rounds.count(1);
-        assert!(rounds.are_full(), "as many points as else");
+        assert!(rounds.are_full(4), "as many points as else");
     }
 
-    /// Else what refused posts name takes memory without a bound, and others are refused.
+    /// The post that begins it has closed the first book alone: a refusal by another may be cured still.
     #[test]
-    fn much_that_was_refused_closes_rounds_too() {
-        let mut rounds = Rounds::new(2);
-        let mut refuse = |bytes: u64| {
-            rounds.count(1);
-            rounds.count_refused(bytes as usize);
-            (rounds.may_cure(Refused::NoMemory), rounds.next())
-        };
-        let much = MOST_REFUSED / WORTH;
-        assert_eq!([refuse(much), refuse(1)], [(false, None), (true, None)]);
-        assert_eq!(refuse(MOST_REFUSED - much - 1), (true, Some(0)));
-        rounds.note(Closing::Closed, || 1);
-        rounds.note(Closing::Closed, || 1);
-        assert!(!rounds.may_cure(Refused::NoMemory) && !rounds.have_entries());
+    fn a_refusal_is_cured_where_a_journal_has_anything() {
+        let mut rounds = Rounds::new(3);
+        assert!(!rounds.may_cure(Refused::Full, 0) && !rounds.may_cure(Refused::NoMemory, 2));
+        assert!(rounds.may_cure(Refused::TooLarge, 2) && !rounds.may_cure(Refused::Quarantined, 2));
+        assert_eq!(behind(&mut rounds, 4_000, Closing::Closed), [(4_000, 0)]);
+        assert_eq!(rounds.being_closed(), Some(1), "it may be closed at once");
+        assert!(rounds.may_cure(Refused::NoMemory, 8_000));
     }
 
     #[test]

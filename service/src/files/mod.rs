@@ -27,7 +27,9 @@ pub(crate) use free_space::FreeSpace;
 pub use journal::{
     shared_ends, Body, ByNumber, Held, Journal, Left, Names, NoNames, OfRun, Points, Post, Replayed, Ticket,
 };
-pub use outbox::{Beginning, Outbox, Owned, Runs, Series, UnitOfMetric, Waits};
+pub use outbox::{
+    Beginning, Outbox, Owned, PointsDigest, Recent, Recents, Runs, Series, UnitOfMetric, Waits, POSTS_KNOWN,
+};
 pub use segment::Dropped;
 
 use crate::work::locked;

@@ -14,6 +14,7 @@ mod open;
 mod owned;
 mod parts;
 mod reading;
+mod recent;
 mod rows;
 mod snapshot;
 mod state;
@@ -34,6 +35,7 @@ pub use brought::{Beginning, Waits};
 use changes::Change;
 pub use changes::UnitOfMetric;
 pub use owned::Owned;
+pub use recent::{PointsDigest, Recent, Recents, POSTS_KNOWN};
 use state::{Age, State};
 use std::collections::{BTreeSet, HashMap, HashSet};
 use std::io;
@@ -58,10 +60,12 @@ pub struct Series {
     pub frontier: u64,
     /// Unknown until the journal's posts of its first group were looked through.
     pub owner: Option<Arc<str>>,
-    /// When a group last had a point of it, in seconds since 1970.
-    pub seen: u64,
+    /// When a group last had a point of it, in seconds since 1970: for the next eighty years these have 32 bits.
+    pub seen: u32,
     /// What was last taken of it, where its points are made of cumulative ones.
     pub run: Option<Arc<Run>>,
+    /// What its last points were that came in deltas, by which a repeat is known.
+    pub recent: Recent,
 }
 
 /// The runs of series as they were when a group was taken.
@@ -180,6 +184,23 @@ impl Outbox {
     pub fn frontier(&self, series: &Digest) -> u64 {
         let state = locked(&self.state);
         state.series.get(series).map_or(0, |known| known.series.frontier)
+    }
+
+    /// What its last points were.
+    pub fn recent(&self, series: &Digest) -> Recent {
+        let state = locked(&self.state);
+        state.series.get(series).map_or(Recent::default(), |known| known.series.recent)
+    }
+
+    /// Where the ids of series are others, this is another.
+    pub fn numbering(&self) -> u64 {
+        locked(&self.state).series.numbering()
+    }
+
+    /// The ids of those that are known, and by which numbering.
+    pub fn ids<'d>(&self, series: impl Iterator<Item = &'d Digest>) -> (u64, Vec<Option<u32>>) {
+        let state = locked(&self.state);
+        (state.series.numbering(), series.map(|digest| state.series.id_of(digest)).collect())
     }
 
     pub fn owner(&self, series: &Digest) -> Option<String> {

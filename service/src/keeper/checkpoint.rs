@@ -9,7 +9,7 @@
 
 use super::owners::find_owners;
 use super::{Carried, Keeper, Trouble};
-use crate::core::{Book, Flushed, Refused};
+use crate::core::{Book, Changed, Flushed, Refused, Unknown};
 use crate::files::{Fault, Runs, Ticket};
 use crate::runs::State;
 use crate::slot::Slot;
@@ -26,8 +26,9 @@ pub(super) struct Group {
     next: u64,
     /// For all before the turn.
     turned: Ticket,
-    /// The runs that are in no commit, as they were at the turn.
+    /// The runs that are in no commit, as they were at the turn; and so what posts had last of each series.
     runs: Runs,
+    recents: Changed,
 }
 
 impl Keeper {
@@ -73,8 +74,7 @@ fn checkpoint(slot: &Slot, carried: Vec<Vec<u8>>) -> Result<Carried<u64>, Troubl
     };
     match flushed {
         Ok(group) => {
-            let (requests, saved) = commit(slot, &bodies, group)?;
-            slot.runs.lock().saved(&saved);
+            let requests = commit_and_note(slot, &bodies, group)?;
             slot.outbox.settle()?;
             Ok((Vec::new(), Ok(requests)))
         }
@@ -111,7 +111,7 @@ fn flush(slot: &Slot, bodies: &mut Vec<Vec<u8>>) -> Result<Result<Group, Refused
     let began = Instant::now();
     let runs = slot.runs.lock();
     let mut book = slot.core.lock();
-    let taken = book.take_all().map(|flushed| (flushed, turn(slot, &runs)));
+    let taken = book.take_all().map(|flushed| (flushed, turn(slot, &runs, &mut book)));
     drop(book);
     drop(runs);
     let pause = &slot.metrics.checkpoint_pause_seconds;
@@ -135,20 +135,30 @@ pub(super) fn flush_in_parts(
     bodies: &mut Vec<Vec<u8>>,
 ) -> Result<Group, Refused> {
     book.write_all(bodies)?;
-    Ok(turn(slot, runs))
+    Ok(turn(slot, runs, book))
 }
 
 /// Under the lock that took all of the book, and that of the runs: so they are those of the group's posts.
-fn turn(slot: &Slot, runs: &State) -> Group {
+fn turn(slot: &Slot, runs: &State, book: &mut Book) -> Group {
     let (next, turned) = slot.journal.turn();
-    Group { posts: slot.ungrouped(), next, turned, runs: runs.changed() }
+    let (runs, recents) = (runs.changed(), book.changed_recents());
+    Group { posts: slot.ungrouped(), next, turned, runs, recents }
+}
+
+/// As `commit`, for who has no lock: what the outbox has now is noted.
+pub(super) fn commit_and_note(slot: &Slot, bodies: &[Vec<u8>], group: Group) -> Result<u64, Fault> {
+    let (requests, saved, unknown) = commit(slot, bodies, group)?;
+    slot.runs.lock().saved(&saved);
+    let (numbering, ids) = slot.outbox.ids(unknown.digests());
+    slot.core.lock().note_ids(numbering, unknown, ids);
+    Ok(requests)
 }
 
 /// Journal first, then outbox: a group is committed once all its posts are on the disk, and so is what no flush takes. How many
-/// requests it has, and which runs. Where a drive keeps that order by itself, nothing is waited for: who has a lock may call
+/// requests it has, which runs, and of which series the ids are to be asked for. Where a drive keeps that order by itself, nothing is waited for: who has a lock may call
 /// it, and settles the outbox without.
-pub(super) fn commit(slot: &Slot, bodies: &[Vec<u8>], group: Group) -> Result<(u64, Runs), Fault> {
-    let Group { posts, next, turned, runs } = group;
+pub(super) fn commit(slot: &Slot, bodies: &[Vec<u8>], group: Group) -> Result<(u64, Runs, Unknown), Fault> {
+    let Group { posts, next, turned, runs, recents } = group;
     let first = slot.outbox.journal();
     slot.journal.settle(turned);
     let held = slot.outbox.quarantined();
@@ -157,15 +167,16 @@ pub(super) fn commit(slot: &Slot, bodies: &[Vec<u8>], group: Group) -> Result<(u
         slot.journal.hold(&held, first, next)?;
     }
     let requests = bodies.len() as u64;
+    let (recents, unknown) = recents.by_series(slot.outbox.numbering());
     slot.outbox.wait_for_owners();
-    let saved = slot.outbox.commit_with(bodies, next, runs)?;
+    let saved = slot.outbox.commit_with(bodies, next, runs, &recents)?;
     slot.count_grouped(posts);
     slot.metrics.forwarded_requests.inc_by(requests);
     find_owners(slot, first, next)?;
     slot.outbox.owners_are_known();
     slot.journal.forget(next)?;
     slot.metrics.checkpoints.with_label_values(&["done"]).inc();
-    Ok((requests, saved))
+    Ok((requests, saved, unknown))
 }
 
 #[cfg(test)]

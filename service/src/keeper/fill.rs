@@ -228,10 +228,11 @@ impl Fresh<'_> {
 
     /// How many points are foreign.
     fn put(&mut self, again: &mut Again, admit: Admit) -> Result<u64, Refused> {
-        let read = again.as_read()?;
-        admit(self.book, read)?;
+        admit(self.book, again.as_read()?)?;
+        let read = again.was_read()?;
         if let (Body::Points(points), Some(names)) = (&read.post.body, read.named()) {
             self.filled.runs.replay(names, points);
+            self.book.note_recent_again(names, again.posts_of(points));
         }
         Ok(read.post.foreign)
     }

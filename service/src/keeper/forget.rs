@@ -11,7 +11,7 @@ use super::run::AHEAD;
 use super::series::SeriesOfPosts;
 use super::{not_now, Amend, Carried, Done, Keeper, Trouble};
 use crate::core::Refused;
-use crate::files::{nanoseconds, Fault, Runs};
+use crate::files::{nanoseconds, Fault, Recents, Runs};
 use crate::otlp::series::{Digest, SeriesKey};
 use crate::sinks::Rewind;
 use crate::slot::Slot;
@@ -165,7 +165,7 @@ fn amended(slot: &Slot, amend: &Amend) -> Result<Result<(), SeriesKey>, Fault> {
 /// aside before and was posted again since.
 fn tell_sink(slot: &Slot, series: &[SeriesKey], to: u64) -> Result<(), Fault> {
     let requests = Rewind::requests(series, to);
-    slot.outbox.commit_with(&requests, slot.outbox.journal(), Runs::new())?;
+    slot.outbox.commit_with(&requests, slot.outbox.journal(), Runs::new(), &Recents::default())?;
     slot.metrics.forwarded_requests.inc_by(requests.len() as u64);
     Ok(())
 }

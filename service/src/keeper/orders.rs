@@ -1,6 +1,6 @@
 //! What an operator orders.
 
-use super::checkpoint::{commit, flush_in_parts};
+use super::checkpoint::{commit_and_note, flush_in_parts};
 use super::{not_now, Carried, Done, Keeper, Order, Trouble};
 use crate::core::Refused;
 use crate::otlp::Outcome;
@@ -74,8 +74,7 @@ fn quarantine(slot: &Slot, sender: &str) -> Result<Carried<()>, Trouble> {
     drop(book);
     drop(runs);
     if let Some(group) = group {
-        let (_, saved) = commit(slot, &bodies, group)?;
-        slot.runs.lock().saved(&saved);
+        commit_and_note(slot, &bodies, group)?;
     }
     Ok((Vec::new(), done))
 }

@@ -41,6 +41,8 @@ metrics! {
         accepted_points: IntCounterVec = "accepted_points_total" ["sender"], "Points that were taken";
         rejected_points: IntCounterVec = "rejected_points_total" ["sender", "reason"],
             "Points that were not taken, of requests that were, but for those of --expect-foreign";
+        duplicate_points: IntCounterVec = "duplicate_points_total" ["sender"],
+            "Points that were taken before: they are left out, and answered as the first time";
         expected_rejected_points: IntCounterVec = "expected_rejected_points_total" ["reason"],
             "Points that were not taken, as --expect-foreign says";
         pub passed_points: IntCounterVec = "passed_points_total" ["outcome"] of ["taken", "refused", "lost", "dropped"],
@@ -155,6 +157,12 @@ impl Metrics {
         if points > 0 {
             self.count_sender(sender, |accepted| accepted.inc_by(points));
         }
+    }
+
+    /// Counts points that were taken before.
+    pub fn duplicates(&self, sender: &str, points: u64) {
+        let label = if self.has_label(sender) { sender } else { OTHER };
+        self.duplicate_points.with_label_values(&[label]).inc_by(points);
     }
 
     /// Counts points that were not taken, of a request that was.

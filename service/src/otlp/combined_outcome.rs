@@ -1,6 +1,6 @@
 //! One answer of those that the parts of a request got.
 //!
-//! What may be taken once it is sent again makes all of it one to send again: what was taken is refused as a repeat then, so
+//! What may be taken once it is sent again makes all of it one to send again: what was taken is left out then as a duplicate, so
 //! nothing counts twice, and nothing is dropped. Else the request counts as taken where any part was: a sender that is told
 //! that all of it is refused would take its own repeat for lost. Points of refused parts are among the rejected then.
 
@@ -105,23 +105,31 @@ impl Whole<'_> {
         let (mut not_fit, mut refused) = (None, Vec::<(u64, Rejection)>::new());
         for part in self.parts {
             match &part.outcome {
-                Outcome::Taken { rejected, off, causes, unfit, .. } => {
+                Outcome::Taken { rejected, off, causes, unfit, parts } => {
                     all += rejected;
                     clocks = clocks.and(*off);
                     known = known.and(causes);
                     not_fit = not_fit.or_else(|| unfit.clone());
+                    for (points, rejection) in parts {
+                        add(&mut refused, (*points, self.placed(part, rejection)));
+                    }
                 }
                 Outcome::Refused(rejection) => {
                     let (points, rejection) = (part.part.points(), self.placed(part, rejection));
                     all += points;
-                    match refused.iter_mut().find(|(_, known)| *known == rejection) {
-                        Some((of_it, _)) => *of_it += points,
-                        None => refused.push((points, rejection)),
-                    }
+                    add(&mut refused, (points, rejection));
                 }
             }
         }
         Outcome::Taken { rejected: all, off: clocks, causes: known, unfit: not_fit, parts: refused }
+    }
+}
+
+/// Those of one reason are told together, by the first of them.
+fn add(all: &mut Vec<(u64, Rejection)>, (points, rejection): (u64, Rejection)) {
+    match all.iter_mut().find(|(_, known)| *known == rejection) {
+        Some((of_it, _)) => *of_it += points,
+        None => all.push((points, rejection)),
     }
 }
 

@@ -53,31 +53,46 @@ pub fn explained(body: &[u8], profile: Profile, window: Window) -> Option<Vec<Ex
     Some(all)
 }
 
-/// What a body is answered that is posted within the window to a book that has nothing of its series; `None` where the book refuses
-/// its shape. A delta point may not begin before one of its series ends that is ahead of it in the body.
-pub fn answered(body: &[u8], profile: Profile, window: Window) -> Option<Outcome> {
+/// Of a series whose points are looked at: where those end that are taken, its last point, and whether that is refused.
+struct OfSeries {
+    end: u64,
+    last: Vec<u64>,
+    is_refused: bool,
+}
+
+/// What a body is answered that is posted within the window to a book that has nothing of its series; `None` if the book refuses
+/// its shape. A delta point that begins before one of its series ends that is ahead of it in the body is left out: as a duplicate, which
+/// counts as taken, if both are equal, else it is refused: which of all points are, too.
+pub fn answered(body: &[u8], profile: Profile, window: Window) -> Option<(Outcome, Vec<usize>)> {
     let (mut causes, mut off) = (Causes::default(), OffClock::default());
-    let (mut ends, mut place, mut twice) = (HashMap::<Arc<str>, u64>::new(), 0, None);
+    let (mut series, mut place) = (HashMap::<Arc<str>, OfSeries>::new(), 0);
+    let (mut late, mut first, mut points) = (Vec::new(), None, 0);
     visit_body(body, profile, |seen| {
+        points += 1;
         let Ok(temporality) = seen.found else {
             causes.add(Reason::of_seen(&seen).unwrap_or(Reason::Other), 1);
             return;
         };
-        match window.off(seen.end()) {
-            Some(found) => off.count(found),
-            None if temporality == Temporality::Delta => {
-                let before = ends.insert(seen.key.into(), seen.end());
-                let frontier = before.filter(|end| seen.words[0] < *end);
-                twice = twice.or(frontier.map(|_| RejectedPoint { place, frontier }));
+        match (window.off(seen.end()), series.get_mut(seen.key)) {
+            (Some(found), _) => off.count(found),
+            (None, _) if temporality != Temporality::Delta => {}
+            (None, Some(of)) if seen.words[0] < of.end => {
+                of.is_refused |= of.last != seen.words;
+                of.last = seen.words.to_vec();
+                if of.is_refused {
+                    late.push(points - 1);
+                    first.get_or_insert(RejectedPoint { place, frontier: Some(of.end) });
+                }
             }
-            None => {}
+            (None, _) => {
+                let of = OfSeries { end: seen.end(), last: seen.words.to_vec(), is_refused: false };
+                series.insert(seen.key.into(), of);
+            }
         }
         place += 1;
     })?;
-    Some(match twice {
-        Some(point) => Rejection::of_point(Reason::OutOfOrder, point).into(),
-        None => Outcome::taken_but(0, off, causes),
-    })
+    let refused = first.map(|first| (late.len() as u64, Rejection::of_point(Reason::OutOfOrder, first)));
+    Some((Outcome::taken_but(0, off, causes).without(refused.into_iter().collect()), late))
 }
 
 /// The first of its points that are foreign, until `is_enough` says so.

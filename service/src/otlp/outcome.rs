@@ -20,7 +20,7 @@ pub enum Outcome {
         causes: Causes,
         /// Why points are outside the profile that were to be taken in a finer unit.
         unfit: Option<String>,
-        /// Parts of the request that were refused: how many points they have, and why.
+        /// Points that their series refuse, by reason, and parts of the request that were refused: how many points, and why.
         parts: Vec<(u64, Rejection)>,
     },
     /// Nothing was taken.
@@ -122,6 +122,15 @@ impl Outcome {
     pub fn taken_but(foreign: u64, off: OffClock, causes: Causes) -> Outcome {
         let rejected = foreign + off.points() + causes.count();
         Outcome::Taken { rejected, off, causes, unfit: None, parts: Vec::new() }
+    }
+
+    /// The same without these points, which their series refuse.
+    pub fn without(mut self, refused: Vec<(u64, Rejection)>) -> Outcome {
+        if let Outcome::Taken { rejected, parts, .. } = &mut self {
+            *rejected += refused.iter().map(|(points, _)| points).sum::<u64>();
+            parts.extend(refused);
+        }
+        self
     }
 
     /// The same, and why points are outside the profile that were to be taken in a finer unit.

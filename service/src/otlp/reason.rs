@@ -91,7 +91,7 @@ reasons! {
         "`totxegun explain FILE` says of each point of a captured body why";
 
     OutOfOrder "out_of_order" Request(400, "out of order"),
-        "right for a repeat: it was taken before. If each post of a sender gets it, its clock was set back, or it sends a series twice";
+        "it begins before its series ends, and is no repeat of what the last two posts had: the sender's clock was set back, it sends a series twice, or what is old comes after what is newer";
     OtherWriter "other_writer" Request(400, "other writer"),
         "OTEL_RESOURCE_ATTRIBUTES=service.instance.id=NAME, another name for each process";
     Quarantined "quarantined" Request(403, "quarantined"), "totxegun lift NAME once the sender is repaired";

@@ -9,14 +9,15 @@ mod activity;
 mod texts;
 
 pub use activity::{OfReason, OfSender, SenderActivity};
-pub(crate) use texts::{of_twice, SERIES_SHOWN};
+pub(crate) use texts::{late, named, of_another, of_twice, twice, SERIES_SHOWN};
 
 use crate::intake::{Hears, Taker};
 use crate::log::{shown, OnceAnHour};
 use crate::metrics::Metrics;
 use crate::otlp::series::SeriesKey;
 use crate::otlp::{
-    foreign_points, point_at, Causes, OffClock, Original, Outcome, Profile, Reason, RejectedPoint, NO_NAME,
+    foreign_points, point_at, Causes, OffClock, Original, Outcome, Profile, Reason, RejectedPoint, Rejection,
+    NO_NAME,
 };
 use crate::pass::Pass;
 use crate::slot::{is_sender, Request, Slot, Source};
@@ -154,8 +155,16 @@ impl Reporter {
     fn report(&self, sender: &str, outcome: &Outcome) -> Option<Report> {
         match outcome {
             Outcome::Taken { rejected: 0, .. } => None,
-            Outcome::Taken { rejected, off, .. } if *rejected == off.points() => None,
-            Outcome::Taken { .. } => self.may_tell_more(sender).then_some(Report::Foreign),
+            Outcome::Taken { rejected, off, parts, .. } => {
+                let of_another = |(_, why): &&(u64, Rejection)| why.reason == Reason::OtherWriter;
+                let other = parts.iter().find(of_another).and_then(|(_, why)| why.point);
+                let refused: u64 = parts.iter().map(|(points, _)| points).sum();
+                match other {
+                    Some(point) => Some(Report::OtherWriter(point.place)),
+                    None if *rejected == off.points() + refused => None,
+                    None => self.may_tell_more(sender).then_some(Report::Foreign),
+                }
+            }
             Outcome::Refused(rejection) => match rejection.point {
                 Some(point) if rejection.reason == Reason::OtherWriter => {
                     Some(Report::OtherWriter(point.place))
@@ -175,17 +184,18 @@ impl Reporter {
     ) -> Outcome {
         match outcome {
             Outcome::Taken { rejected: 0, .. } => outcome,
-            Outcome::Taken { rejected, off, causes: known, .. } => {
-                let foreign = rejected - off.points() - known.count();
+            Outcome::Taken { rejected, off, causes: known, parts, .. } => {
+                let refused: Causes = parts.iter().map(|(points, why)| (why.reason, *points)).collect();
+                let foreign = rejected - off.points() - known.count() - refused.count();
                 let causes = match foreign {
                     0 => Causes::default(),
                     _ => self.causes(source, original, foreign).await,
                 };
                 let causes = causes.and(&known);
                 let all = causes.clone().and(&Causes::of_clocks(off));
-                self.metrics.rejected(sender, &all, &self.options.expected);
+                self.metrics.rejected(sender, &all.clone().and(&refused), &self.options.expected);
                 self.tell_rejected(sender, source, &all, off).await;
-                Outcome::taken_but(0, off, causes)
+                Outcome::taken_but(0, off, causes).without(parts)
             }
             Outcome::Refused(rejection) => match rejection.point {
                 Some(point) => {
@@ -203,8 +213,10 @@ impl Reporter {
         let Some(frontier) = point.frontier else {
             return self.read(source, move |body| of_other_writer(body, profile, place)).await?;
         };
-        let twice = self.read(source, move |body| of_twice(body, profile, (place, frontier))).await;
-        twice.flatten().or_else(|| Some(of_late(frontier)))
+        let at = (place, frontier);
+        let text =
+            move |body: &[u8]| of_twice(body, profile, at).unwrap_or_else(|| of_late(body, profile, at));
+        self.read(source, text).await
     }
 
     /// Why so many points were not taken, without those that are handed on.
@@ -279,6 +291,24 @@ impl Reporter {
         }
     }
 
+    /// Points that their series refuse are in the log too, the first ones for each reason within an hour.
+    fn note_refused_points(&self, sender: &str, outcome: &Outcome) {
+        let Outcome::Taken { parts, .. } = outcome else {
+            return;
+        };
+        for (points, why) in parts {
+            if locked(&self.logged).refusals.is_due(&(sender.to_string(), why.reason)) {
+                let (answer, reason) = (shown(&why.message, ANSWER_SHOWN), why.reason.label());
+                tracing::warn!(
+                    sender,
+                    reason,
+                    points,
+                    "{points} points of a post of {sender} are refused: {answer}"
+                );
+            }
+        }
+    }
+
     /// Whether the address of who has no name is one of those that are remembered.
     fn is_known_stranger(&self, address: &str) -> bool {
         let (mut logged, address) = (locked(&self.logged), address.to_string());
@@ -348,6 +378,7 @@ impl<T: Taker> Taker for Reported<T> {
         if let Outcome::Taken { rejected: 0, .. } = outcome {
             return outcome; // as nearly all are: nothing is to be said
         }
+        reporter.note_refused_points(sender, &outcome);
         let report = reporter.report(sender, &outcome);
         let outcome = reporter.in_words(sender, &source, original, outcome).await;
         let report = report.filter(|_| outcome != Outcome::taken(0));

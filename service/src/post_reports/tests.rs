@@ -214,7 +214,7 @@ async fn a_post_with_a_series_twice_over_one_time_is_told_so() {
     );
     // The first one, or where another post has come further.
     for outcome in [late(1, 2), late(2, 3)] {
-        let begin = format!("{}: the point begins before 1970-01-01T", outcome.message().unwrap());
+        let begin = format!("{}: `m` {{route=/}} begins before 1970-01-01T", outcome.message().unwrap());
         let said = answered(&reported(outcome, None, ReportOptions::default()), &metric).await;
         assert!(said.starts_with(&begin), "{said}");
     }
@@ -226,7 +226,7 @@ async fn a_late_sender_is_told_the_time() {
     let refused = |outcome| reported(outcome, None, ReportOptions::default());
     let said = answered(&refused(late(2, 1795808400500000000)), GAUGES).await;
     let begin = "out of order: point 2, frontier 1795808400500000000: the point begins before 2026-11-27T19:40:00.500000Z, ";
-    assert!(said.starts_with(begin) && said.contains("clock was set back"), "{said}");
+    assert!(said.starts_with(begin) && said.contains("set the sender's clock"), "{said}");
     assert_eq!(answered(&refused(Reason::NotJson.into()), GAUGES).await, "not JSON");
 }
 

@@ -32,31 +32,43 @@ pub(super) fn metric(point: &Explained) -> String {
     shown(&point.metric, NAME_SHOWN)
 }
 
-/// What the answer to a post out of order says beside them: when that was, and what it means.
-pub(super) fn of_late(frontier: u64) -> String {
-    let time = of_nanoseconds(frontier);
-    format!(
-        ": the point begins before {time}, up to where its series was taken: a repeat was taken before, so drop it; else the \
-         sender's clock was set back"
-    )
+/// What the answer says beside the place of a late point: its series, when that was, and what to do.
+pub(super) fn of_late(body: &[u8], profile: Profile, (place, frontier): (u64, u64)) -> String {
+    let point = point_at(body, profile, place);
+    late(&point.map_or_else(|| "the point".to_string(), |(point, _)| named(&point)), frontier)
 }
 
 /// The same where the post itself has its series up to there: nothing of it was taken, nor will be.
 pub(crate) fn of_twice(body: &[u8], profile: Profile, (place, frontier): (u64, u64)) -> Option<String> {
-    let named = named(&second_at(body, profile, place, frontier)?);
-    Some(format!(
-        ": the post has {named} twice over one time: give each process its own service.instance.id, each instrument its own name"
-    ))
+    Some(twice(&named(&second_at(body, profile, place, frontier)?)))
 }
 
 /// What the answer to a post to another's series says beside the place: that series and what to do.
 pub(super) fn of_other_writer(body: &[u8], profile: Profile, place: u64) -> Option<String> {
-    let named = named(&point_at(body, profile, place)?.0);
-    Some(format!(": {named} is another sender's: give each process its own service.instance.id"))
+    Some(of_another(&named(&point_at(body, profile, place)?.0)))
+}
+
+/// Of a series that is named so.
+pub(crate) fn late(named: &str, frontier: u64) -> String {
+    let time = of_nanoseconds(frontier);
+    format!(
+        ": {named} begins before {time}, up to where it was taken, and is no repeat of the last two posts: set the sender's clock, or \
+         give each process its own service.instance.id"
+    )
+}
+
+pub(crate) fn twice(named: &str) -> String {
+    format!(
+        ": the post has {named} twice over one time: give each process its own service.instance.id, each instrument its own name"
+    )
+}
+
+pub(crate) fn of_another(named: &str) -> String {
+    format!(": {named} is another sender's: give each process its own service.instance.id")
 }
 
 /// A point by its metric and its attributes.
-fn named(point: &Explained) -> String {
+pub(crate) fn named(point: &Explained) -> String {
     let name = shown(&point.metric, NAME_SHOWN);
     let attributes = shown(&point.attributes, ATTRIBUTES_SHOWN);
     format!("`{name}` {{{attributes}}}")

@@ -118,9 +118,14 @@ impl Draft<'_> {
         Some(series.digest)
     }
 
-    /// The places of the points that were made here.
-    pub fn made(&self) -> Vec<u32> {
-        self.made.iter().map(|made| made.0).collect()
+    /// Where in the post is the point that has this place here.
+    pub fn place(&self, at: u32) -> Option<u32> {
+        self.places.get(at as usize).copied()
+    }
+
+    /// Whether this point was made here.
+    pub fn has_made(&self, at: u32) -> bool {
+        self.made.binary_search_by_key(&at, |made| made.0).is_ok()
     }
 
     /// How many points are not sound.

@@ -321,9 +321,10 @@ impl Claim<'_> {
         done
     }
 
-    /// The post is in the book.
-    pub fn keep(&mut self) {
-        self.points = Duration::ZERO;
+    /// So many of so many points are in the book: what the others took is given back.
+    pub fn keep(&mut self, points: u64, of: u64) {
+        let left = of.saturating_sub(points) as f64 / of.max(1) as f64;
+        self.points = self.points.mul_f64(left);
     }
 }
 

@@ -140,7 +140,7 @@ impl Service {
         let numbers = self.numbers.of(names).into_iter();
         let series = || Series::numbered(self.numbers.clone(), numbers);
         self.shares.came(sender, book.len() - before, series);
-        claim.keep();
+        claim.keep(1, 1);
     }
 
     /// All that the book has comes into a flush.
@@ -161,7 +161,7 @@ async fn without_rules_each_has_all() {
     let shares = Shares::default();
     for _ in 0..10 {
         let look = || async { panic!("nobody asks") };
-        shares.claim("A", u64::MAX, look).await.unwrap().keep();
+        shares.claim("A", u64::MAX, look).await.unwrap().keep(1, 1);
     }
     assert!(shares.nearest().is_empty());
 }
@@ -302,7 +302,7 @@ async fn points_of_what_is_not_taken_are_given_back() {
     for _ in 0..100 {
         drop(claim(60).await.unwrap());
     }
-    claim(60).await.unwrap().keep();
+    claim(60).await.unwrap().keep(1, 1);
     let over = claim(1).await.err().unwrap();
     assert_eq!(over.to_string(), "over its share: A may post 1 points a second, 60 at once: again in 1 s");
     assert_eq!(Outcome::from(over).again_in(), Some(1));
@@ -313,7 +313,7 @@ async fn those_that_are_nearest_come_first() {
     let service = service(Share { series: Some(20), points: Some(1) });
     for number in 0..12 {
         let sender = format!("s{number:02}");
-        service.claim(&sender, &names("a", number)).await.unwrap().keep();
+        service.claim(&sender, &names("a", number)).await.unwrap().keep(1, 1);
         service.shares.came(&sender, 12 - number, || Series::Text(Bytes::new()));
     }
     let nearest = service.shares.nearest();

@@ -1,10 +1,12 @@
 //! A post with cumulative points: what they add is found under the lock of the runs, which is held until the journal has it.
 
+use super::duplicates::Fate;
 use super::posted::{fits, LeftOut, Posted};
+use super::refused_points::RefusedPoints;
 use super::request::Put;
 use super::verdict::Journalled;
 use super::{ByNumber, Slot};
-use crate::core::{Read, Refused};
+use crate::core::{PointRefusal, Read, Refused};
 use crate::files::Names as _;
 use crate::log::{shown, RateLimit};
 use crate::otlp::series::{self, Digest};
@@ -14,12 +16,10 @@ use crate::runs::{self, Draft};
 use crate::shares::Claim;
 use crate::work::{blocking, Readers};
 use std::collections::{HashMap, HashSet};
+use std::mem::take;
 use std::sync::atomic::{AtomicU64, Ordering::Relaxed};
 use std::sync::Arc;
 use std::time::Duration;
-
-/// So many points the book is asked about by themselves while its lock is held.
-const TRIED_AT_ONCE: usize = 256;
 
 /// How long a line of the log about noted runs stands for all: one connection can post thousands a second.
 const TOLD_EVERY: Duration = Duration::from_secs(10);
@@ -51,10 +51,26 @@ enum Tried {
     Put(Put),
     /// The library finds a point foreign that was not known to be.
     Otherwise,
-    /// Series that end later in the book than their runs.
-    Beyond(Vec<(Digest, u64)>),
+    Apart(Apart),
     /// What is in flight has to land first.
     InFlight,
+}
+
+/// What is to be known before it is tried once more.
+#[derive(Default)]
+struct Apart {
+    /// Series that end later in the book than their runs.
+    beyond: Vec<(Digest, u64)>,
+    left: Vec<LeftPoint>,
+}
+
+/// A point that is left out.
+struct LeftPoint {
+    /// Among those that were tried, and in the request.
+    at: u32,
+    place: u64,
+    number: u64,
+    fate: Fate,
 }
 
 /// A post of which deltas are made.
@@ -66,6 +82,30 @@ struct Making {
     /// Of series that the book ends later than was known.
     frontiers: HashMap<Digest, u64>,
     is_of_text: bool,
+    /// Points that were left out since.
+    duplicates: u64,
+    refused: RefusedPoints,
+}
+
+impl Making {
+    fn of(sender: String, mut by: ByNumber, window: Window, is_of_text: bool) -> Making {
+        let left_out = LeftOut::of(&mut by, &window);
+        let (frontiers, refused) = (HashMap::new(), RefusedPoints::default());
+        Making { sender, by, window, left_out, frontiers, is_of_text, duplicates: 0, refused }
+    }
+
+    fn part(&mut self, apart: Apart) {
+        self.frontiers.extend(apart.beyond);
+        for LeftPoint { place, number, fate, .. } in &apart.left {
+            match fate {
+                Fate::Refused(refusal) => self.refused.add(*place, *number, *refusal),
+                Fate::Duplicate | Fate::Taken => self.duplicates += 1,
+            }
+        }
+        let left: HashSet<u32> = apart.left.iter().map(|left| left.at).collect();
+        self.left_out.add(left.iter().map(|at| u64::from(*at)));
+        self.by.keep(|place, _| !left.contains(&place));
+    }
 }
 
 impl Slot {
@@ -73,12 +113,11 @@ impl Slot {
     pub(super) async fn put_cumulative(
         self: &Arc<Slot>,
         sender: String,
-        mut by: ByNumber,
+        by: ByNumber,
         mut claim: Claim<'_>,
     ) -> Result<Journalled, Reason> {
-        let window = self.clock.window();
-        let (left_out, frontiers) = (LeftOut::of(&mut by, &window), HashMap::new());
-        let mut making = Making { sender, by, window, left_out, frontiers, is_of_text: false };
+        let all = by.points.count() as u64;
+        let mut making = Making::of(sender, by, self.clock.window(), false);
         loop {
             let landed = self.landed.notified(); // from here on none is missed
             let put;
@@ -86,8 +125,9 @@ impl Slot {
             match put? {
                 Some(put) => {
                     if put.is_in_book {
-                        claim.keep();
+                        claim.keep(put.points, all);
                     }
+                    self.count_put(&making.sender, &put);
                     return Ok(put.journalled);
                 }
                 None => landed.await,
@@ -119,13 +159,10 @@ impl Slot {
             match self.try_made(making)? {
                 Tried::Put(put) => return Ok(Some(put)),
                 Tried::InFlight => return Ok(None),
-                Tried::Beyond(series) => making.frontiers.extend(series),
+                Tried::Apart(apart) => making.part(apart),
                 Tried::Otherwise if making.is_of_text => return Ok(Some(self.not_made(Refused::NotOne))),
                 Tried::Otherwise => match self.of_text(&making.by) {
-                    Ok(mut of_text) => {
-                        making.left_out = LeftOut::of(&mut of_text, &making.window);
-                        (making.by, making.is_of_text) = (of_text, true);
-                    }
+                    Ok(by) => *making = Making::of(take(&mut making.sender), by, making.window, true),
                     Err(refused) => return Ok(Some(self.not_made(refused))),
                 },
             }
@@ -133,7 +170,8 @@ impl Slot {
     }
 
     fn not_made(&self, refused: impl Into<Outcome>) -> Put {
-        Put { journalled: Journalled::behind_all(refused, &self.journal), is_in_book: false }
+        let journalled = Journalled::behind_all(refused, &self.journal);
+        Put { journalled, is_in_book: false, points: 0, duplicates: 0 }
     }
 
     /// The same points as its text has them: of these none is foreign to the library.
@@ -151,22 +189,24 @@ impl Slot {
         };
         let mut draft = self.runs.draft(posted, frontier);
         let among_all = |place| left_out.place_of(place);
-        if let Some(place) = self.of_another(&making.sender, &draft) {
-            let point = draft.placed(place, among_all);
-            return Ok(Tried::Put(self.not_made(Refused::OtherWriter { point })));
+        let left = self.of_another(making, &draft);
+        if !left.is_empty() {
+            return Ok(Tried::Apart(Apart { left, ..Apart::default() }));
         }
         let foreign = by.foreign + draft.foreign();
         let said = |journalled: Journalled, draft: &Draft<'_>| {
-            journalled.without(foreign, left_out.off, &draft.turned)
+            let journalled = journalled.without(foreign, left_out.off, &draft.turned);
+            journalled.without_refused(making.refused.named(&by.names, |place| place))
         };
         // Also those that add nothing.
-        let accepted = by.points.count() as u64 - draft.foreign() - draft.turned.count();
+        let points = by.points.count() as u64 - draft.foreign() - draft.turned.count();
+        let duplicates = making.duplicates;
         if draft.points.count() == 0 {
-            self.metrics.accepted(&making.sender, accepted);
-            return Ok(Tried::Put(Put {
-                journalled: said(Journalled::behind_all(Outcome::taken(0), &self.journal), &draft),
-                is_in_book: false,
-            }));
+            if let (Some(first), 0) = (making.refused.first(), points + duplicates) {
+                return Ok(Tried::Put(self.not_made(first)));
+            }
+            let journalled = said(Journalled::behind_all(Outcome::taken(0), &self.journal), &draft);
+            return Ok(Tried::Put(Put { journalled, is_in_book: false, points, duplicates }));
         }
         let mut read = match self.read_made(making, &mut draft, foreign) {
             Err(refused) => return Ok(Tried::Put(self.not_made(refused))),
@@ -174,47 +214,75 @@ impl Slot {
             Ok(Some(read)) => read,
         };
         Ok(match self.put(&mut read)? {
-            Ok(Put { journalled, is_in_book }) => {
+            Ok(Put { journalled, is_in_book, .. }) => {
                 let journalled = said(journalled, &draft);
-                self.metrics.accepted(&making.sender, accepted);
                 self.kept(making, draft);
-                Tried::Put(Put { journalled, is_in_book })
+                Tried::Put(Put { journalled, is_in_book, points, duplicates })
             }
             Err(Refused::InFlight) => Tried::InFlight,
             Err(refused) => {
-                if let Refused::OutOfOrder { point, frontier } = refused {
-                    let beyond = self.beyond(&mut read, &mut draft, (point as u32, frontier));
-                    if !beyond.is_empty() {
-                        return Ok(Tried::Beyond(beyond));
+                let apart = match refused.is_of_series() {
+                    true => self.made_apart(making, &mut read, &mut draft, refused),
+                    false => Err(refused),
+                };
+                match apart {
+                    Ok(apart) => Tried::Apart(apart),
+                    Err(refused) => {
+                        Tried::Put(self.not_made(self.refusal(&read.read, draft.refused(refused, among_all))))
                     }
                 }
-                Tried::Put(self.not_made(self.refusal(&read.read, draft.refused(refused, among_all))))
             }
         })
     }
 
-    /// Where all series of a draft end that end later in the book than was known, since the book said so of the first one; none
-    /// where that is no point of the draft. They are asked for at once: else a post is tried as often as it has such series.
-    fn beyond(&self, read: &mut Posted, draft: &mut Draft<'_>, first: (u32, u64)) -> Vec<(Digest, u64)> {
-        let Some(series) = draft.note_frontier(first.0, first.1) else {
-            return Vec::new();
+    /// Of a draft that the book refuses for one of its series: where those end of which points were made here, and which others are left
+    /// out. All are asked for at once: else a post is tried as often as it has such series.
+    fn made_apart(
+        &self,
+        making: &Making,
+        read: &mut Posted,
+        draft: &mut Draft<'_>,
+        refused: Refused,
+    ) -> Result<Apart, Refused> {
+        let (fates, beyond) = {
+            let mut book = self.core.lock();
+            let mut refusals = book.point_refusals(&mut read.read)?;
+            let mut beyond = Vec::new();
+            for (at, refusal) in (0..).zip(&mut refusals) {
+                if let (Some(PointRefusal::OutOfOrder { frontier, .. }), true) =
+                    (*refusal, draft.has_made(at))
+                {
+                    beyond.extend(draft.note_frontier(at, frontier).map(|series| (series, frontier)));
+                    *refusal = None;
+                }
+            }
+            (self.fates_of(&book, &read.read, &refusals)?, beyond)
         };
-        let mut beyond = vec![(series, first.1)];
-        let left: Vec<u32> = draft.made().into_iter().filter(|place| *place > first.0).collect();
-        for places in left.chunks(TRIED_AT_ONCE) {
-            let found = self.core.lock().out_of_order(&mut read.read, places);
-            let noted = |(place, frontier)| Some((draft.note_frontier(place, frontier)?, frontier));
-            beyond.extend(found.into_iter().filter_map(noted));
+        let left = (0..).zip(fates).filter(|(_, fate)| *fate != Fate::Taken);
+        let left = left.filter_map(|(at, fate)| self.left(making, draft, draft.place(at)?, fate));
+        let apart = Apart { left: left.collect(), beyond };
+        match apart.left.is_empty() && apart.beyond.is_empty() {
+            true => Err(refused), // the book has come to say otherwise
+            false => Ok(apart),
         }
-        beyond
     }
 
-    /// The place of a point that adds nothing, and whose series is another sender's: it is no repeat.
-    fn of_another(&self, sender: &str, draft: &Draft<'_>) -> Option<u32> {
-        let is_of_another = |series| self.outbox.owner(series).is_some_and(|owner| owner != sender);
-        let (mut late, mut asked) = (draft.late.iter(), HashSet::new());
-        let found = late.find(|(_, series)| asked.insert(series) && is_of_another(series));
-        found.map(|(place, _)| *place)
+    fn left(&self, making: &Making, draft: &Draft<'_>, at: u32, fate: Fate) -> Option<LeftPoint> {
+        let place = draft.placed(at, |place| making.left_out.place_of(place));
+        let number = making.by.points.point(at)?[0];
+        Some(LeftPoint { at, place, number, fate })
+    }
+
+    /// Points that add nothing, and whose series are another sender's: these are no repeats.
+    fn of_another(&self, making: &Making, draft: &Draft<'_>) -> Vec<LeftPoint> {
+        let mut asked = HashMap::new();
+        let mut is_of_another = |series: Digest| {
+            let of_another = || self.outbox.owner(&series).is_some_and(|owner| owner != making.sender);
+            *asked.entry(series).or_insert_with(of_another)
+        };
+        let late = draft.late.iter().filter(|(_, series)| is_of_another(*series));
+        let refused = Fate::Refused(PointRefusal::OtherWriter);
+        late.filter_map(|(at, _)| self.left(making, draft, *at, refused)).collect()
     }
 
     /// None where the library finds another number of them foreign.

@@ -1,15 +1,19 @@
 //! The book with its journal and outbox, and the way of a post through them.
 //!
-//! `request` is that way, `posted` reads a request, `cumulative` what is done ahead of it with cumulative points, `numbers` which
-//! series have numbers, `verdict` what is said of a post and when, `never` which are refused for good, `phase` whether posts are
-//! taken, `disk_stall` whether the disk answers. `slots` is where posts of each slot go.
+//! `request` is that way, `apart` that of a post some of whose points are refused, `duplicates` which of these were taken before,
+//! `refused_points` what is said of the others, `posted` reads a request, `cumulative` what is done ahead of it with cumulative
+//! points, `numbers` which series have numbers, `verdict` what is said of a post and when, `never` which are refused for good,
+//! `phase` whether posts are taken, `disk_stall` whether the disk answers. `slots` is where posts of each slot go.
 
+mod apart;
 mod cumulative;
 mod disk_stall;
+mod duplicates;
 mod never;
 mod numbers;
 mod phase;
 mod posted;
+mod refused_points;
 mod request;
 mod slots;
 mod verdict;
@@ -20,6 +24,7 @@ pub use slots::{Elsewhere, Slots, Way};
 
 use crate::core::Core;
 use crate::files::{FreeSpace, Journal, Outbox};
+use crate::log::OnceAnHour;
 use crate::metrics::Metrics;
 use crate::otlp::{Clock, Outcome, Reading, Reason};
 use crate::runs::Runs;
@@ -28,11 +33,13 @@ use crate::work::Readers;
 use bytes::Bytes;
 use phase::Phases;
 use std::sync::atomic::{AtomicBool, AtomicU64, Ordering};
-use std::sync::Arc;
+use std::sync::{Arc, Mutex};
 use tokio::sync::Notify;
 
 /// How many long bodies are read at a time: while it is read, one takes several times its length.
 const READERS: usize = 2;
+/// Of so many senders it is remembered what the log has.
+const REMEMBERED: usize = 1000;
 
 /// Shared by the intake, which posts, and the keeper.
 pub struct Slot {
@@ -60,6 +67,8 @@ pub struct Slot {
     told: AtomicBool,
     noted_runs: cumulative::NotedRuns,
     pub(crate) shares: Arc<Shares>,
+    /// Of whose duplicates the log has a line.
+    duplicates: Arc<Mutex<OnceAnHour<String>>>,
     /// None where it reads as all others here, and keeps nothing of that.
     reading: Option<Arc<Reading>>,
     /// Who has the outbox know what was read.
@@ -74,6 +83,7 @@ pub struct Shared {
     pub shares: Arc<Shares>,
     readers: Arc<Readers>,
     numbers: Arc<numbers::Numbers>,
+    duplicates: Arc<Mutex<OnceAnHour<String>>>,
 }
 
 impl Shared {
@@ -84,6 +94,7 @@ impl Shared {
             shares: Arc::default(),
             readers: Arc::new(Readers::new(READERS)),
             numbers: Arc::default(),
+            duplicates: Arc::new(Mutex::new(OnceAnHour::new(REMEMBERED))),
         }
     }
 
@@ -133,6 +144,7 @@ impl Slot {
             told: AtomicBool::new(false),
             noted_runs: cumulative::NotedRuns::new(),
             shares: shared.shares.clone(),
+            duplicates: shared.duplicates.clone(),
             keeping: Arc::default(),
         })
     }
@@ -189,10 +201,14 @@ impl Slot {
 impl Slot {
     /// One that takes posts, and has its files in memory.
     fn in_memory(shared: &Shared) -> Arc<Slot> {
+        Slot::in_memory_of(shared, Core::new(10).unwrap())
+    }
+
+    fn in_memory_of(shared: &Shared, core: Arc<Core>) -> Arc<Slot> {
         use crate::files::drive::{self, memory::Store};
         let (journal, outbox, _dead) =
             drive::open(Arc::<Store>::default().take(), "00000000000000aa").unwrap();
-        let slot = Slot::of(None, 0, journal, Arc::new(outbox), Core::new(10).unwrap(), shared);
+        let slot = Slot::of(None, 0, journal, Arc::new(outbox), core, shared);
         slot.open();
         slot
     }

@@ -216,15 +216,11 @@ impl Generation {
     fn new(core: &Core, reading: &Arc<Reading>, limits: Limits) -> Result<Generation, Refused> {
         let most = core.most_series() as u64 * limits.bytes;
         let most = most.min(memory_used().1 / PART_OF_ALL);
-        Generation::with_room(most as usize, reading)
+        Generation::with_room(most as usize, reading, Names::new()?)
     }
 
-    fn with_room(most: usize, reading: &Arc<Reading>) -> Result<Generation, Refused> {
-        Ok(Generation {
-            series: Series::new(reading.clone(), most),
-            names: Names::new()?,
-            began: Instant::now(),
-        })
+    fn with_room(most: usize, reading: &Arc<Reading>, names: Arc<Names>) -> Result<Generation, Refused> {
+        Ok(Generation { series: Series::new(reading.clone(), most), names, began: Instant::now() })
     }
 
     fn is_full(&self) -> bool {
@@ -334,6 +330,14 @@ impl Numbers {
         Read::of_protobuf(core, sender, body, is_within, &now.names, has_room)
     }
 
+    /// The points of a request once more, in their order.
+    pub fn read_again(&self, core: &Core, source: &Source) -> Option<ByNumber> {
+        match source {
+            Source::Text(text) => self.read_text(core, text).ok()?,
+            Source::Protobuf(protobuf) => self.read(core, &protobuf.body, &protobuf.reading),
+        }
+    }
+
     /// A plain body as any other in protobuf.
     pub fn otherwise(&self, core: &Core, plain: Protobuf) -> Result<Request, Refused> {
         match self.read(core, &plain.body, &plain.reading) {
@@ -349,7 +353,7 @@ impl Numbers {
         if now.is_some_and(|now| now.number(read)) || !read.is_of_several() {
             return Ok(());
         }
-        let own = Generation::with_room(self.most_of_one, &self.of_texts)?;
+        let own = Generation::with_room(self.most_of_one, &self.of_texts, Names::of_one_post()?)?;
         match own.number(read) {
             true => Ok(()),
             false => Err(own.refused()),
@@ -365,7 +369,7 @@ impl Numbers {
             }
         }
         // Numbers for this one alone: there is no room for more.
-        let own = Generation::with_room(self.most_of_one, &self.of_texts)?;
+        let own = Generation::with_room(self.most_of_one, &self.of_texts, Names::of_one_post()?)?;
         let read = own.read_text(text).map_err(|NotNamed| own.refused())?;
         Ok(read.map(|numbered| own.by_number(numbered, source())))
     }

@@ -1,7 +1,7 @@
 //! Reads a request for the book. What is off by its clock is left out; and of points that are not all of one hour each is read
 //! by number, so that each hour's go into the book by themselves.
 
-use super::numbers::{ByNumber, Numbers, Request};
+use super::numbers::{ByNumber, Numbers, Request, Source};
 use crate::core::{Core, Read, Refused};
 use crate::otlp::{OffClock, Window};
 use bytes::Bytes;
@@ -15,6 +15,8 @@ const MOST_PARTS: usize = 1000;
 pub struct Posted {
     pub read: Read,
     pub left_out: LeftOut,
+    /// What it was read from, where it may have to be read again.
+    pub source: Option<Source>,
 }
 
 /// Points that are off by their clock.
@@ -28,7 +30,7 @@ pub struct LeftOut {
 
 impl Posted {
     pub fn whole(read: Read) -> Posted {
-        Posted { read, left_out: LeftOut::default() }
+        Posted { read, left_out: LeftOut::default(), source: None }
     }
 }
 
@@ -47,10 +49,24 @@ impl LeftOut {
         left_out
     }
 
+    /// Those at these places among what is left are out too.
+    pub fn add(&mut self, places: impl Iterator<Item = u64>) {
+        let all: Vec<u64> = places.map(|place| self.place_of(place)).collect();
+        self.places.extend(all);
+        self.places.sort_unstable();
+    }
+
     /// Where among all is a point that has this place among those that are left.
     pub fn place_of(&self, point: u64) -> u64 {
-        let passed = |point, out: &u64| point + u64::from(*out <= point);
-        self.places.iter().fold(point, passed)
+        let (mut out, mut end) = (0, self.places.len());
+        while out < end {
+            let middle = (out + end) / 2;
+            match self.places[middle] - middle as u64 <= point {
+                true => out = middle + 1,
+                false => end = middle,
+            }
+        }
+        point + out as u64
     }
 }
 
@@ -89,6 +105,14 @@ impl RequestReader<'_> {
         self.read_text(take(&mut posted.read.post.sender), text)
     }
 
+    /// The same request by number, in the order of its body; none where it is another one then.
+    pub fn read_in_order(&self, sender: String, source: &Source) -> Option<Posted> {
+        let by = self.numbers.read_again(self.core, source)?.without_cumulative();
+        let foreign = by.foreign;
+        let posted = self.read_points(sender, by).ok()?;
+        (posted.read.post.foreign == foreign).then_some(posted)
+    }
+
     fn read_text(&self, sender: String, body: Bytes) -> Result<Posted, Refused> {
         let mut posted = Posted::whole(self.core.read(sender, body.clone())?);
         let read = &mut posted.read;
@@ -105,7 +129,7 @@ impl RequestReader<'_> {
     fn read_points(&self, sender: String, mut by: ByNumber) -> Result<Posted, Refused> {
         let left_out = LeftOut::of(&mut by, &self.window);
         let read = self.core.read_points(sender, by.points, by.names, by.foreign)?;
-        Ok(Posted { read, left_out })
+        Ok(Posted { read, left_out, source: None })
     }
 }
 

@@ -11,7 +11,7 @@ use crate::files::{Body, Lost, FAILED};
 use crate::otlp::series::{self, Profile, SeriesKey};
 use crate::otlp::{Outcome, Reading, Reason, Window};
 use crate::shares::{Claim, Over, Series};
-use crate::work::blocking;
+use crate::work::{blocking, locked};
 use bytes::Bytes;
 use std::sync::Arc;
 
@@ -24,6 +24,9 @@ pub(super) struct Put {
     pub journalled: Journalled,
     /// Whether the book has more by it.
     pub is_in_book: bool,
+    /// How many of its points are taken, and how many were before.
+    pub points: u64,
+    pub duplicates: u64,
 }
 
 impl Slot {
@@ -49,22 +52,23 @@ impl Slot {
                 }
             }
             request => {
-                let length = request.length();
+                let (length, source) = (request.length(), request.source());
                 let window = self.clock.window();
-                let mut posted = match request.is_short() {
+                let posted = match request.is_short() {
                     true => RequestReader { core: &self.core, numbers: &self.numbers, window }
                         .read(sender, request),
                     false => self.read_long(window, sender, request).await,
                 };
-                match &mut posted {
-                    Ok(posted) => {
+                match posted {
+                    Ok(mut posted) => {
+                        posted.source = Some(source);
                         let (sender, points) = (&posted.read.post.sender, posted.read.points());
                         match self.claim(sender, points, length, series_of(&posted.read)).await {
                             Ok(claim) => self.put_in_turn(posted, claim).await,
                             Err(over) => return over.into(),
                         }
                     }
-                    Err(refused) => Ok(Journalled::behind_all(*refused, &self.journal)),
+                    Err(refused) => Ok(Journalled::behind_all(refused, &self.journal)),
                 }
             }
         };
@@ -125,22 +129,58 @@ impl Slot {
 
     /// Puts a post into the book and into the journal; behind what is in flight, where that is of an hour before. The error
     /// is why the book was not asked.
-    async fn put_in_turn(&self, posted: &mut Posted, mut claim: Claim<'_>) -> Result<Journalled, Reason> {
+    async fn put_in_turn(
+        self: &Arc<Slot>,
+        mut posted: Posted,
+        mut claim: Claim<'_>,
+    ) -> Result<Journalled, Reason> {
+        let (all, mut apart) = (posted.read.points(), None);
         loop {
             let landed = self.landed.notified(); // from here on none is missed
-            match self.put(posted)? {
+            let put;
+            match apart {
+                None => put = self.put(&mut posted),
+                Some(refused) => {
+                    (posted, put) = Box::pin(self.put_apart(posted, refused, &mut claim)).await;
+                }
+            }
+            match put? {
                 Ok(put) => {
-                    claim.keep();
-                    self.metrics.accepted(&posted.read.post.sender, posted.read.points());
+                    if put.is_in_book {
+                        claim.keep(put.points, all);
+                    }
+                    self.count_put(&posted.read.post.sender, &put);
                     return Ok(put.journalled);
                 }
                 Err(Refused::InFlight) => landed.await,
+                Err(refused)
+                    if refused.is_of_series() && apart.is_none() && posted.read.named().is_some() =>
+                {
+                    apart = Some(refused);
+                }
                 Err(refused) => {
                     let refused = refused.placed(|point| posted.left_out.place_of(point));
                     let outcome = self.refusal(&posted.read, refused);
                     return Ok(Journalled::behind_all(outcome, &self.journal));
                 }
             }
+        }
+    }
+
+    /// Counts what was put. The log has once an hour that a sender repeats.
+    pub(super) fn count_put(&self, sender: &str, put: &Put) {
+        self.metrics.accepted(sender, put.points);
+        let points = put.duplicates;
+        if points == 0 {
+            return;
+        }
+        self.metrics.duplicates(sender, points);
+        if locked(&self.duplicates).is_due(&sender.to_string()) {
+            tracing::info!(
+                sender,
+                points,
+                "{points} points of a post of {sender} were taken before: they are left out, and it is answered as the first time"
+            );
         }
     }
 
@@ -157,7 +197,7 @@ impl Slot {
     }
 
     /// Whether all series of a post were in a flush.
-    fn has_series_of(&self, read: &Read) -> bool {
+    pub(super) fn has_series_of(&self, read: &Read) -> bool {
         let is_known = |series: &SeriesKey| self.outbox.frontier(&series.digest()) > 0;
         match series_of(read)() {
             Series::Numbered(names, numbers) => {
@@ -173,11 +213,21 @@ impl Slot {
         let Some(_reserved) = self.free_space.reserve(posted.read.bytes()) else {
             return Err(Reason::NoRoom);
         };
-        let mut book = self.core.lock();
+        let book = self.serving_book()?;
+        Ok(self.put_locked(book, posted))
+    }
+
+    /// The book, while posts are taken.
+    pub(super) fn serving_book(&self) -> Result<Locked<'_>, Reason> {
+        let book = self.core.lock();
         // Behind the lock: the last checkpoint may have come between.
-        if self.phase() != Phase::Serving {
-            return Err(self.unavailable().unwrap_or(Reason::Recovering));
+        match self.phase() {
+            Phase::Serving => Ok(book),
+            _ => Err(self.unavailable().unwrap_or(Reason::Recovering)),
         }
+    }
+
+    pub(super) fn put_locked(&self, mut book: Locked<'_>, posted: &mut Posted) -> Result<Put, Refused> {
         let before = book.series();
         let admitted = book.admit(&mut posted.read);
         let closed = book.rounds_closed() as u64;
@@ -189,7 +239,7 @@ impl Slot {
         }
         if let Err(refused) = admitted {
             self.note_refusal(book, refused);
-            return Ok(Err(refused));
+            return Err(refused);
         }
         let new_series = book.series().saturating_sub(before);
         self.count_post();
@@ -197,11 +247,11 @@ impl Slot {
         let journalled = Journalled::taken(posted, &self.journal);
         drop(book);
         self.shares.came(&posted.read.post.sender, new_series, series_of(&posted.read));
-        Ok(Ok(Put { journalled, is_in_book: true }))
+        Ok(Put { journalled, is_in_book: true, points: posted.read.points(), duplicates: 0 })
     }
 
     /// What a refusal is the beginning of.
-    fn note_refusal(&self, book: Locked<'_>, refused: Refused) {
+    pub(super) fn note_refusal(&self, book: Locked<'_>, refused: Refused) {
         if refused == Refused::HalfTaken {
             self.end(); // with the lock: nobody may see that book
         }
@@ -249,137 +299,4 @@ fn series_of(read: &Read) -> impl Fn() -> Series + '_ {
 }
 
 #[cfg(test)]
-mod tests {
-    use super::*;
-    use crate::shares::{Owned, Rules, Share};
-    use crate::slot::Shared;
-    use crate::work::Readers;
-    use std::collections::HashMap;
-    use std::sync::mpsc::Receiver;
-    use std::sync::Mutex;
-    use std::time::Duration;
-
-    mod units;
-
-    /// As where there is no memory to write it: what is in flight never lands, and the slot ends.
-    #[tokio::test]
-    async fn who_waits_behind_what_is_in_flight_is_told_that_the_slot_has_ended() {
-        let slot = Slot::in_memory(&Shared::of_test());
-        let post = |start: u64| {
-            let (slot, body) = (slot.clone(), point(start));
-            async move { slot.post("A".into(), body.into()).await }
-        };
-        assert_eq!(post(10).await, Outcome::taken(0));
-        let _in_flight = slot.core.lock().take_all().unwrap();
-        assert_eq!(post(20).await, Outcome::taken(0));
-        let waiting = tokio::spawn(post(HOUR + 10));
-        tokio::time::sleep(Duration::from_millis(50)).await;
-        assert!(!waiting.is_finished());
-        slot.lose();
-        let told = tokio::time::timeout(Duration::from_secs(5), waiting).await.expect("it waits for ever");
-        assert!(told.unwrap().status() == 503);
-    }
-
-    /// Who looks for a series for as long as nobody else has done something.
-    struct Slow(Mutex<Receiver<()>>);
-
-    impl Owned for Slow {
-        fn seen(&self) -> (u64, usize) {
-            (0, 1)
-        }
-
-        fn by_owner(&self) -> HashMap<String, u64> {
-            [("A".to_string(), 1)].into()
-        }
-
-        fn has(&self, _: &SeriesKey) -> bool {
-            self.0.lock().unwrap().recv_timeout(Duration::from_secs(5)).is_ok()
-        }
-    }
-
-    /// Else all others of its thread would wait while its text is read, which may take long.
-    #[tokio::test]
-    async fn a_long_post_of_who_has_all_of_its_share_is_looked_at_beside_others() {
-        let shared = Shared::of_test();
-        let (other, done) = std::sync::mpsc::channel();
-        shared.shares.begin(Rules {
-            most_series: 10,
-            of_each: Share { series: Some(1), points: None },
-            tokens: None,
-            profile: Profile::Deltas,
-            owned: Box::new(Slow(Mutex::new(done))),
-        });
-        let slot = Slot::in_memory(&shared);
-        let long = point(10) + &" ".repeat(Readers::SHORT);
-        let posting = tokio::spawn(async move { slot.post("A".into(), long.into()).await });
-        tokio::time::sleep(Duration::from_millis(200)).await;
-        other.send(()).unwrap();
-        assert_eq!(posting.await.unwrap(), Outcome::taken(0));
-    }
-
-    /// Nothing is in a flush.
-    struct Nothing;
-
-    impl Owned for Nothing {
-        fn seen(&self) -> (u64, usize) {
-            (0, 0)
-        }
-
-        fn by_owner(&self) -> HashMap<String, u64> {
-            HashMap::new()
-        }
-
-        fn has(&self, _: &SeriesKey) -> bool {
-            false
-        }
-    }
-
-    /// What it has it may post again, also before a flush says whose it is.
-    #[tokio::test]
-    async fn no_sender_comes_over_its_share_of_series_by_one_post() {
-        let shared = Shared::of_test();
-        shared.shares.begin(Rules {
-            most_series: 10,
-            of_each: Share { series: Some(3), points: None },
-            tokens: None,
-            profile: Profile::Deltas,
-            owned: Box::new(Nothing),
-        });
-        let slot = Slot::in_memory(&shared);
-        let status = async |start: u64, metrics: &[&str]| {
-            let each: Vec<String> = metrics.iter().map(|name| metric(name, start)).collect();
-            let body =
-                format!(r#"{{"resourceMetrics":[{{"scopeMetrics":[{{"metrics":[{}]}}]}}]}}"#, each.join(","));
-            slot.post("A".into(), body.into()).await.status()
-        };
-        assert_eq!((status(10, &["a", "b"]).await, status(20, &["b", "c", "d"]).await), (200, 429));
-        assert_eq!((status(20, &["a", "b", "c"]).await, status(30, &["a", "b", "c"]).await), (200, 200));
-        assert_eq!((status(40, &["c", "d"]).await, status(40, &["c", "a"]).await), (429, 200));
-    }
-
-    const HOUR: u64 = 3_600_000_000_000;
-
-    fn metric(name: &str, start: u64) -> String {
-        format!(
-            "{{\"name\":\"{name}\",\"sum\":{{\"aggregationTemporality\":1,\"dataPoints\":[{{\"asInt\":\"1\",\
-             \"startTimeUnixNano\":\"{start}\",\"timeUnixNano\":\"{}\"}}]}}}}",
-            start + 1
-        )
-    }
-
-    fn point(start: u64) -> String {
-        format!(r#"{{"resourceMetrics":[{{"scopeMetrics":[{{"metrics":[{}]}}]}}]}}"#, metric("a", start))
-    }
-
-    /// Of a folder the process ends.
-    #[tokio::test]
-    async fn half_a_post_ends_the_slot_alone_where_it_is_in_a_store() {
-        let slot = Slot::in_memory(&Shared::of_test());
-        slot.note_refusal(slot.core.lock(), Refused::HalfTaken);
-        assert_eq!(slot.phase(), Phase::Lost);
-        assert_eq!(slot.journal.failure(), Some(NO_REST));
-        let told = Journalled::behind_all(Refused::BadSender, &slot.journal);
-        let told = told.durable(&slot.journal).await;
-        assert_eq!(told.reason(), Some(Reason::SlotMoves));
-    }
-}
+mod tests;

@@ -1,13 +1,13 @@
 //! What the book said of a post, and when its sender may hear it.
 //!
 //! What the book took is said by a `Journalled` alone, which puts it into the journal first; and only what is durable gives its
-//! verdict away. A refusal waits for the journal too: a repeat's `out of order` must not outrun the record of the first
-//! attempt, or the sender would drop a batch that a loss of power then takes. Where the slot was lost meanwhile neither is
+//! verdict away. What is said of a duplicate or a refusal waits for the journal too: it must not outrun the record of
+//! the first attempt, or the sender would drop a batch that a loss of power then takes. Where the slot was lost meanwhile neither is
 //! given: what another instance has says it.
 
 use super::posted::Posted;
 use crate::files::{Journal, Lost, Ticket};
-use crate::otlp::{Causes, OffClock, Outcome, Reason};
+use crate::otlp::{Causes, OffClock, Outcome, Reason, Rejection};
 
 /// What may be said once the journal is durable up to a place.
 #[must_use = "a sender waits for it"]
@@ -35,6 +35,12 @@ impl Journalled {
     /// for these reasons.
     pub fn without(mut self, foreign: u64, off: OffClock, turned: &Causes) -> Journalled {
         self.outcome = Outcome::taken_but(foreign, off, turned.clone());
+        self
+    }
+
+    /// The same without these points, which their series refuse.
+    pub fn without_refused(mut self, refused: Vec<(u64, Rejection)>) -> Journalled {
+        self.outcome = self.outcome.without(refused);
         self
     }
 

@@ -163,16 +163,17 @@ async fn a_point_of_a_clock_ahead_is_left_out() {
     // The places of refusals are those of the request.
     let other = points(&[point("d", now + YEAR), point("d", now), point("a", now + 4 * SECOND)]);
     let refused = post_by_number(&run, "t", other, &reading).await;
-    assert_eq!(message(&refused), (400, "other writer: point 2"));
+    let Outcome::Taken { rejected, parts, .. } = &refused else { panic!("{refused:?}") };
+    assert_eq!((*rejected, parts.len()), (2, 1), "one is off by its clock");
+    assert!(parts[0].1.message.starts_with("other writer: point 2: `a` {} "), "{refused:?}");
     run.abort().await;
     // A replay looks at no clock.
     place.clock.most_behind = Some(Duration::from_nanos(1));
     let run = place.run().await;
     place.clock.most_behind = None;
     let taken = run.stop().await;
-    assert_eq!(sums(&taken), [("a", 10), ("b", 5), ("c", 10)]);
+    assert_eq!(sums(&taken), [("a", 10), ("b", 5), ("c", 10), ("d", 5)]);
     let run = place.run().await;
-    let late = post_by_number(&run, "s", next, &reading).await;
-    assert!(message(&late).1.starts_with("out of order: point 0"), "{late:?}");
+    assert_eq!(post_by_number(&run, "s", next, &reading).await, all(), "a repeat");
     run.stop().await;
 }

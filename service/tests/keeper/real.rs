@@ -18,7 +18,8 @@ async fn posts_and_checkpoints() {
     assert_eq!(run.post("A", point("a", 20, 30, 6)).await, all());
     let refusals = [
         ("B", point("a", 30, 40, 6), (400, "other writer: point 0")),
-        ("A", point("a", 20, 30, 6), (400, "out of order: point 0, frontier 30")),
+        ("A", point("a", 20, 30, 7), (400, "out of order: point 0, frontier 30")),
+        ("A", point("a", 25, 30, 6), (400, "out of order: point 0, frontier 30")),
         ("A", Bytes::from_static(b"x"), (400, "not JSON")),
         ("A", Bytes::from_static(b"[]"), (400, "wrong shape")),
         ("a b", point("a", 30, 40, 6), (400, BAD_SENDER)),
@@ -26,6 +27,7 @@ async fn posts_and_checkpoints() {
     for (sender, body, wanted) in refusals {
         assert_eq!(message(&run.post(sender, body).await), wanted);
     }
+    assert_eq!(run.post("A", point("a", 20, 30, 6)).await, all());
     assert_eq!(run.checkpoint().await, 1);
     assert_eq!(run.checkpoint().await, 0);
     let report = run.slot.core().lock().report().unwrap();
@@ -36,7 +38,7 @@ async fn posts_and_checkpoints() {
 
 /// Also where there are other books, each time.
 #[tokio::test(flavor = "multi_thread")]
-async fn late_repeats_are_refused_over_restarts() {
+async fn repeats_are_answered_as_the_first_time_over_restarts() {
     let mut place = Place::new();
     let run = place.run().await;
     assert_eq!(run.post("A", point("a", 10, 20, 5)).await, all());
@@ -45,25 +47,26 @@ async fn late_repeats_are_refused_over_restarts() {
     run.abort().await;
     place.most_series = 1;
     let run = place.run().await;
-    refused(&run, "a kill").await;
+    repeated(&run, "a kill").await;
     assert_eq!(run.post("A", point("b", 20, 30, 7)).await, all());
     run.abort().await;
     place.most_series = 250_000;
     let run = place.run().await;
-    refused(&run, "another kill").await;
+    repeated(&run, "another kill").await;
     assert_eq!(run.checkpoint().await, 1);
-    refused(&run, "a checkpoint").await;
+    repeated(&run, "a checkpoint").await;
     assert_eq!(sums(&run.stop().await), [("a", 5), ("b", 13)]);
     let run = place.run().await;
-    refused(&run, "an end").await;
+    repeated(&run, "an end").await;
     assert!(run.stop().await.is_empty());
 }
 
-async fn refused(run: &Run, after: &str) {
-    let repeat = run.post("A", point("a", 10, 20, 5)).await;
-    assert_eq!(message(&repeat), (400, "out of order: point 0, frontier 20"), "after {after}");
-    let repeat = run.post("A", point("b", 10, 20, 6)).await;
-    assert_eq!(repeat.status(), 400, "after {after}");
+async fn repeated(run: &Run, after: &str) {
+    for repeat in [point("a", 10, 20, 5), point("b", 10, 20, 6)] {
+        assert_eq!(run.post("A", repeat).await, all(), "after {after}");
+    }
+    let late = run.post("A", point("a", 10, 20, 6)).await;
+    assert_eq!(message(&late), (400, "out of order: point 0, frontier 20"), "after {after}");
     let other = run.post("B", point("a", 20, 30, 5)).await;
     assert_eq!(message(&other), (400, "other writer: point 0"), "after {after}");
 }
@@ -94,8 +97,11 @@ async fn a_quarantine_outlives_checkpoints_and_restarts() {
     assert!(matches!(&again, Done::Answered(outcome) if message(outcome) == (400, "not quarantined")));
     assert_eq!(run.checkpoint().await, 1);
     assert_eq!(run.checkpoint().await, 0);
-    assert_eq!(message(&run.post("A", point("a", 10, 20, 5)).await).0, 400);
+    assert_eq!(run.post("A", point("a", 10, 20, 5)).await, all(), "a repeat");
     assert_eq!(sums(&run.stop().await), [("a", 5), ("b", 2)]);
+    let run = place.run().await;
+    assert_eq!(run.post("A", point("a", 10, 20, 5)).await, all(), "a repeat");
+    run.stop().await;
 }
 
 #[tokio::test(flavor = "multi_thread")]
@@ -232,8 +238,7 @@ async fn many_series_are_flushed_and_primed() {
     assert_eq!(run.post("A", many("Aa", 2_000, 20)).await, all());
     run.abort().await;
     let run = place.run().await;
-    let repeat = run.post("B", many("Bc", 2_000, 10)).await;
-    assert_eq!(message(&repeat), (400, "out of order: point 0, frontier 20"));
+    assert_eq!(run.post("B", many("Bc", 2_000, 10)).await, all(), "a repeat");
     let other = run.post("B", many("Ac", 2_000, 30)).await;
     assert_eq!(message(&other), (400, "other writer: point 0"));
     let requests = run.checkpoint().await;
@@ -271,8 +276,7 @@ async fn a_series_of_4_mib_is_taken_and_primed() {
     run.abort().await;
     let run = place.run().await;
     for repeat in [longest, point("a", 10, 20, 5)] {
-        let late = run.post("A", repeat).await;
-        assert_eq!(message(&late), (400, "out of order: point 0, frontier 20"));
+        assert_eq!(run.post("A", repeat).await, all());
     }
     has_no_fault(&run);
     assert_eq!(sums(&run.stop().await), [("a", 5), ("long", 6)]);

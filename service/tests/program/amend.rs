@@ -61,7 +61,7 @@ fn a_series_is_put_back_and_what_the_sink_has_of_it_is_told() {
         "{}",
         place.log()
     );
-    assert_eq!(service.post("A", &right).unwrap().0, 400, "it was taken");
+    assert_eq!(service.post("A", &right).unwrap(), (200, "{}".into()), "it was taken");
     assert_eq!(service.post("A", &points(&["a"], begun + 10, 2)).unwrap().0, 200);
     let said = service.said(&["forget", "b"]);
     assert!(said.contains("1 series is forgotten"), "{said}");

@@ -34,8 +34,7 @@ fn two_processes_that_don_t_name_themselves_have_series_of_their_own() {
         for sender in ["shop-1", "shop-2"] {
             assert_eq!(service.post(sender, &json(end)).unwrap().0, 200, "{sender} {end}");
             assert_eq!(service.post_protobuf(sender, &protobuf(end)), 200, "{sender} {end}");
-            let (status, why) = service.post(sender, &json(end)).unwrap();
-            assert!(status == 400 && why.contains("out of order"), "{why}");
+            assert_eq!(service.post(sender, &json(end)).unwrap(), (200, "{}".into()), "a repeat");
         }
         service.kill();
         service = place.serve_with(&["--sink", &sink, "--instance-from-sender"]);

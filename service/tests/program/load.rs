@@ -42,13 +42,12 @@ fn post_all(sender: &str, first: u64, address: &RwLock<String>, ends: &AtomicBoo
         let value = (end % 97) as i64;
         let body = points(&[sender], end, value);
         let begun = Instant::now();
-        for attempt in 0.. {
+        loop {
             let to = address.read().unwrap().clone();
             match asked(&to, "POST", "/v1/metrics", sender, &body) {
                 Some((200, text)) if text == "{}" => break,
-                Some((400, text)) if text.contains("out of order") && attempt > 0 => break,
                 Some((503, _)) | None => {}
-                Some(other) => panic!("{sender}, {end}, attempt {attempt}: {other:?}"),
+                Some(other) => panic!("{sender}, {end}: {other:?}"),
             }
             assert!(begun.elapsed() < PATIENCE, "{sender}: no answer");
             std::thread::sleep(Duration::from_millis(5));

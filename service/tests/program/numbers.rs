@@ -23,8 +23,10 @@ fn points_by_number_are_counted_once_over_kills() {
         for number in 0..50 {
             let end = 1_000 * (run + 1) + 10 * number;
             if run > 0 && number == 0 {
-                let late = in_protobuf(&names, 1_000 * run + 490, 1);
-                assert_eq!(service.post_protobuf("A", &late), 400, "it was taken before the kill");
+                let repeat = in_protobuf(&names, 1_000 * run + 490, 1);
+                assert_eq!(service.post_protobuf("A", &repeat), 200, "it was taken before the kill");
+                let late = in_protobuf(&names, 1_000 * run + 490, 2);
+                assert_eq!(service.post_protobuf("A", &late), 400);
             }
             let status = match number % 10 {
                 9 => service.post("A", &points(&names, end, 1)).unwrap().0,
@@ -33,7 +35,7 @@ fn points_by_number_are_counted_once_over_kills() {
             assert_eq!(status, 200);
             total += 1;
         }
-        assert_eq!(service.post_protobuf("B", &in_protobuf(&["d", "a"], 9_000, 1)), 400);
+        assert_eq!(service.post_protobuf("B", &in_protobuf(&["b", "a"], 9_000, 1)), 400);
         assert_eq!(service.post_protobuf("A", b"\xff"), 400);
         service.has_no_fault();
         if run == 0 {

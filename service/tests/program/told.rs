@@ -54,7 +54,8 @@ fn each_point_of_what_is_taken_is_accepted_or_rejected() {
     let place = Place::new();
     let service = place.serve();
     assert_eq!(service.post("A", &points(&["a", "b"], 100, 5)).unwrap().0, 200);
-    assert_eq!(service.post("A", &points(&["a"], 100, 5)).unwrap().0, 400);
+    assert_eq!(service.post("A", &points(&["a"], 100, 5)).unwrap().0, 200, "a repeat");
+    assert_eq!(service.post("A", &points(&["a"], 100, 6)).unwrap().0, 400);
     // The first one is noted, the last one is there already.
     for end in [20, 30, 30] {
         let point = format!(r#"{{"asInt":"7","startTimeUnixNano":"10","timeUnixNano":"{end}"}}"#);
@@ -68,11 +69,12 @@ fn each_point_of_what_is_taken_is_accepted_or_rejected() {
     let page = service.metrics();
     for line in [
         "totxegun_accepted_points_total{sender=\"A\"} 5",
+        "totxegun_duplicate_points_total{sender=\"A\"} 1",
         "totxegun_rejected_points_total{reason=\"gauge\",sender=\"A\"} 6",
-        "totxegun_requests_total{code=\"200\",reason=\"\"} 4",
-        "totxegun_request_duration_seconds_count{code=\"200\",encoding=\"json\"} 4",
+        "totxegun_requests_total{code=\"200\",reason=\"\"} 5",
+        "totxegun_request_duration_seconds_count{code=\"200\",encoding=\"json\"} 5",
         "totxegun_request_duration_seconds_count{code=\"400\",encoding=\"json\"} 1",
-        "totxegun_request_size_bytes_count 5",
+        "totxegun_request_size_bytes_count 6",
     ] {
         assert!(page.lines().any(|found| found == line), "{line} in\n{page}");
     }

@@ -7,7 +7,7 @@ use super::{make, open};
 use std::io::ErrorKind;
 use std::path::Path;
 use totxegun::files::drive::{self, Drive};
-use totxegun::files::{Fault, Runs};
+use totxegun::files::{Fault, Recents, Runs};
 use totxegun::store::postgres::{Copies, PostgresStore};
 
 fn made() -> Option<(Server, PostgresStore)> {
@@ -28,7 +28,7 @@ fn refusal(store: &PostgresStore) -> String {
 fn commit(store: &PostgresStore, requests: usize) {
     let (journal, outbox, _dead) = drive::open(taken(store, 0) as _, "e").unwrap();
     let body = br#"{"resourceMetrics":[]}"#.to_vec();
-    outbox.commit_with(&vec![body; requests], journal.turn().0, Runs::new()).unwrap();
+    outbox.commit_with(&vec![body; requests], journal.turn().0, Runs::new(), &Recents::default()).unwrap();
     outbox.settle().unwrap();
 }
 

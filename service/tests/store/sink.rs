@@ -5,7 +5,7 @@ use super::work::{take, wait};
 use super::{make, open};
 use std::sync::Arc;
 use totxegun::files::drive::{self, Drive};
-use totxegun::files::Runs;
+use totxegun::files::{Recents, Runs};
 use totxegun::sinks::{self, Fate, Forwarded, Memory, Retention, Sink};
 use totxegun::store::postgres::{Copies, PostgresStore};
 
@@ -121,7 +121,7 @@ fn what_was_noted_is_not_sent_again() {
     let term = first.term();
     let (journal, outbox, _dead) = drive::open(first as Arc<dyn Drive>, "e").unwrap();
     let bodies: Vec<Vec<u8>> = (1..4).map(|number| request(0, number, number * 10).body).collect();
-    outbox.commit_with(&bodies, journal.turn().0, Runs::new()).unwrap();
+    outbox.commit_with(&bodies, journal.turn().0, Runs::new(), &Recents::default()).unwrap();
     outbox.settle().unwrap();
     server.ask(&format!("insert into totxegun_store.delivered values (0, {term}, 2)"));
     let next = take(&store, 0).0;

@@ -173,11 +173,11 @@ extern "C" {
     pub(super) fn desk_free(desk: *mut Handle);
 
     /// Admits what the reader has read, which is gone from it then: all books have their parts,
-    /// confirmed, or none has.
+    /// confirmed, or each is as it was.
     pub(super) fn desk_admit(desk: *mut Handle, reader: *mut Handle, out: *mut Answer);
 
     /// Answers what `desk_admit` would; what was read is gone from the reader, and each book is as it
-    /// was, or as if its part had never come.
+    /// was.
     pub(super) fn desk_try(desk: *mut Handle, reader: *mut Handle, out: *mut Answer);
 
     /// Names the first book, from the `first`-th on, that holds something pending of a series of which
@@ -233,6 +233,9 @@ extern "C" {
     /// Closes the round of the i-th book alone, if its journal has at least so many entries and nothing
     /// is open or live there: whether it did.
     pub(super) fn desk_close_round(desk: *mut Handle, i: usize, entries: usize) -> bool;
+
+    /// How many entries the longest of the books' journals has.
+    pub(super) fn desk_entries(desk: *mut Handle) -> usize;
 
     /// How many series all books have.
     pub(super) fn desk_series(desk: *mut Handle) -> usize;

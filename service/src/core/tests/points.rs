@@ -61,23 +61,57 @@ fn points_by_number_are_those_of_their_requests() {
 
 /// Of the refused post the book itself says it of the first point alone.
 #[test]
-fn where_series_end_is_said_of_all_points_that_are_out_of_order() {
-    let core = Core::new(1).unwrap();
-    let by = named(&names("s", 4));
-    assert_eq!(put(&core, &by, "A", of([0, 2], 10, 5)), Ok(0));
-    let mut read = core.read_points("A".into(), of(0..4, 15, 6), by.clone(), 0).unwrap();
-    let late = Refused::OutOfOrder { point: 0, frontier: 20 };
-    assert_eq!(core.lock().admit(&mut read), Err(late));
-    assert_eq!(core.lock().out_of_order(&mut read, &[0, 1, 2, 3, 4]), [(0, 20), (2, 20)]);
-    assert_eq!(core.lock().series(), 2, "nothing of it is kept");
-    assert_eq!(put(&core, &by, "B", of([1, 3], 20, 1)), Ok(0));
-    assert_eq!(put(&core, &by, "A", of([0, 2], 20, 1)), Ok(0));
-    // Many of them are more than a round has room for.
-    let mut read = core.read_points("A".into(), of([0, 2], 15, 6), by.clone(), 0).unwrap();
-    for _ in 0..20_000 {
-        assert_eq!(core.lock().out_of_order(&mut read, &[1]), [(1, 30)]);
+fn each_point_that_its_series_refuses_is_known() {
+    for series in [1, 80_000] {
+        let core = Core::new(series).unwrap();
+        let by = named(&names("s", 4));
+        assert_eq!(put(&core, &by, "A", of([0, 2], 10, 5)), Ok(0));
+        assert_eq!(put(&core, &by, "B", of([3], 10, 5)), Ok(0));
+        let mut points = of(0..4, 15, 6);
+        for (number, start) in [(1, 20), (1, 25), (0, 20), (3, 40), (0, 29)] {
+            points.append(&of([number], start, 7));
+        }
+        let mut read = core.read_points("A".into(), points, by.clone(), 0).unwrap();
+        let late = Refused::OutOfOrder { point: 0, frontier: 20 };
+        assert_eq!(core.lock().admit(&mut read), Err(late));
+        let late = |frontier, is_by_post| Some(PointRefusal::OutOfOrder { frontier, is_by_post });
+        let other = Some(PointRefusal::OtherWriter);
+        let wanted = [
+            late(20, false),
+            None,
+            late(20, false),
+            other,
+            late(25, true),
+            None,
+            None,
+            other,
+            late(30, true),
+        ];
+        assert_eq!(core.lock().point_refusals(&mut read), Ok(wanted.to_vec()));
+        assert_eq!(core.lock().series(), 3, "nothing of it is kept");
+        assert_eq!(put(&core, &by, "B", of([1], 20, 1)), Ok(0));
+        assert_eq!(put(&core, &by, "A", of([0, 2], 20, 1)), Ok(0));
+        // Many of them are more than a round has room for.
+        let mut read = core.read_points("A".into(), of([0, 2], 15, 6), by.clone(), 0).unwrap();
+        for _ in 0..20_000 {
+            assert_eq!(core.lock().point_refusals(&mut read), Ok(vec![late(30, false); 2]));
+        }
+        assert_eq!(taken(&core)["s0"], (6, 30));
     }
-    assert_eq!(taken(&core)["s0"], (6, 30));
+}
+
+/// What refuses all of a post does so whatever its series say.
+#[test]
+fn what_refuses_a_whole_post_is_no_refusal_of_a_point() {
+    let core = Core::new(1).unwrap();
+    let by = named(&names("s", 2));
+    assert_eq!(put(&core, &by, "A", of([0], 10, i64::MAX)), Ok(0));
+    assert_eq!(core.lock().quarantine("B"), Ok(()));
+    for (sender, wanted) in [("A", Refused::TooLarge), ("B", Refused::Quarantined)] {
+        let mut read = core.read_points(sender.into(), of([1, 0], 20, 6), by.clone(), 0).unwrap();
+        assert_eq!(core.lock().point_refusals(&mut read), Err(wanted));
+    }
+    assert_eq!(core.lock().series(), 1);
 }
 
 #[test]

@@ -59,44 +59,51 @@ fn rounds_are_closed_seldom_while_posts_are_put_in_again() {
     assert_eq!(taken(&core), [("a0".into(), (40_000, 400_010))].into());
 }
 
-/// A's series and B's, of which a post of B's that has both is refused, in several books.
-fn two_senders() -> (Arc<Core>, String) {
+/// A's series and many of B's, of which a post of B's that has both is refused, in several books.
+fn two_senders() -> (Arc<Core>, Vec<String>, String) {
     let core = Core::new(24_000).unwrap();
-    let (theirs, own) = (names("a", 1), names("b", 12));
+    let (theirs, own) = (names("a", 1), names("b", 60));
     assert_eq!(post(&core, "A", &points(&theirs, 10, 1)), Ok(0));
     assert_eq!(post(&core, "B", &points(&own, 10, 1)), Ok(0));
-    (core, points(&[own, theirs].concat(), 20, 1))
+    let both = points(&[own.clone(), theirs].concat(), 1_000_000, 1);
+    (core, own, both)
 }
 
-/// Each stays in the other books until their rounds are closed: else any sender fills them, and good posts are refused as well.
+/// Else any sender fills the books, and good posts are refused as well: what is taken, and each answer, is as without.
 #[test]
-fn refused_posts_fill_no_book() {
-    let (core, refused) = two_senders();
-    for number in 0..70_000 {
-        let answer = post(&core, "B", &refused);
-        assert_eq!(answer, Err(Refused::OtherWriter { point: 12 }), "{number}");
+fn refused_posts_take_nothing_of_a_book() {
+    let [with, without] = [two_senders(), two_senders()];
+    let (own, refused) = (&with.1, &with.2);
+    let entries = |core: &Arc<Core>| core.lock().desk.entries();
+    assert_eq!(entries(&with.0), 4, "two posts in A's book");
+    for number in 0..40_000 {
+        let answer = post(&with.0, "B", refused);
+        assert_eq!(answer, Err(Refused::OtherWriter { point: 60 }), "{number}");
+        if number % 400 == 0 {
+            let good = points(own, 20 + number, 1);
+            assert_eq!([&with, &without].map(|it| post(&it.0, "B", &good)), [Ok(0), Ok(0)], "{number}");
+        }
+        assert_eq!(entries(&with.0), 6 + 2 * (number as usize / 400), "{number}");
     }
-    assert!(core.lock().rounds_closed() >= 16);
-    assert_eq!(post(&core, "B", &points(&names("b", 12), 20, 1)), Ok(0));
-    assert_eq!(taken(&core).len(), 13);
+    let [report, wanted] = [&with, &without].map(|it| it.0.lock().report().unwrap());
+    assert_eq!(String::from_utf8(report), String::from_utf8(wanted));
+    assert_eq!((entries(&with.0), with.0.lock().rounds_closed()), (entries(&without.0), 0));
+    assert_eq!(taken(&with.0), taken(&without.0));
 }
 
-/// All that takes places of a book's journal is counted: a post that is taken or refused, each flush, what is quarantined and lifted.
+/// What is in the journals of the books: two of a post that is taken, of each flush, of a sender that is quarantined and lifted.
 #[test]
 fn what_a_round_has_room_for_is_known() {
-    let room = |core: &Arc<Core>| {
-        let book = core.lock();
-        (0..=30_000).rev().find(|more| book.rounds.have_room_for(*more)).unwrap()
-    };
-    let (core, refused) = two_senders();
-    assert_eq!(room(&core), 30_000 - 2);
+    let entries = |core: &Arc<Core>| core.lock().desk.entries();
+    let (core, _, refused) = two_senders();
+    assert_eq!(entries(&core), 4);
     assert!(post(&core, "B", &refused).is_err());
-    assert_eq!(room(&core), 30_000 - 3);
+    assert_eq!(entries(&core), 4);
     core.lock().quarantine("C").unwrap();
     core.lock().lift("C").unwrap();
-    assert_eq!(room(&core), 30_000 - 5);
+    assert_eq!(entries(&core), 6);
     let core = Core::new(1).unwrap();
     assert_eq!(post(&core, "A", &points(&names("a", 2_500), 10, 1)), Ok(0));
     assert_eq!(taken(&core).len(), 2_500);
-    assert_eq!(room(&core), 30_000 - 1 - 3, "a flush takes a thousand series");
+    assert_eq!(entries(&core), 2 + 3 * 2, "a flush takes a thousand series");
 }

@@ -178,7 +178,7 @@ fn a_book_that_was_in_flight_while_others_were_closed_has_room_for_a_post_of_sev
     assert_eq!((sums[&("s0".to_string(), 0)], sums.len()), (32_600, 100 + 30));
 }
 
-/// Else any sender ends the service: by refused posts, which leave no room, and one of two hours.
+/// Else any sender ends the service: by refused posts that leave no room, and one of two hours.
 #[test]
 fn behind_refused_posts_there_is_room_for_a_post_of_several_hours() {
     let core = Core::new(24_000).unwrap();

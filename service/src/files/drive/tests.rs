@@ -3,7 +3,7 @@
 use super::memory::{Owner, Step, Store};
 use super::*;
 use crate::files::journal::{Body, NoNames, Post};
-use crate::files::outbox::Runs;
+use crate::files::outbox::{Recents, Runs};
 use crate::files::{Dead, Fault, Journal, Outbox, Ticket};
 use std::collections::BTreeSet;
 use std::path::PathBuf;
@@ -60,7 +60,7 @@ async fn the_next_owner_has_what_was_durable() {
     append(&journal, "A", "one");
     let (second, turned) = journal.turn();
     journal.settle(turned);
-    outbox.commit_with(&[request(5)], second, Runs::new()).unwrap();
+    outbox.commit_with(&[request(5)], second, Runs::new(), &Recents::default()).unwrap();
     journal.forget(second).unwrap();
     dead.keep("0-e-1", "400", b"body").unwrap();
     let ticket = append(&journal, "A", "two");
@@ -113,7 +113,7 @@ fn a_checkpoint_is_one_sync() {
         journal.settle(turned);
         let first = outbox.journal();
         journal.hold(&BTreeSet::from(["B".to_string()]), first, next).unwrap();
-        outbox.commit_with(&[request(number)], next, Runs::new()).unwrap();
+        outbox.commit_with(&[request(number)], next, Runs::new(), &Recents::default()).unwrap();
         journal.forget(next).unwrap();
         assert!(!outbox.may_deliver(number), "it is not durable yet");
         outbox.settle().unwrap();

@@ -171,6 +171,17 @@ impl Points {
         part
     }
 
+    /// Those whose places are wanted, in their order, without what their runs are.
+    pub fn of_places(&self, is_wanted: impl Fn(usize) -> bool) -> Points {
+        let mut part = Points::with_words(self.words.len(), self.count());
+        for (place, point) in self.each().enumerate() {
+            if is_wanted(place) {
+                part.push_words(point[0], &point[1..]);
+            }
+        }
+        part
+    }
+
     /// The words of the point at a place.
     pub fn point(&self, place: u32) -> Option<&[u64]> {
         let place = place as usize;

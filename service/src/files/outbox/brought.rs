@@ -4,6 +4,7 @@ use super::changes::{Group, UnitOfMetric};
 use super::keys::Keys;
 use super::rows;
 use super::state::Batch;
+use super::table::Heard;
 use super::{Outbox, Series};
 use crate::files::{locked, segment, Fault};
 use crate::otlp::series::SeriesKey;
@@ -80,10 +81,11 @@ impl Outbox {
                 first: waits.first,
                 epoch: waits.epoch,
                 since: waits.since,
-                heard: None,
+                heard: Heard::default(),
                 journal: state.facts.journal,
                 ends: Vec::new(),
                 new: Keys::default(),
+                recent: Vec::new(),
             }
         };
         self.put_group(&mut writer, group, &waits.bodies)

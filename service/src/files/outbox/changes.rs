@@ -1,10 +1,11 @@
 //! What can become of an outbox.
 
 use super::keys::Keys;
+use super::table::Heard;
+use super::Recent;
 use crate::runs::Run;
 use std::ops::Range;
 use std::sync::Arc;
-use std::time::Instant;
 
 /// The name of a metric, and that of a unit.
 pub type UnitOfMetric = (String, String);
@@ -38,13 +39,15 @@ pub struct Group {
     pub epoch: Arc<str>,
     pub since: u64,
     /// The same by a clock that nobody sets, where this run has made it.
-    pub heard: Option<Instant>,
+    pub heard: Heard,
     /// Posts of the journal's segments before it are in this group or in earlier ones.
     pub journal: u64,
     /// What it does to series, in the order of their ids.
     pub ends: Vec<End>,
     /// The keys of those that are new, which have the next ids: the last of these.
     pub new: Keys,
+    /// What posts had last of series, by their ids: also of those that are held, and so in no group yet.
+    pub recent: Vec<(u32, Recent)>,
 }
 
 /// What a group does to a series.

@@ -8,7 +8,7 @@ use super::parts;
 use super::rows::{self, GroupHead};
 use super::snapshot::Snapshot;
 use super::state::{Batch, State};
-use super::table::Table;
+use super::table::{Heard, Table};
 use crate::files::disk::Disk;
 use crate::files::records::{Next, Reader, Which, HEADER};
 use crate::files::torn_tail::{check_torn, CHANGED};
@@ -161,15 +161,16 @@ impl Reading {
         let Items::Whole { journal, ends, from, to } = items else {
             return Err(wrong());
         };
-        let (ends, new) = rows::ends_of(&ends, series).ok_or_else(wrong)?;
+        let (ends, new, recent) = rows::ends_of(&ends, series).ok_or_else(wrong)?;
         let group = Group {
             first: head.first,
             epoch: head.epoch.as_str().into(),
             since: head.since,
-            heard: None,
+            heard: Heard::default(),
             journal,
             ends,
             new,
+            recent,
         };
         Ok(Change::Group { group, count: head.count, segment: self.number, items: from..to })
     }

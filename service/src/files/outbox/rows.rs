@@ -19,10 +19,11 @@
 use super::changes::{Change, End, Group};
 use super::keys::{each_part, Keys};
 use super::parts::put_long;
-use super::snapshot::RunRow;
+use super::snapshot::{RecentRow, RunRow};
 use super::state::Front;
 use super::table::Table;
 use super::texts::Texts;
+use super::Recent;
 use crate::files::disk::{io_fault, Disk};
 use crate::files::records::{self, put, take_number, HEAD, OWN};
 use crate::files::Fault;
@@ -68,6 +69,8 @@ struct Ends<N> {
     new: N,
     #[serde(default)]
     runs: Vec<RunRow>,
+    #[serde(default)]
+    recent: Vec<RecentRow>,
 }
 
 /// Rows of new series, written one by one: their keys are long.
@@ -192,6 +195,7 @@ fn ends(group: &Group) -> Ends<NewRows<'_>> {
         known: known.iter().map(|end| (end.id, end.end)).collect(),
         new: NewRows(&group.new.texts, new),
         runs: group.ends.iter().filter_map(run).collect(),
+        recent: group.recent.iter().filter_map(|(id, recent)| RecentRow::of(*id, *recent)).collect(),
     }
 }
 
@@ -230,9 +234,12 @@ pub fn commit_of<'a>(mut bytes: &'a [u8], head: &GroupHead) -> Option<(u64, &'a 
     is_its.then_some((journal, *rest))
 }
 
-/// What a group did to series, behind all that these know, and the keys of those that are new.
-pub fn ends_of(bytes: &[u8], series: &Table) -> Option<(Vec<End>, Keys)> {
-    let Ends { known, new, runs } = unpacked::<Ends<NewRead>>(bytes)?;
+/// What a group did to series, the keys of those that are new, and what posts had last of some, by their ids.
+type EndsRead = (Vec<End>, Keys, Vec<(u32, Recent)>);
+
+/// What a group did, after all that these know.
+pub fn ends_of(bytes: &[u8], series: &Table) -> Option<EndsRead> {
+    let Ends { known, new, runs, recent } = unpacked::<Ends<NewRead>>(bytes)?;
     let runs = runs.into_iter().map(|row| (row.0, row));
     let mut runs: HashMap<u32, RunRow> = runs.collect();
     let mut of = |(id, end)| {
@@ -242,7 +249,8 @@ pub fn ends_of(bytes: &[u8], series: &Table) -> Option<(Vec<End>, Keys)> {
     let are_known = known.iter().all(|(id, _)| series.at(*id).is_some());
     let new_ends = (series.next_id()..).zip(new.ends);
     let all = known.into_iter().chain(new_ends).map(&mut of).collect();
-    (are_known && runs.is_empty()).then_some((all, new.keys))
+    let recent = recent.into_iter().map(|row| (row.0, row.recent())).collect();
+    (are_known && runs.is_empty()).then_some((all, new.keys, recent))
 }
 
 /// The record of a change that is no group.

@@ -5,9 +5,9 @@ use super::keys::each_part;
 use super::parts::put_long;
 use super::rows::{packed_pieces, unpacked, PIECE, SNAPSHOT};
 use super::state::{Facts, State};
-use super::table::{KnownSeries, Table};
+use super::table::{whole_seconds, Heard, KnownSeries, Table};
 use super::texts::{Texts, PART};
-use super::Series;
+use super::{PointsDigest, Recent, Series};
 use crate::otlp::series::SeriesKey;
 use crate::runs::{EndedRun, Forgotten, Point, Run, Since};
 use serde::{Deserialize, Deserializer, Serialize};
@@ -23,7 +23,7 @@ pub struct Snapshot {
     pub texts: Texts,
 }
 
-/// As it is written: `Facts`, series and runs.
+/// As it is written: `Facts`, series, runs and what posts had last of series.
 #[derive(Deserialize)]
 struct Content {
     epoch: String,
@@ -36,6 +36,8 @@ struct Content {
     runs: Vec<RunRow>,
     beside: BTreeSet<UnitOfMetric>,
     forgotten: Forgotten,
+    #[serde(default)]
+    recent: Vec<RecentRow>,
 }
 
 /// A part of what is written.
@@ -49,7 +51,7 @@ enum Piece {
 type Row<T> = (SeriesKey, u64, u64, Option<T>);
 
 fn row(key: SeriesKey, series: &Series) -> Row<&str> {
-    (key, series.frontier, series.seen, series.owner.as_deref())
+    (key, series.frontier, u64::from(series.seen), series.owner.as_deref())
 }
 
 /// The run of a series: its id, its start, how far its frontier is after the last point, that point's words, its interval, and
@@ -71,6 +73,22 @@ impl RunRow {
     }
 }
 
+/// The id of a series, and the digests of what the last two posts had of it.
+#[derive(Serialize, Deserialize)]
+pub struct RecentRow(pub u32, u64, u64);
+
+impl RecentRow {
+    /// None where nothing is known.
+    pub fn of(id: u32, recent: Recent) -> Option<RecentRow> {
+        let [last, before] = recent.0.map(u64::from);
+        (last != 0).then_some(RecentRow(id, last, before))
+    }
+
+    pub fn recent(&self) -> Recent {
+        Recent([self.1, self.2].map(PointsDigest::from))
+    }
+}
+
 impl Snapshot {
     pub fn records(&self) -> Vec<u8> {
         let run = |(id, series): (u32, &Series)| {
@@ -78,6 +96,8 @@ impl Snapshot {
             Some(RunRow::of(id, series.frontier, run))
         };
         let runs: Vec<RunRow> = (0..).zip(&self.series).filter_map(run).collect();
+        let recent = |(id, series): (u32, &Series)| RecentRow::of(id, series.recent);
+        let recent: Vec<RecentRow> = (0..).zip(&self.series).filter_map(recent).collect();
         let Facts { epoch, next, acknowledged, journal, quarantined, since, beside, forgotten } = &self.facts;
         let ahead = format!(
             r#"{{"epoch":{},"next":{next},"acknowledged":{acknowledged},"journal":{journal},"quarantined":{},"series":["#,
@@ -85,11 +105,12 @@ impl Snapshot {
             json(quarantined)
         );
         let behind = format!(
-            r#"],"since":{},"runs":{},"beside":{},"forgotten":{}}}"#,
+            r#"],"since":{},"runs":{},"beside":{},"forgotten":{},"recent":{}}}"#,
             json(since),
             json(&runs),
             json(beside),
-            json(forgotten)
+            json(forgotten),
+            json(&recent)
         );
         let text = |text: &[u8]| Piece::Text(text.into());
         let pieces = std::iter::once(text(ahead.as_bytes()));
@@ -130,6 +151,9 @@ impl Snapshot {
             let series = &mut state.series.at_mut(row.0)?.series;
             series.run = Some(row.run(series.frontier));
         }
+        for row in content.recent {
+            state.series.at_mut(row.0)?.series.recent = row.recent();
+        }
         Some(state)
     }
 }
@@ -146,7 +170,8 @@ impl<'de> Deserialize<'de> for Table {
         each_part(deserializer, of, |keys, says| {
             let known = says.into_iter().map(|(frontier, seen, owner)| {
                 let (owner, run) = (owner.map(|owner| table.shared(&owner)), None);
-                KnownSeries { series: Series { frontier, owner, seen, run }, heard: None }
+                let (seen, recent) = (whole_seconds(seen), Recent::default());
+                KnownSeries { series: Series { frontier, owner, seen, run, recent }, heard: Heard::default() }
             });
             let known: Vec<KnownSeries> = known.collect();
             table.put_all(&keys, known);

@@ -2,8 +2,8 @@
 
 use super::changes::{Change, Group, UnitOfMetric};
 use super::snapshot::Snapshot;
-use super::table::{KnownSeries, Table};
-use super::{Series, Waiting};
+use super::table::{whole_seconds, Heard, KnownSeries, Table};
+use super::{Recent, Series, Waiting};
 use crate::files::{nanoseconds, seconds};
 use crate::otlp::series::{Digest, SeriesKey};
 use crate::runs::{Forgotten, Since};
@@ -40,9 +40,9 @@ impl KnownSeries {
     /// else no run of it that begins before that would count.
     fn may_be_forgotten(&self, age: Age) -> bool {
         self.series.owner.is_some()
-            && self.series.seen < age.before
+            && u64::from(self.series.seen) < age.before
             && self.series.frontier / 1_000_000_000 < age.before
-            && self.heard.is_none_or(|heard| heard.elapsed() >= age.age)
+            && self.heard.is_so_long_ago(age.age)
     }
 }
 
@@ -175,7 +175,10 @@ impl State {
             let Some(KnownSeries { series, .. }) = self.series.at_mut(id) else {
                 continue;
             };
-            series.frontier = series.frontier.min(to);
+            if to < series.frontier {
+                series.frontier = to;
+                series.recent = Recent::default(); // what is taken back is no repeat when it comes again
+            }
             if let Some(run) = &mut series.run {
                 let last = &mut Arc::make_mut(run).last;
                 last.time = last.time.min(to);
@@ -187,15 +190,15 @@ impl State {
     pub fn adopt(&mut self, series: Vec<(SeriesKey, Series)>) {
         for (key, mut series) in series {
             series.owner = series.owner.map(|owner| self.series.shared(&owner));
-            self.series.put(key, KnownSeries { series, heard: None });
+            self.series.put(key, KnownSeries { series, heard: Heard::default() });
         }
     }
 
     fn advance(&mut self, group: Group) {
-        let (seen, heard) = (group.since, group.heard);
+        let (seen, heard) = (whole_seconds(group.since), group.heard);
         let new = group.new.digests.iter().map(|_| {
-            let (frontier, owner, run) = (0, None, None);
-            KnownSeries { series: Series { frontier, owner, seen, run }, heard }
+            let (frontier, owner, run, recent) = (0, None, None, Recent::default());
+            KnownSeries { series: Series { frontier, owner, seen, run, recent }, heard }
         });
         self.series.put_all(&group.new, new);
         for end in group.ends {
@@ -207,6 +210,11 @@ impl State {
             known.heard = heard;
             if end.run.is_some() {
                 known.series.run = end.run;
+            }
+        }
+        for (id, recent) in group.recent {
+            if let Some(KnownSeries { series, .. }) = self.series.at_mut(id) {
+                series.recent = series.recent.then(recent);
             }
         }
     }

@@ -10,12 +10,43 @@ use crate::otlp::series::{Digest, Digests, SeriesKey};
 use ahash::{AHashMap, AHashSet};
 use std::collections::HashSet;
 use std::sync::Arc;
-use std::time::Instant;
+use std::sync::OnceLock;
+use std::time::{Duration, Instant};
 
 pub struct KnownSeries {
     pub series: Series,
     /// When a group of this run last had a point of it. A clock that is set says nothing of that.
-    pub heard: Option<Instant>,
+    pub heard: Heard,
+}
+
+/// When something was in this run, by a clock that nobody sets, if it was. Each series has one, so it takes four bytes: parts of a
+/// second, for eight years.
+#[derive(Clone, Copy, Debug, Default)]
+pub struct Heard(u32);
+
+const PARTS_OF_A_SECOND: u128 = 16;
+
+static BEGAN: OnceLock<Instant> = OnceLock::new();
+
+impl Heard {
+    pub fn now() -> Heard {
+        let began = BEGAN.get_or_init(Instant::now);
+        Heard(parts(began.elapsed()).saturating_add(1)) // 0 is never
+    }
+
+    /// Also where it never was.
+    pub fn is_so_long_ago(self, age: Duration) -> bool {
+        self.0 == 0 || Heard::now().0.saturating_sub(self.0) >= parts(age)
+    }
+}
+
+fn parts(time: Duration) -> u32 {
+    u32::try_from(time.as_millis() * PARTS_OF_A_SECOND / 1000).unwrap_or(u32::MAX)
+}
+
+/// Seconds since 1970 as a series has them.
+pub fn whole_seconds(seconds: u64) -> u32 {
+    u32::try_from(seconds).unwrap_or(u32::MAX)
 }
 
 /// Series have ids from 0 on, by which the records of the segment name them.
@@ -29,6 +60,8 @@ pub struct Table {
     digests: Digests,
     /// Each is in memory once.
     owners: HashSet<Arc<str>>,
+    /// How often series were given new ids.
+    numbering: u64,
 }
 
 impl Table {
@@ -124,7 +157,7 @@ impl Table {
     pub fn renumber(&mut self) {
         if self.ids.len() < self.known.len() {
             let old = std::mem::take(self);
-            self.owners = old.owners;
+            (self.owners, self.numbering) = (old.owners, old.numbering + 1);
             let left = (0..).zip(old.known).filter_map(|(id, known)| Some((id, known?)));
             let (ids, left): (Vec<u32>, Vec<KnownSeries>) = left.unzip();
             for (key, known) in old.keys.of(ids.into_iter()).zip(left) {
@@ -132,6 +165,11 @@ impl Table {
             }
             self.owners.retain(|owner| Arc::strong_count(owner) > 1);
         }
+    }
+
+    /// Another one where series have other ids.
+    pub fn numbering(&self) -> u64 {
+        self.numbering
     }
 
     /// An owner's name.
@@ -147,20 +185,40 @@ impl Table {
 
 #[cfg(test)]
 mod tests {
+    use super::super::Recent;
     use super::*;
 
     fn key(number: usize) -> SeriesKey {
         SeriesKey(format!("a{number}").into())
     }
 
-    fn known(seen: u64) -> KnownSeries {
-        KnownSeries { series: Series { frontier: 0, owner: None, seen, run: None }, heard: None }
+    fn known(seen: u32) -> KnownSeries {
+        let recent = Recent::default();
+        KnownSeries {
+            series: Series { frontier: 0, owner: None, seen, run: None, recent },
+            heard: Heard::default(),
+        }
     }
 
     /// Of each id its key, and what is known.
-    fn all(table: &Table) -> Vec<(SeriesKey, u64)> {
+    fn all(table: &Table) -> Vec<(SeriesKey, u32)> {
         let seen = table.iter().map(|(_, known)| known.series.seen);
         table.keys(0..table.next_id()).zip(seen).collect()
+    }
+
+    /// Of these there are a million.
+    #[test]
+    fn what_is_known_of_a_series_takes_few_bytes() {
+        assert!(size_of::<Option<KnownSeries>>() <= 64);
+    }
+
+    #[test]
+    fn how_long_ago_something_was_is_known() {
+        assert!(Heard::default().is_so_long_ago(Duration::MAX));
+        let now = Heard::now();
+        assert!(now.is_so_long_ago(Duration::ZERO) && !now.is_so_long_ago(Duration::from_secs(60)));
+        std::thread::sleep(Duration::from_millis(200));
+        assert!(now.is_so_long_ago(Duration::from_millis(100)));
     }
 
     /// Also where one is known already, or is among them twice.

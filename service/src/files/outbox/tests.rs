@@ -242,10 +242,11 @@ fn runs_of_a_group_last() {
         let outbox = open(path);
         let given = runs(&[("a", a.clone()), ("b", b.clone()), ("held", late.clone())]);
         let bodies = [body(&[("a", 10), ("b", 11), ("c", 12)], "")];
-        let saved = outbox.commit_with(&bodies, 2, given).unwrap();
+        let saved = outbox.commit_with(&bodies, 2, given, &Recents::default()).unwrap();
         assert_eq!(saved, runs(&[("a", a.clone()), ("b", b.clone())]), "what the group has");
         // The book is ahead of the run: it has delta points.
-        outbox.commit_with(&[body(&[("a", 30)], "")], 3, runs(&[("a", late.clone())])).unwrap();
+        let late = runs(&[("a", late.clone())]);
+        outbox.commit_with(&[body(&[("a", 30)], "")], 3, late, &Recents::default()).unwrap();
     }
     let wanted = [
         ("a".to_string(), Some((*late).clone())),
@@ -258,6 +259,58 @@ fn runs_of_a_group_last() {
         assert_eq!(found(&outbox), wanted, "{start}");
         assert_eq!((outbox.since(), outbox.frontier(&key_of("a").digest())), (since, 30));
     }
+}
+
+/// By the id of a series where that is known, else by its key; also of one that is in no group, since its sender is quarantined.
+#[test]
+fn what_posts_had_last_is_known_over_starts() {
+    let folder = tempfile::tempdir().unwrap();
+    let path = folder.path();
+    let digest = |number: u64| PointsDigest::from(number);
+    let recent = |last: u64, before: u64| Recent([last, before].map(digest));
+    let by_digest = |all: &[(&str, Recent)]| {
+        let by_digest = all.iter().map(|(key, recent)| (key_of(key).digest(), *recent)).collect();
+        Recents { by_digest, ..Recents::default() }
+    };
+    let found = |outbox: &Outbox| {
+        ["a", "b", "c", "held"].map(|key| outbox.recent(&key_of(key).digest()).0.map(u64::from))
+    };
+    {
+        let outbox = open(path);
+        let given = by_digest(&[("a", recent(5, 0)), ("b", recent(6, 4)), ("held", recent(9, 0))]);
+        let bodies = [body(&[("a", 10), ("b", 11), ("c", 12)], "")];
+        outbox.commit_with(&bodies, 2, Runs::new(), &given).unwrap();
+        let (numbering, ids) = outbox.ids([key_of("a").digest(), key_of("held").digest()].iter());
+        assert!(ids[0].is_some() && ids[1].is_none());
+        let by_id = vec![(ids[0].unwrap(), recent(7, 0))];
+        let given = Recents { numbering, by_id, ..by_digest(&[("b", recent(8, 6))]) };
+        outbox.commit_with(&[body(&[("b", 20)], "")], 3, Runs::new(), &given).unwrap();
+        // Ids of another numbering may be others'.
+        let given =
+            Recents { numbering: numbering + 1, by_id: vec![(ids[0].unwrap(), recent(1, 1))], ..given };
+        outbox
+            .commit_with(
+                &[body(&[("b", 30)], "")],
+                4,
+                Runs::new(),
+                &Recents { by_digest: [].into(), ..given },
+            )
+            .unwrap();
+    }
+    let wanted = [[7, 5], [8, 6], [0, 0], [0, 0]];
+    // The first start reads the commits, the others the snapshot that it wrote.
+    for start in 0..3 {
+        assert_eq!(found(&open(path)), wanted, "{start}");
+    }
+    let outbox = open(path);
+    outbox.put_back(&[key_of("a"), key_of("b")], 15).unwrap();
+    assert_eq!(
+        found(&outbox),
+        [[7, 5], [0, 0], [0, 0], [0, 0]],
+        "what is taken back is no repeat when it comes again"
+    );
+    drop(outbox);
+    assert_eq!(found(&open(path)), [[7, 5], [0, 0], [0, 0], [0, 0]]);
 }
 
 /// A run that goes on behind it must not count again.

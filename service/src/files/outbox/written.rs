@@ -4,16 +4,15 @@ use super::changes::{Change, End, Group};
 use super::keys::Keys;
 use super::rows;
 use super::state::State;
-use super::table::Table;
+use super::table::{Heard, Table};
 use super::texts::{begin_of, Texts};
-use super::{Outbox, Runs, Writer};
+use super::{Outbox, Recent, Recents, Runs, Writer};
 use crate::files::records::Which;
 use crate::files::segment::{self, Ahead, Segment};
 use crate::files::{locked, seconds, Fault};
 use crate::otlp::series::{Digest, Digests, NotForwarded, SeriesKey};
 use std::collections::HashMap;
 use std::io;
-use std::time::Instant;
 
 /// Whoever commits a group is who forgets series.
 const OTHER_SERIES: &str = "series were forgotten while it was read";
@@ -22,12 +21,18 @@ impl Outbox {
     /// As `commit`, of a group without runs.
     #[cfg(test)]
     pub fn commit(&self, bodies: &[Vec<u8>], journal: u64) -> Result<(), Fault> {
-        self.commit_with(bodies, journal, Runs::new()).map(drop)
+        self.commit_with(bodies, journal, Runs::new(), &Recents::default()).map(drop)
     }
 
     /// Makes a group durable, whole or not at all; with a drive once it is settled. Posts of the journal's segments before `journal` are in it or in earlier
     /// ones. Of the runs those count whose series the group has: these are returned.
-    pub fn commit_with(&self, bodies: &[Vec<u8>], journal: u64, mut runs: Runs) -> Result<Runs, Fault> {
+    pub fn commit_with(
+        &self,
+        bodies: &[Vec<u8>],
+        journal: u64,
+        mut runs: Runs,
+        recents: &Recents,
+    ) -> Result<Runs, Fault> {
         let (mut ends, mut items) = (Ends::default(), Vec::new());
         for body in bodies {
             for (key, end) in (self.read_ends)(body).map_err(|error| self.unreadable(error))? {
@@ -40,16 +45,18 @@ impl Outbox {
         let mut writer = locked(&self.writer);
         let group = {
             let state = locked(&self.state);
+            let recent = ends.recent_by_id(recents, &state.series);
             let by_id = ends.by_id(&runs, &state.series);
             let (ends, new) = by_id.ok_or_else(|| self.unreadable(NotForwarded(OTHER_SERIES.into())))?;
             Group {
                 first: state.facts.next,
                 epoch: state.facts.epoch.clone(),
                 since: seconds(),
-                heard: Some(Instant::now()),
+                heard: Heard::now(),
                 journal,
                 ends,
                 new,
+                recent,
             }
         };
         self.put_group(&mut writer, group, &items)?;
@@ -212,6 +219,18 @@ impl Ends {
         new.for_each(|place| *place = places[*place as usize]);
         let before = std::mem::take(&mut self.new);
         before.of(order.into_iter()).for_each(|key| self.new.push(key));
+    }
+
+    /// What posts had last of series that have an id, now or by this group.
+    fn recent_by_id(&self, recents: &Recents, series: &Table) -> Vec<(u32, Recent)> {
+        let new = |digest: &Digest| Some(series.next_id() + self.of.get(digest)?.1?);
+        let by_digest = recents.by_digest.iter().filter_map(|(digest, recent)| {
+            let id = series.id_of(digest).or_else(|| new(digest))?;
+            Some((id, *recent))
+        });
+        let has_ids = recents.numbering == series.numbering();
+        let by_id = recents.by_id.iter().filter(|_| has_ids).map(|(id, recent)| (*id, *recent));
+        by_id.chain(by_digest).collect()
     }
 
     /// What they do to these series, and the keys of those that are new; none where other series are known than before.

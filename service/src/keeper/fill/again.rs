@@ -104,6 +104,11 @@ impl Again {
         self.read.as_mut().map_err(|refused| *refused)
     }
 
+    /// The same, once the book has it.
+    pub fn was_read(&self) -> Result<&Read, Refused> {
+        self.read.as_ref().map_err(|refused| *refused)
+    }
+
     /// Whether as many of its points as before are foreign.
     pub fn has_all(&mut self) -> bool {
         let foreign = self.foreign;
@@ -113,6 +118,15 @@ impl Again {
     /// How many posts it is.
     pub fn posts(&self) -> usize {
         self.each.len().max(1)
+    }
+
+    /// The points of each post of these, which are all: those of a post that is by itself.
+    pub fn posts_of<'p>(&'p self, all: &'p Points) -> impl Iterator<Item = &'p Points> {
+        let each = self.each.iter().filter_map(|post| match &post.body {
+            Body::Points(points) => Some(points),
+            Body::Text(_) => None,
+        });
+        each.chain(self.each.is_empty().then_some(all))
     }
 
     /// Each by itself, where there are several: they are to be read.

@@ -50,7 +50,13 @@ async fn a_series_that_is_put_back_goes_on_from_there() {
     assert_eq!(run.forwarded().await["a"], (4, 0));
     run.end().await;
     let run = begin(&place.path().join("data")).await;
-    assert_eq!(refusal(run.post(21).await), "out of order: point 0, frontier 22");
+    assert_eq!(run.post(21).await, Outcome::taken(0), "a repeat");
+    assert_eq!(run.post(20).await, Outcome::taken(0), "a repeat of the one before");
+    assert_eq!(
+        refusal(run.post(5).await),
+        "out of order: point 0, frontier 22",
+        "its end was put back since"
+    );
     assert_eq!(run.post(22).await, Outcome::taken(0));
     run.end().await;
 }

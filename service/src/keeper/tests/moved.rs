@@ -128,7 +128,6 @@ impl World {
                 let body = point(sender, *number + 1);
                 match answered(run.slot.post(sender.into(), body.into()).await)? {
                     (200, _) => {}
-                    (400, why) if again && why.starts_with("out of order") => {}
                     other => panic!("{act:?}: {other:?}"),
                 }
                 *number += 1;

@@ -1,7 +1,7 @@
 //! What a book is primed by that begins with the outbox alone.
 
 use super::*;
-use crate::files::Runs;
+use crate::files::{Recents, Runs};
 
 /// As a kill leaves it behind a commit: what says whose its series are has not come.
 fn committed_without_owners(folder: &Folder) {
@@ -13,7 +13,7 @@ fn committed_without_owners(folder: &Folder) {
     let bodies = core.lock().take_all().unwrap().texts().unwrap();
     let (next, turned) = journal.turn();
     journal.settle(turned);
-    outbox.commit_with(&bodies, next, Runs::new()).unwrap();
+    outbox.commit_with(&bodies, next, Runs::new(), &Recents::default()).unwrap();
     assert_eq!(outbox.without_owner().len(), 1);
 }
 

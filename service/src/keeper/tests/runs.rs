@@ -178,9 +178,15 @@ async fn what_is_refused_has_its_name() {
     run.flush().await;
     // A point of another's that is no later than the run is no repeat: it names the one, though another was left out.
     let other = [point("m3", BEGIN, BEGIN + 1, 1), point("m", 10, BEGIN, 5)];
-    assert_eq!(run.cumulative("B", &other).await, Refused::OtherWriter { point: 1 }.into());
+    let outcome = run.cumulative("B", &other).await;
+    let Outcome::Taken { rejected: 1, parts, .. } = &outcome else { panic!("{outcome:?}") };
+    assert!(
+        parts[0].1.message.starts_with("other writer: point 1: `m` {} is another sender's"),
+        "{outcome:?}"
+    );
+    run.flush().await;
     let sums = run.forwarded().await;
-    assert_eq!((sums["m"].0, sums["m2"].0), (2, 3));
+    assert_eq!((sums["m"].0, sums["m2"].0, sums["m3"].0), (2, 3, 1));
     run.end().await;
 }
 
@@ -237,6 +243,46 @@ async fn a_post_is_tried_once_whatever_delta_points_are_ahead_of_its_cumulative_
     run.end().await;
 }
 
+/// A late, a repeated and another's delta point of a post that has cumulative ones too: each is as in any other post.
+#[tokio::test(flavor = "multi_thread")]
+async fn delta_points_beside_cumulative_ones_are_refused_alone_and_repeated() {
+    let place = tempfile::tempdir().unwrap();
+    let run = Run::begin_runs(&place.path().join("data"), Options::default()).await;
+    let theirs = text(&[point("b", BEGIN, BEGIN + 10, 1)], 1);
+    assert_eq!(run.slot.post("B".into(), theirs.into()).await, Outcome::taken(0));
+    let deltas = [point("d", BEGIN, BEGIN + 10, 2), point("e", BEGIN, BEGIN + 10, 3)];
+    let all = [point("m", BEGIN, BEGIN + 10, 5)];
+    for _ in 0..2 {
+        assert_eq!(run.mixed("A", &deltas, &all).await, Outcome::taken(0), "also a repeat");
+    }
+    let deltas = [
+        point("d", BEGIN, BEGIN + 10, 2), // a duplicate
+        point("b", BEGIN + 10, BEGIN + 20, 4),
+        point("e", BEGIN + 1, BEGIN + 10, 7),
+        point("f", BEGIN, BEGIN + 10, 8),
+    ];
+    let all = [point("m", BEGIN, BEGIN + 20, 6), point("b2", BEGIN, BEGIN + 10, 9)];
+    let outcome = run.mixed("A", &deltas, &all).await;
+    let Outcome::Taken { rejected: 2, parts, .. } = &outcome else { panic!("{outcome:?}") };
+    let begins = ["other writer: point 1: `b` {} is another sender's", "out of order: point 2, frontier "];
+    assert_eq!(parts.len(), 2, "{outcome:?}");
+    for begin in begins {
+        assert!(
+            parts.iter().any(|(points, why)| *points == 1 && why.message.starts_with(begin)),
+            "{outcome:?}"
+        );
+    }
+    run.flush().await;
+    let sums = run.forwarded().await;
+    let sum = |name: &str| sums[name].0;
+    assert_eq!(["b", "d", "e", "f", "m", "b2"].map(sum), [1, 2, 3, 8, 6, 9]);
+    // Nothing is left of it.
+    let late = [point("e", BEGIN + 1, BEGIN + 10, 7)];
+    let outcome = run.mixed("A", &late, &[point("b", BEGIN, BEGIN + 30, 4)]).await;
+    assert_eq!(outcome.status(), 400, "{outcome:?}");
+    run.end().await;
+}
+
 /// Delta points that were refused with their post end no run.
 #[tokio::test(flavor = "multi_thread")]
 async fn a_run_goes_on_behind_a_refused_post_with_delta_points_of_its_series() {
@@ -244,9 +290,10 @@ async fn a_run_goes_on_behind_a_refused_post_with_delta_points_of_its_series() {
     let run = Run::begin_runs(&place.path().join("data"), Options::default()).await;
     assert_eq!(run.cumulative("B", &[point("m2", BEGIN, BEGIN + 10, 1)]).await, Outcome::taken(0));
     assert_eq!(run.cumulative("A", &[point("m", BEGIN, BEGIN + 10, 5)]).await, Outcome::taken(0));
-    let deltas = [point("m", BEGIN + 10, BEGIN + 20, 2)];
-    let all = [point("m", BEGIN, BEGIN + 30, 9), point("m2", BEGIN, BEGIN + 30, 3)];
-    assert_eq!(run.mixed("A", &deltas, &all).await, Refused::OtherWriter { point: 2 }.into());
+    let large = [point("x", BEGIN, BEGIN + 1, i64::MAX), point("x", BEGIN + 1, BEGIN + 2, 5)];
+    let deltas = [&[point("m", BEGIN + 10, BEGIN + 20, 2)][..], &large].concat();
+    let all = [point("m", BEGIN, BEGIN + 30, 9)];
+    assert_eq!(run.mixed("A", &deltas, &all).await.status(), 413);
     assert_eq!(run.cumulative("A", &[point("m", BEGIN, BEGIN + 30, 9)]).await, Outcome::taken(0));
     run.flush().await;
     let sums = run.forwarded().await;

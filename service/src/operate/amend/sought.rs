@@ -229,6 +229,7 @@ impl InAllSlots {
 mod tests {
     use super::super::{HOUR, SECOND};
     use super::*;
+    use crate::files::Recent;
 
     const NOW: u64 = 1_795_784_400 * SECOND; // 2026-11-27 13:00
 
@@ -239,7 +240,8 @@ mod tests {
 
     fn series(ends: &[(&str, &str, u64)]) -> Vec<(SeriesKey, Series)> {
         let one = |(name, shop, frontier): &(&str, &str, u64)| {
-            let about = Series { frontier: *frontier, owner: Some("A".into()), seen: 0, run: None };
+            let recent = Recent::default();
+            let about = Series { frontier: *frontier, owner: Some("A".into()), seen: 0, run: None, recent };
             (key(name, shop), about)
         };
         ends.iter().map(one).collect()

@@ -1,7 +1,6 @@
 //! A reason in words for each kind of foreign point that docs/FORMATS.md lists.
 
 use super::*;
-use crate::core::Core;
 
 const SPAN: &str = r#""startTimeUnixNano":"1","timeUnixNano":"2""#;
 
@@ -159,43 +158,4 @@ fn a_point_that_the_book_counts_is_found_again() {
     let key = |place| point_at(body.as_bytes(), Profile::Deltas, place).map(|(_, key)| key.0.to_string());
     assert_eq!(key(1).unwrap(), r#"[[],"","",[],"m","","sum",[{"key":"k","value":{}}]]"#);
     assert!(key(0).is_some() && key(2).is_none());
-}
-
-/// What a body is answered by a book that has nothing yet is what the library's says: some begin before others of their series end,
-/// some are foreign.
-#[test]
-fn a_body_is_answered_as_a_book_without_its_series_answers_it() {
-    let mut random = Random(0x5eed);
-    let mut refused = 0;
-    for _ in 0..400 {
-        let points: Vec<String> = (0..1 + random.below(6))
-            .map(|_| {
-                let (start, span) = (1 + random.below(30), random.below(12));
-                let series = random.below(4);
-                format!(
-                    r#"{{"startTimeUnixNano":"{start}","timeUnixNano":"{}","asInt":"1","attributes":[{{"key":"s","value":{{"intValue":"{series}"}}}}]}}"#,
-                    start + span
-                )
-            })
-            .collect();
-        let sum = format!(r#"{{"aggregationTemporality":1,"dataPoints":[{}]}}"#, points.join(","));
-        let body =
-            request(&format!(r#"{{"name":"m","sum":{sum}}},{{"name":"g","gauge":{{"dataPoints":[{{}}]}}}}"#));
-        let core = Core::new(100).unwrap();
-        let mut read = core.read("A".into(), body.clone().into()).unwrap();
-        let foreign = read.post.foreign;
-        let book = match core.lock().admit(&mut read) {
-            Ok(()) => Ok(foreign),
-            Err(other) => Err(Outcome::from(other)),
-        };
-        let said = answered(body.as_bytes(), Profile::Deltas, Clock::default().window()).unwrap();
-        match &said {
-            Outcome::Taken { rejected, .. } => assert_eq!(book, Ok(*rejected), "{body}"),
-            Outcome::Refused(_) => {
-                refused += 1;
-                assert_eq!(book, Err(said), "{body}");
-            }
-        }
-    }
-    assert!((100..350).contains(&refused), "{refused}");
 }

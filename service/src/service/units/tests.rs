@@ -216,7 +216,7 @@ async fn a_slot_is_handed_over_while_the_others_go_on() {
     assert_eq!(nobody, Reason::NoOwner.into());
     assert_eq!(service.post(&[0, 2], 20).await, Outcome::taken(0));
     service.open(1).await; // nobody has its folder any more
-    assert_eq!(service.post(&[1], 10).await.status(), 400, "it knows what it had");
+    assert_eq!(service.post(&[1], 5).await.status(), 400, "it knows what it had");
     assert_eq!(service.post(&[1], 20).await, Outcome::taken(0));
     for slot in 0..SLOTS {
         assert!(service.units.hand_over(slot).await.unwrap(), "in time");

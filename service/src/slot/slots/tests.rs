@@ -4,7 +4,7 @@ use super::super::numbers::Numbers;
 use super::super::posted::RequestReader;
 use super::super::{Shared, Slot};
 use super::*;
-use crate::core::{Across, Core, Refused};
+use crate::core::{Across, Core};
 use crate::files::test_runs::runs;
 use crate::files::{Durability, Folder};
 use crate::intake::head::{Head, Packing};
@@ -236,15 +236,11 @@ async fn a_repeat_of_a_post_that_was_taken_in_part_is_taken() {
     service.open(1);
     assert_eq!(service.post("A", &body).await, Reason::NoOwner.into());
     service.open(2);
-    let said = service.post("A", &body).await;
-    let Outcome::Taken { rejected, .. } = said else {
-        panic!("what was taken in part is refused");
-    };
-    let why = "1 point is refused: out of order: point 0, frontier 10";
-    assert_eq!((rejected, said.message().as_deref()), (1, Some(why)));
-    assert_eq!(service.post("A", &body).await, Refused::OutOfOrder { point: 0, frontier: 10 }.into());
+    for _ in 0..2 {
+        assert_eq!(service.post("A", &body).await, Outcome::taken(0));
+    }
     assert_eq!((service.totals(), service.budget.used()), (vec![5, 7], 0));
-    assert_eq!(service.heard(), ["A 503", "A part 400", "A 200", "A 400"]);
+    assert_eq!(service.heard(), ["A 503", "A 200", "A 200"]);
 }
 
 /// By its sender's slot each of two would have it.

@@ -69,11 +69,12 @@ fn many_series_come_back_with_their_keys() {
 /// All programs of a format write and read the same.
 #[test]
 fn a_snapshot_has_one_form() {
-    let text = r#"{"epoch":"e","next":4,"acknowledged":3,"journal":7,"quarantined":["q"],"series":[["a",5,6,null],["[\"b\"]",9,8,"me"]],"since":{"made":1,"forgotten":2},"runs":[[1,3,4,[5,6],2,[1,2]]],"beside":[["m","ms"]],"forgotten":[[1,2,3,4,5],[1,2,3,5,4]]}"#;
+    let text = r#"{"epoch":"e","next":4,"acknowledged":3,"journal":7,"quarantined":["q"],"series":[["a",5,6,null],["[\"b\"]",9,8,"me"]],"since":{"made":1,"forgotten":2},"runs":[[1,3,4,[5,6],2,[1,2]]],"beside":[["m","ms"]],"forgotten":[[1,2,3,4,5],[1,2,3,5,4]],"recent":[[1,281474976710655,7]]}"#;
     let mut state = snapshot::Snapshot::read(&rows::deflated(text.as_bytes())).unwrap();
     let b = &state.series.get(&key_of("[\"b\"]").digest()).unwrap().series;
     assert_eq!((b.frontier, b.seen, b.owner.as_deref()), (9, 8, Some("me")));
     assert_eq!(b.run, Some(run_of(3, 5, &[5, 6])));
+    assert_eq!(b.recent.0.map(u64::from), [(1 << 48) - 1, 7]);
     assert_eq!(state.facts.beside, [unit_of("m", "ms")].into());
     let digest = [1u64, 2, 3, 4].map(u64::to_be_bytes).concat().try_into().unwrap();
     assert_eq!(state.facts.forgotten.of(&digest), 5);
@@ -86,6 +87,10 @@ fn a_snapshot_has_one_form() {
     }
     let written = rows::inflated(&packed).unwrap();
     assert_eq!(String::from_utf8(written).unwrap(), text);
+    // One of an earlier version does not have it.
+    let (before, _) = text.split_once(",\"recent\"").unwrap();
+    let state = snapshot::Snapshot::read(&rows::deflated(format!("{before}}}").as_bytes())).unwrap();
+    assert!(state.series.get(&key_of("[\"b\"]").digest()).unwrap().series.recent.is_none());
 }
 
 /// Else it was written, and no start could read it.

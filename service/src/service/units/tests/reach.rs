@@ -326,14 +326,14 @@ async fn series_are_found_in_all_slots_and_forgotten_by_the_instances_that_have_
     let one = format!("/forget?series=m%7Bservice.instance.id%3D{process}%7D&anyway");
     let (status, location, why) = redirected(&both.b, "POST", &one).await;
     assert_eq!((status, location), (307, format!("http://a.example:4319{one}")), "{why}");
-    assert_eq!(both.a.post(&[2], 10).await.status(), 400, "it is known as yet");
+    assert_eq!(both.a.post(&[2], 5).await.status(), 400, "it is known as yet");
     let (status, told) = json(&both.a, "POST", &one).await;
     assert!(
         status == 200 && told["message"].as_str().unwrap().starts_with("1 series is forgotten"),
         "{told}"
     );
     assert_eq!(both.a.post(&[2], 10).await.status(), 200, "as a new one");
-    assert_eq!(both.a.post(&[0], 10).await.status(), 400, "it is known");
+    assert_eq!(both.a.post(&[0], 5).await.status(), 400, "it is known");
     // Of several each instance does its own, and says where the others are.
     let all = "/forget?series=m&all&anyway";
     let (status, location, told) = redirected(&both.a, "POST", all).await;

@@ -1,0 +1,141 @@
+//! What posts had last of a series, by digests: so a repeat is known as one.
+//!
+//! A digest decides of nothing that is added: it is looked at only after the book has refused a point as out of order. Nobody
+//! gains anything by two points of one digest: who sends both hides a late point of a series of his own from himself.
+
+use crate::otlp::series::Digest;
+use std::collections::HashMap;
+
+/// Of a series' points in one post, one after the other; nothing where there is none. It has 48 bits: two of them and a number of
+/// 32 take 16 bytes.
+#[derive(Clone, Copy, Debug, Default, PartialEq, Eq)]
+pub struct PointsDigest([u16; 3]);
+
+impl PointsDigest {
+    pub const NONE: PointsDigest = PointsDigest([0; 3]);
+
+    /// Of these points and of one more, by its words after its series' number.
+    pub fn and(self, point: &[u64]) -> PointsDigest {
+        let digest = point.iter().fold(u64::from(self), |digest, word| mixed(digest ^ word));
+        PointsDigest::from(digest.max(1))
+    }
+
+    pub fn is_none(self) -> bool {
+        self == PointsDigest::NONE
+    }
+}
+
+/// Each bit depends on all others, and no two numbers become one: the last step of Murmur3, which is as it is on all
+/// instances and after each start.
+fn mixed(number: u64) -> u64 {
+    let number = (number ^ number >> 33).wrapping_mul(0xff51_afd7_ed55_8ccd).wrapping_add(1);
+    let number = (number ^ number >> 33).wrapping_mul(0xc4ce_b9fe_1a85_ec53);
+    number ^ number >> 33
+}
+
+impl From<u64> for PointsDigest {
+    fn from(number: u64) -> PointsDigest {
+        PointsDigest([0, 16, 32].map(|shift| (number >> shift) as u16))
+    }
+}
+
+impl From<PointsDigest> for u64 {
+    fn from(PointsDigest(parts): PointsDigest) -> u64 {
+        parts.iter().rev().fold(0, |number, part| number << 16 | u64::from(*part))
+    }
+}
+
+/// Of a series: what the last post had of it, and the one before.
+#[derive(Clone, Copy, Debug, Default, PartialEq, Eq)]
+pub struct Recent(pub [PointsDigest; POSTS_KNOWN]);
+
+impl Recent {
+    /// A post has this point of the series, and none before.
+    pub fn begin(&mut self, point: &[u64]) {
+        *self = Recent([PointsDigest::default().and(point), self.0[0]]);
+    }
+
+    /// It has one more.
+    pub fn go_on(&mut self, point: &[u64]) {
+        self.0[0] = self.0[0].and(point);
+    }
+
+    /// What is known where `later` was known since, and nothing of what was before that.
+    pub fn then(self, later: Recent) -> Recent {
+        match later.0 {
+            [last, before] if before.is_none() && !last.is_none() => Recent([last, self.0[0]]),
+            [last, _] if last.is_none() => self,
+            both => Recent(both),
+        }
+    }
+
+    pub fn is_none(self) -> bool {
+        self.0[0].is_none()
+    }
+
+    /// Those that there are.
+    pub fn digests(self) -> impl Iterator<Item = PointsDigest> {
+        self.0.into_iter().filter(|digest| !digest.is_none())
+    }
+}
+
+/// How many posts are known of a series.
+pub const POSTS_KNOWN: usize = 2;
+
+/// Of series that posts had points of, as it was when a group was taken.
+#[derive(Clone, Debug, Default)]
+pub struct Recents {
+    /// Of this numbering are the ids.
+    pub numbering: u64,
+    pub by_id: Vec<(u32, Recent)>,
+    pub by_digest: HashMap<Digest, Recent>,
+}
+
+#[cfg(test)]
+mod tests {
+    use super::*;
+    use std::collections::HashSet;
+
+    #[test]
+    fn a_digest_is_of_all_points_in_their_order() {
+        let none = PointsDigest::default();
+        let [a, b, c] = [[1, 2, 5], [2, 3, 5], [1, 2, 6]];
+        let all = [
+            none.and(&a),
+            none.and(&b),
+            none.and(&c),
+            none.and(&a).and(&b),
+            none.and(&b).and(&a),
+            none.and(&a).and(&b).and(&c),
+            none.and(&[0, 0, 0]),
+            none.and(&[0]),
+        ];
+        assert_eq!(all.iter().map(|digest| u64::from(*digest)).collect::<HashSet<_>>().len(), all.len());
+        for digest in all {
+            assert_eq!(PointsDigest::from(u64::from(digest)), digest);
+            assert!(!digest.is_none() && u64::from(digest) >> 48 == 0);
+        }
+        assert!(none.is_none() && u64::from(none) == 0);
+    }
+
+    #[test]
+    fn the_last_two_posts_are_known() {
+        let [a, b, c] = [[1, 2, 5], [2, 3, 5], [3, 4, 6]];
+        let of = |points: &[[u64; 3]]| {
+            points.iter().fold(PointsDigest::default(), |digest, point| digest.and(point))
+        };
+        let mut recent = Recent::default();
+        assert!(recent.is_none());
+        recent.begin(&a);
+        assert_eq!(recent.digests().collect::<Vec<_>>(), [of(&[a])]);
+        recent.begin(&b);
+        recent.go_on(&c);
+        assert_eq!(recent, Recent([of(&[b, c]), of(&[a])]));
+        let mut later = Recent::default();
+        assert_eq!(recent.then(later), recent);
+        later.begin(&a);
+        assert_eq!(recent.then(later), Recent([of(&[a]), of(&[b, c])]));
+        later.begin(&b);
+        assert_eq!(recent.then(later), later);
+    }
+}

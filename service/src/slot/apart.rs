@@ -1,0 +1,146 @@
+//! A post some of whose points their series refuse: these are left out and named, what was taken before counts as taken, and all
+//! others are taken.
+//!
+//! It is looked at only after the book has refused the post, so others pay nothing for it. Under one lock the book says of each point
+//! whether its series refuses it, and takes the others in one step, as one record of the journal. What it does not refuse is never
+//! looked for among what was taken: so the book alone says what is added.
+
+use super::duplicates::{fates, Fate};
+use super::posted::{Posted, RequestReader};
+use super::refused_points::RefusedPoints;
+use super::request::Put;
+use super::verdict::Journalled;
+use super::Slot;
+use crate::core::{Book, Locked, PointRefusal, Read, Refused};
+use crate::files::{Body, Names as _, Points, POSTS_KNOWN};
+use crate::otlp::series::only;
+use crate::otlp::{Causes, Outcome, Reason};
+use crate::shares::Claim;
+use crate::work::Readers;
+use std::sync::Arc;
+
+impl Slot {
+    /// Puts a post point by point, after the book has refused it for one of its series.
+    pub(super) async fn put_apart(
+        self: &Arc<Slot>,
+        mut posted: Posted,
+        refused: Refused,
+        claim: &mut Claim<'_>,
+    ) -> (Posted, Result<Result<Put, Refused>, Reason>) {
+        if posted.read.bytes() <= Readers::SHORT {
+            let put = self.try_apart(&mut posted, refused);
+            return (posted, put);
+        }
+        let slot = self.clone();
+        let put = self.readers.read_long(move || {
+            let put = slot.try_apart(&mut posted, refused);
+            (posted, put)
+        });
+        claim.during(put).await
+    }
+
+    /// The book has refused it so.
+    fn try_apart(&self, posted: &mut Posted, refused: Refused) -> Result<Result<Put, Refused>, Reason> {
+        if posted.read.is_of_body() && !self.put_in_order(posted) {
+            return Ok(Err(refused));
+        }
+        let Some(_reserved) = self.free_space.reserve(posted.read.bytes()) else {
+            return Err(Reason::NoRoom);
+        };
+        let mut book = self.serving_book()?;
+        match self.fates(&mut book, &mut posted.read) {
+            Ok(fates) => Ok(self.put_those(book, posted, &fates)),
+            Err(refused) => {
+                self.note_refusal(book, refused);
+                Ok(Err(refused))
+            }
+        }
+    }
+
+    /// Reads it by number in the order of its body. False where its series have no numbers.
+    fn put_in_order(&self, posted: &mut Posted) -> bool {
+        let reader = RequestReader { core: &self.core, numbers: &self.numbers, window: self.clock.window() };
+        let sender = &posted.read.post.sender;
+        let in_order = posted.source.as_ref().and_then(|source| reader.read_in_order(sender.clone(), source));
+        in_order.map(|in_order| *posted = in_order).is_some()
+    }
+
+    fn fates(&self, book: &mut Book, read: &mut Read) -> Result<Vec<Fate>, Refused> {
+        let refusals = book.point_refusals(read)?;
+        self.fates_of(book, read, &refusals)
+    }
+
+    /// What becomes of each point of which the book says this.
+    pub(super) fn fates_of(
+        &self,
+        book: &Book,
+        read: &Read,
+        refusals: &[Option<PointRefusal>],
+    ) -> Result<Vec<Fate>, Refused> {
+        let (Body::Points(points), Some(names)) = (&read.post.body, read.named()) else {
+            return Err(Refused::NoSuch);
+        };
+        let recent = |number| {
+            let mut known = book.recent(names, number);
+            // What the outbox has is older than what the book has taken since, or the same.
+            let key = if known.len() < POSTS_KNOWN { only(&names.text(number)) } else { None };
+            for digest in key.into_iter().flat_map(|key| self.outbox.recent(&key.digest()).digests()) {
+                if known.len() < POSTS_KNOWN && !known.contains(&digest) {
+                    known.push(digest);
+                }
+            }
+            known
+        };
+        Ok(fates(points, refusals, recent))
+    }
+
+    /// As `put` does where there is no memory for new series.
+    fn put_known(&self, posted: &mut Posted) -> Result<Put, Refused> {
+        if !self.has_series_of(&posted.read) {
+            return Err(Refused::NoMemory);
+        }
+        posted.read.parse_with_known_series()?;
+        let book = self.serving_book().map_err(|_| Refused::NoMemory)?;
+        self.put_locked(book, posted)
+    }
+
+    /// Puts those that are to be taken.
+    fn put_those(&self, book: Locked<'_>, posted: &mut Posted, fates: &[Fate]) -> Result<Put, Refused> {
+        let (Body::Points(whole), Some(names)) = (&posted.read.post.body, posted.read.named()) else {
+            return Err(Refused::NoSuch);
+        };
+        let (whole, names): (Points, _) = (whole.clone(), names.clone());
+        let refused = RefusedPoints::of(&whole, fates);
+        let count = |wanted| fates.iter().filter(|fate| **fate == wanted).count() as u64;
+        let (taken, duplicates) = (count(Fate::Taken), count(Fate::Duplicate));
+        let put = match (taken, refused.first()) {
+            (0, Some(first)) if duplicates == 0 => {
+                drop(book);
+                return Err(first);
+            }
+            (0, _) => {
+                drop(book);
+                let (foreign, off) = (posted.read.post.foreign, posted.left_out.off);
+                let outcome = Outcome::taken_but(foreign, off, Causes::default());
+                let journalled = Journalled::behind_all(outcome, &self.journal);
+                Put { journalled, is_in_book: false, points: 0, duplicates }
+            }
+            _ => {
+                let kept = whole.of_places(|place| fates[place] == Fate::Taken);
+                let mut put = posted.read.keep(kept).and_then(|()| self.put_locked(book, posted));
+                if matches!(put, Err(Refused::NoMemory)) {
+                    put = self.put_known(posted);
+                }
+                if put.is_err() {
+                    posted.read.post.body = Body::Points(whole.clone()); // it may be tried again
+                }
+                Put { duplicates, ..put? }
+            }
+        };
+        let named = refused.named(&names, |point| posted.left_out.place_of(point));
+        Ok(Put { journalled: put.journalled.without_refused(named), ..put })
+    }
+}
+
+#[cfg(test)]
+mod tests;

@@ -1,0 +1,380 @@
+//! Posts with points that are late, another sender's or were taken before, in each place, beside a model that goes point by point.
+
+use super::*;
+use crate::core::Core;
+use crate::files::test_random::TestRandom;
+use crate::files::{Disk, Durability, Folder};
+use crate::metrics::Metrics;
+use crate::otlp::series::{forwarded, Value};
+use crate::otlp::{answered, Clock, Profile, RejectedPoint};
+use crate::slot::{Request, Shared};
+use std::collections::BTreeMap;
+use std::sync::atomic::{AtomicBool, Ordering::SeqCst};
+use std::time::Duration;
+
+/// Of series of a sender, so many each.
+const SERIES: u64 = 3;
+
+/// A point: its series, by sender and number, its start, its end and its value.
+#[derive(Clone, Copy, Debug, PartialEq, Eq)]
+struct Point {
+    series: (char, u64),
+    start: u64,
+    end: u64,
+    value: i64,
+}
+
+/// What is to be known of a series.
+#[derive(Clone, Debug, Default)]
+struct OfSeries {
+    end: u64,
+    sum: i64,
+    /// What each post had of it.
+    posts: Vec<Vec<Point>>,
+}
+
+#[derive(Clone, Copy, Debug, PartialEq, Eq)]
+enum Wanted {
+    Taken,
+    Duplicate,
+    Late(u64),
+    Others,
+}
+
+#[derive(Default)]
+struct Model(BTreeMap<(char, u64), OfSeries>);
+
+impl Model {
+    /// What becomes of each point of a post, as its text says: in order, and each series by itself.
+    fn post(&mut self, sender: char, points: &[Point]) -> Vec<Wanted> {
+        let mut wanted = vec![Wanted::Others; points.len()];
+        let mut series: Vec<(char, u64)> = points.iter().map(|point| point.series).collect();
+        series.sort_unstable();
+        series.dedup();
+        for one in series.into_iter().filter(|one| one.0 == sender) {
+            let of = self.0.entry(one).or_default();
+            let own: Vec<usize> = (0..points.len()).filter(|place| points[*place].series == one).collect();
+            for (place, fate) in own.iter().zip(of.fates(own.iter().map(|place| points[*place]).collect())) {
+                wanted[*place] = fate;
+            }
+        }
+        wanted
+    }
+}
+
+impl OfSeries {
+    fn fates(&mut self, all: Vec<Point>) -> Vec<Wanted> {
+        let is_as_before = |place: usize| place > 0 && all[place - 1] == all[place];
+        let points: Vec<Point> =
+            (0..all.len()).filter(|place| !is_as_before(*place)).map(|at| all[at]).collect();
+        let mut of_each = self.fates_of_different(&points).into_iter();
+        let mut fates = Vec::<Wanted>::new();
+        for place in 0..all.len() {
+            let before = fates.last().copied().filter(|_| is_as_before(place));
+            fates.push(match before {
+                Some(Wanted::Taken) => Wanted::Duplicate,
+                Some(other) => other,
+                None => of_each.next().unwrap(),
+            });
+        }
+        fates
+    }
+
+    /// The same where no two neighbours are equal.
+    fn fates_of_different(&mut self, points: &[Point]) -> Vec<Wanted> {
+        let last_two: Vec<Vec<Point>> = self.posts.iter().rev().take(2).cloned().collect();
+        let (mut fates, mut taken) = (Vec::<Wanted>::new(), Vec::new());
+        let mut place = 0;
+        while place < points.len() {
+            let point = points[place];
+            if point.start >= self.end {
+                self.end = point.end;
+                self.sum += point.value;
+                taken.push(point);
+                fates.push(Wanted::Taken);
+                place += 1;
+            } else {
+                let is_here = |post: &&Vec<Point>| points[place..].starts_with(post);
+                let length = last_two.iter().filter(is_here).map(Vec::len).max();
+                let fate = if length.is_some() { Wanted::Duplicate } else { Wanted::Late(self.end) };
+                fates.extend(vec![fate; length.unwrap_or(1)]);
+                place += length.unwrap_or(1);
+            }
+        }
+        if !taken.is_empty() {
+            self.posts.push(taken);
+        }
+        fates
+    }
+}
+
+fn body(points: &[Point]) -> String {
+    let metrics: Vec<String> = points
+        .iter()
+        .map(|Point { series: (sender, number), start, end, value }| {
+            format!(
+                r#"{{"name":"{sender}{number}","sum":{{"aggregationTemporality":1,"dataPoints":[{{"asInt":"{value}","startTimeUnixNano":"{start}","timeUnixNano":"{end}"}}]}}}}"#
+            )
+        })
+        .collect();
+    format!(r#"{{"resourceMetrics":[{{"scopeMetrics":[{{"metrics":[{}]}}]}}]}}"#, metrics.join(","))
+}
+
+/// Points of a series that go on, or are late, or were in a post before.
+fn drawn(chance: &mut TestRandom, model: &Model, sender: char) -> Vec<Point> {
+    let owner = if chance.below(8) == 0 { 'B' } else { sender };
+    let series = (owner, chance.below(SERIES));
+    let of = model.0.get(&series).cloned().unwrap_or_default();
+    let fresh = |start: u64, chance: &mut TestRandom| {
+        let (end, value) = (start + 1 + chance.below(5), chance.below(1000) as i64);
+        Point { series, start, end, value }
+    };
+    match chance.below(8) {
+        0 | 1 if !of.posts.is_empty() => of.posts[of.posts.len() - 1].clone(),
+        2 if of.posts.len() > 1 => of.posts[of.posts.len() - 2].clone(),
+        3 if !of.posts.is_empty() => of.posts[chance.below(of.posts.len() as u64) as usize].clone(),
+        4 if of.end > 20 => vec![fresh(of.end - 1 - chance.below(18), chance)],
+        5 => vec![fresh(of.end.max(10), chance); 2],
+        _ => {
+            let mut all = vec![fresh(of.end.max(10), chance)];
+            for _ in 0..chance.below(3) {
+                let next = fresh(all[all.len() - 1].end, chance);
+                all.push(next);
+            }
+            all
+        }
+    }
+}
+
+/// The points of several series, among each other.
+fn mixed(chance: &mut TestRandom, mut parts: Vec<Vec<Point>>) -> Vec<Point> {
+    let mut all = Vec::new();
+    while !parts.is_empty() {
+        let part = chance.below(parts.len() as u64) as usize;
+        all.push(parts[part].remove(0));
+        parts.retain(|part| !part.is_empty());
+    }
+    all
+}
+
+async fn posted(slot: &Arc<Slot>, sender: char, body: String, by_number: bool) -> Outcome {
+    let request = match by_number {
+        true => Request::from(slot.numbered_text(&body.into()).unwrap().unwrap()),
+        false => Request::Text(body.into()),
+    };
+    slot.request(sender.to_string(), request).await
+}
+
+/// What is said: the status, how many points are rejected, and by reason how many and the first one.
+fn said(outcome: &Outcome) -> (u16, u64, Vec<String>) {
+    let begin = |message: &str| message.splitn(3, ": ").take(2).collect::<Vec<_>>().join(": ");
+    match outcome {
+        Outcome::Taken { rejected, parts, .. } => {
+            let parts = parts.iter().map(|(points, why)| format!("{points} {}", begin(&why.message)));
+            let mut parts: Vec<String> = parts.collect();
+            parts.sort();
+            (200, *rejected, parts)
+        }
+        Outcome::Refused(rejection) => (outcome.status(), 0, vec![begin(&rejection.message)]),
+    }
+}
+
+fn wanted(fates: &[Wanted]) -> (u16, u64, Vec<String>) {
+    let of = |is_wanted: fn(&Wanted) -> bool| -> Vec<(usize, Wanted)> {
+        fates.iter().copied().enumerate().filter(|(_, fate)| is_wanted(fate)).collect()
+    };
+    let told = |(place, fate): (usize, Wanted)| match fate {
+        Wanted::Late(frontier) => format!("out of order: point {place}, frontier {frontier}"),
+        _ => format!("other writer: point {place}"),
+    };
+    let (late, others) =
+        (of(|fate| matches!(fate, Wanted::Late(_))), of(|fate| matches!(fate, Wanted::Others)));
+    let rejected = (late.len() + others.len()) as u64;
+    if rejected == fates.len() as u64 {
+        let first = late.first().into_iter().chain(others.first()).min_by_key(|first| first.0).unwrap();
+        return (400, 0, vec![told(*first)]);
+    }
+    let parts =
+        [late, others].into_iter().filter_map(|of| Some(format!("{} {}", of.len(), told(*of.first()?))));
+    let mut parts: Vec<String> = parts.collect();
+    parts.sort();
+    (200, rejected, parts)
+}
+
+#[tokio::test]
+async fn each_point_of_a_post_is_as_it_is_by_itself() {
+    for (seed, series) in [(1, 1), (2, 1), (3, 80_000)] {
+        let shared = Shared::of_test();
+        let slot = Slot::in_memory_of(&shared, Core::new(series).unwrap());
+        let (mut chance, mut model) = (TestRandom(seed), Model::default());
+        let mut found = [0; 4];
+        for number in 0..SERIES {
+            let one = [Point { series: ('B', number), start: 1, end: 2, value: 1 }];
+            model.post('B', &one);
+            assert_eq!(posted(&slot, 'B', body(&one), false).await, Outcome::taken(0));
+        }
+        for post in 0..1500 {
+            let count = 1 + chance.below(4);
+            let parts = (0..count).map(|_| drawn(&mut chance, &model, 'A')).collect();
+            let points = mixed(&mut chance, parts);
+            let fates = model.post('A', &points);
+            let outcome = posted(&slot, 'A', body(&points), chance.below(2) > 0).await;
+            assert_eq!(said(&outcome), wanted(&fates), "post {post} of {seed}: {points:?}: {fates:?}");
+            for fate in fates {
+                found[match fate {
+                    Wanted::Taken => 0,
+                    Wanted::Duplicate => 1,
+                    Wanted::Late(_) => 2,
+                    Wanted::Others => 3,
+                }] += 1;
+            }
+        }
+        assert!(found.iter().all(|count| *count > 100), "{found:?}");
+        let value = |name: &str| {
+            let page = String::from_utf8(shared.metrics.page()).unwrap();
+            let line = page.lines().find_map(|line| line.strip_prefix(name)?.strip_prefix(' '));
+            line.unwrap_or_else(|| panic!("{name} in\n{page}")).parse::<u64>().unwrap()
+        };
+        assert_eq!(value("totxegun_accepted_points_total{sender=\"A\"}"), found[0]);
+        assert_eq!(value("totxegun_duplicate_points_total{sender=\"A\"}"), found[1]);
+        assert_eq!(
+            sums(&slot),
+            model.0.into_iter().map(|((sender, number), of)| (format!("{sender}{number}"), of.sum)).collect()
+        );
+    }
+}
+
+fn sums(slot: &Slot) -> BTreeMap<String, i64> {
+    let mut texts = Vec::new();
+    slot.core.lock().write_all(&mut texts).unwrap();
+    let mut sums = BTreeMap::new();
+    for point in texts.iter().flat_map(|text| forwarded(text).unwrap()) {
+        let Value::Sum(value) = point.value else { panic!("{point:?}") };
+        *sums.entry(point.series.parts().unwrap().name).or_default() += value;
+    }
+    sums
+}
+
+fn one(start: u64, value: i64) -> String {
+    body(&[Point { series: ('A', 0), start, end: start + 1, value }])
+}
+
+/// Else its sender would drop what a loss of power then takes.
+#[tokio::test(flavor = "multi_thread")]
+async fn a_duplicate_waits_for_the_first_attempt() {
+    let place = tempfile::tempdir().unwrap();
+    let open = Arc::new(AtomicBool::new(true));
+    let folder = Folder::open_on(Disk::held(open.clone()), place.path(), Durability::Disk).unwrap();
+    let (journal, outbox) = folder.slot().unwrap();
+    let metrics = Arc::new(Metrics::new().unwrap());
+    let slot = Slot::new(0, journal, Arc::new(outbox), metrics, Core::new(1).unwrap());
+    slot.open();
+    open.store(false, SeqCst);
+    let post = || {
+        let slot = slot.clone();
+        tokio::spawn(async move { slot.post("A".into(), one(10, 5).into()).await })
+    };
+    let first = post();
+    while slot.core.lock().series() == 0 {
+        tokio::time::sleep(Duration::from_millis(1)).await;
+    }
+    let second = post();
+    tokio::time::sleep(Duration::from_millis(50)).await;
+    let both_wait = !first.is_finished() && !second.is_finished();
+    // Before a check that may fail: the journal's end waits for the disk.
+    open.store(true, SeqCst);
+    for post in [first, second] {
+        assert_eq!(post.await.unwrap(), Outcome::taken(0));
+    }
+    assert!(both_wait);
+}
+
+/// Else a start would put them in too, or count them as a fault.
+#[tokio::test]
+async fn the_journal_has_what_was_taken_alone() {
+    let slot = Slot::in_memory(&Shared::of_test());
+    assert_eq!(slot.post("A".into(), one(10, 5).into()).await, Outcome::taken(0));
+    let points = [(10, 5), (11, 6), (3, 7)];
+    let points = points.map(|(start, value)| Point { series: ('A', 0), start, end: start + 1, value });
+    let outcome = slot.post("A".into(), body(&points).into()).await;
+    let why = "1 point is refused: out of order: point 2, frontier 12: the post has `A0` {} twice over one time: give each \
+               process its own service.instance.id, each instrument its own name";
+    assert_eq!((outcome.status(), outcome.message().as_deref()), (200, Some(why)));
+    let mut found = Vec::new();
+    slot.journal.write_all().unwrap();
+    slot.journal
+        .posts(1, u64::MAX, |read| {
+            let Body::Points(points) = &read.post.body else { panic!("{read:?}") };
+            found.extend(points.each().map(|point| (point[1], point[3])));
+            true
+        })
+        .unwrap();
+    assert_eq!(found, [(10, 5), (11, 6)]);
+}
+
+/// What it has for more than one of its series is in one line, whatever names these have.
+#[tokio::test]
+async fn each_reason_is_told_with_its_first_point() {
+    let slot = Slot::in_memory(&Shared::of_test());
+    let point = |sender, number, start| Point { series: (sender, number), start, end: start + 1, value: 1 };
+    for (sender, points) in
+        [('B', [point('B', 0, 10), point('B', 1, 10)]), ('A', [point('A', 0, 10), point('A', 1, 10)])]
+    {
+        assert_eq!(posted(&slot, sender, body(&points), false).await, Outcome::taken(0));
+    }
+    let points = [
+        point('A', 2, 10),
+        point('B', 1, 20),
+        point('A', 1, 5),
+        point('A', 0, 10),
+        point('A', 0, 4),
+        point('B', 0, 30),
+    ];
+    let outcome = posted(&slot, 'A', body(&points), false).await;
+    let Outcome::Taken { rejected, .. } = &outcome else { panic!("{outcome:?}") };
+    let why = "2 points are refused: other writer: point 1: `B1` {} is another sender's: give each process its own \
+               service.instance.id; 2 points are refused: out of order: point 2, frontier 11: `A1` {} begins before \
+               1970-01-01T00:00:00.000000Z, up to where it was taken, and is no repeat of the last two posts: set the sender's clock, or \
+               give each process its own service.instance.id";
+    assert_eq!((*rejected, outcome.message().as_deref()), (4, Some(why)));
+}
+
+type Shape = (u16, u64, Vec<(u64, Reason, Option<RejectedPoint>)>);
+
+/// What is to be seen of an answer: of each reason how many points are refused, and the first one.
+fn shape(outcome: &Outcome) -> Shape {
+    match outcome {
+        Outcome::Taken { rejected, parts, .. } => {
+            let parts = parts.iter().map(|(points, why)| (*points, why.reason, why.point));
+            (200, *rejected, parts.collect())
+        }
+        refused => (refused.status(), 0, Vec::new()),
+    }
+}
+
+/// `totxegun explain` says what a slot answers that has nothing of a body's series.
+#[tokio::test]
+async fn a_body_is_answered_as_it_is_explained() {
+    let (slot, mut random, mut refused) = (Slot::in_memory(&Shared::of_test()), TestRandom(7), 0);
+    for body in 0..400 {
+        let points: Vec<String> = (0..1 + random.below(6))
+            .map(|_| {
+                let (start, series) = (1 + random.below(20), random.below(3));
+                let (end, value) = (start + random.below(9), random.below(2));
+                format!(
+                    r#"{{"startTimeUnixNano":"{start}","timeUnixNano":"{end}","asInt":"{value}","attributes":[{{"key":"s","value":{{"intValue":"{series}"}}}}]}}"#
+                )
+            })
+            .collect();
+        let sum = format!(r#""sum":{{"aggregationTemporality":1,"dataPoints":[{}]}}"#, points.join(","));
+        let gauge = r#"{"name":"g","gauge":{"dataPoints":[{}]}}"#;
+        let body = format!(
+            r#"{{"resourceMetrics":[{{"scopeMetrics":[{{"metrics":[{{"name":"m{body}",{sum}}},{gauge}]}}]}}]}}"#
+        );
+        let (said, late) = answered(body.as_bytes(), Profile::Deltas, Clock::default().window()).unwrap();
+        let found = slot.post("A".into(), body.clone().into()).await;
+        assert_eq!(shape(&said), shape(&found), "{body}");
+        refused += late.len();
+    }
+    assert!((100..1_000).contains(&refused), "{refused}");
+}

@@ -1,0 +1,195 @@
+//! Which of the points that a book refuses as out of order it has taken before: these are duplicates, and were answered once.
+//!
+//! A repeat of a post has of each series the points that the post had, one after the other, whatever else is in it. So of a series that
+//! is known by what its last two posts had, and no point of them has to be kept.
+
+use crate::core::PointRefusal;
+use crate::files::{Points, PointsDigest};
+use ahash::AHashMap;
+
+/// How often a late point is looked at on average, where several of a series are in one post.
+const LOOKS: usize = 8;
+
+/// What becomes of a point.
+#[derive(Clone, Copy, Debug, PartialEq, Eq)]
+pub(super) enum Fate {
+    Taken,
+    /// It was taken before, by another post or by this one.
+    Duplicate,
+    Refused(PointRefusal),
+}
+
+/// Late points of a series, one after the other: no point between them is taken, and no two neighbours are equal.
+struct Late {
+    number: u64,
+    places: Vec<u32>,
+}
+
+#[derive(Default)]
+struct Sorting {
+    fates: Vec<Fate>,
+    late: Vec<Late>,
+    /// By series the place of its last point, and that of its late points which may go on.
+    last: AHashMap<u64, (u32, Option<usize>)>,
+    /// Points that are equal to the one before in their series, by their places.
+    equal: Vec<(u32, u32)>,
+}
+
+/// What becomes of each of these points, of which the book says this. `recent` is asked what posts had last of a series of which points
+/// are late.
+pub(super) fn fates(
+    points: &Points,
+    refusals: &[Option<PointRefusal>],
+    mut recent: impl FnMut(u64) -> Vec<PointsDigest>,
+) -> Vec<Fate> {
+    let mut sorting = Sorting::default();
+    for ((place, point), refusal) in (0..).zip(points.each()).zip(refusals) {
+        sorting.add(points, place, point, *refusal);
+    }
+    let Sorting { mut fates, late, equal, .. } = sorting;
+    let mut known_of = AHashMap::new();
+    for Late { number, places } in late {
+        let known = known_of.entry(number).or_insert_with(|| recent(number));
+        let late: Vec<&[u64]> = places.iter().filter_map(|place| Some(&points.point(*place)?[1..])).collect();
+        for place in repeated(&late, known) {
+            fates[places[place] as usize] = Fate::Duplicate;
+        }
+    }
+    for (place, before) in equal {
+        if !matches!(fates[before as usize], Fate::Refused(_)) {
+            fates[place as usize] = Fate::Duplicate;
+        }
+    }
+    fates
+}
+
+impl Sorting {
+    fn add(&mut self, points: &Points, place: u32, point: &[u64], refusal: Option<PointRefusal>) {
+        let number = point[0];
+        let (last, open) = self.last.get(&number).copied().unzip();
+        let open = open.flatten();
+        let is_late = matches!(refusal, Some(PointRefusal::OutOfOrder { .. }));
+        let equal = last.filter(|last| is_late && points.point(*last) == Some(point));
+        let open = match (equal, is_late, open) {
+            (Some(last), ..) => {
+                self.equal.push((place, last));
+                open
+            }
+            (None, true, Some(open)) => {
+                self.late[open].places.push(place);
+                Some(open)
+            }
+            (None, true, None) => {
+                self.late.push(Late { number, places: vec![place] });
+                Some(self.late.len() - 1)
+            }
+            (None, false, _) => None,
+        };
+        self.last.insert(number, (place, open));
+        self.fates.push(refusal.map_or(Fate::Taken, Fate::Refused));
+    }
+}
+
+/// The places among these points of those that are, one after the other, what a post had whose digest is known.
+fn repeated(points: &[&[u64]], known: &[PointsDigest]) -> Vec<usize> {
+    let (mut found, mut begin, mut looks) = (Vec::new(), 0, LOOKS * (points.len() + LOOKS));
+    while begin < points.len() && looks > 0 && !known.is_empty() {
+        let mut digest = PointsDigest::NONE;
+        let ends = points[begin..].iter().zip(begin..).filter_map(|(point, end)| {
+            digest = digest.and(point);
+            known.contains(&digest).then_some(end)
+        });
+        let end = ends.last();
+        looks = looks.saturating_sub(points.len() - begin);
+        match end {
+            Some(end) => {
+                found.extend(begin..=end);
+                begin = end + 1;
+            }
+            None => begin += 1,
+        }
+    }
+    found
+}
+
+#[cfg(test)]
+mod tests {
+    use super::Fate::{Duplicate, Taken};
+    use super::*;
+
+    const LATE: PointRefusal = PointRefusal::OutOfOrder { frontier: 90, is_by_post: false };
+    const REFUSED: Fate = Fate::Refused(LATE);
+
+    fn digest(of: &[[u64; 3]]) -> PointsDigest {
+        of.iter().fold(PointsDigest::NONE, |digest, point| digest.and(point))
+    }
+
+    /// Of points of series 5, what becomes of each where it was taken as these posts had it, and those are late.
+    fn found(points: &[[u64; 3]], posts: &[&[[u64; 3]]], is_late: impl Fn(usize) -> bool) -> Vec<Fate> {
+        let mut all = Points::default();
+        points.iter().for_each(|point| all.push_words(5, point));
+        let refusals: Vec<_> = (0..points.len()).map(|place| is_late(place).then_some(LATE)).collect();
+        fates(&all, &refusals, |number| {
+            assert_eq!(number, 5);
+            posts.iter().map(|post| digest(post)).collect()
+        })
+    }
+
+    #[test]
+    fn what_a_post_had_is_known_whatever_is_around_it() {
+        let [a, b, c, d] = [[1, 2, 7], [2, 3, 8], [3, 4, 9], [4, 5, 9]];
+        let all = |_| true;
+        for (points, posts, wanted) in [
+            (&[a][..], &[&[a][..]][..], &[Duplicate][..]),
+            (&[b], &[&[a]], &[REFUSED]),
+            (&[a], &[], &[REFUSED]),
+            (&[a, b], &[&[b], &[a]], &[Duplicate, Duplicate]),
+            (&[a, b, c], &[&[a, b, c]], &[Duplicate; 3]),
+            (&[a, b, c], &[&[b, c]], &[REFUSED, Duplicate, Duplicate]),
+            (&[a, b, c, d], &[&[c, d], &[a, b]], &[Duplicate; 4]),
+            (&[a, b, c, d], &[&[b, c]], &[REFUSED, Duplicate, Duplicate, REFUSED]),
+            (&[b, c], &[&[a, b, c]], &[REFUSED, REFUSED]),
+            (&[a, a, b, b], &[&[a, b]], &[Duplicate; 4]),
+            (&[a, a], &[&[b]], &[REFUSED, REFUSED]),
+            (&[b, a], &[&[a, b]], &[REFUSED, REFUSED]),
+        ] {
+            assert_eq!(found(points, posts, all), wanted, "{points:?} of {posts:?}");
+        }
+    }
+
+    #[test]
+    fn a_point_that_is_equal_to_the_one_before_is_a_duplicate_of_it() {
+        let [a, b, c] = [[1, 2, 7], [2, 3, 8], [3, 4, 9]];
+        for (points, late, wanted) in [
+            (&[a, a, b][..], 1, [Taken, Duplicate, Taken]),
+            (&[a, b, a], 2, [Taken, Taken, REFUSED]),
+            (&[a, c, c], 2, [Taken, Taken, Duplicate]),
+        ] {
+            assert_eq!(found(points, &[], |place| place == late), wanted, "{points:?}");
+        }
+        // What is taken between two late ones parts them.
+        let points = [a, c, b];
+        assert_eq!(found(&points, &[&[a, b]], |place| place != 1), [REFUSED, Taken, REFUSED]);
+    }
+
+    /// As where the end of its series was put back: what the book takes is added, whatever was taken before.
+    #[test]
+    fn what_the_book_takes_is_no_duplicate() {
+        let a = [1, 2, 7];
+        assert_eq!(found(&[a, a], &[&[a]], |_| false), [Taken, Taken]);
+    }
+
+    #[test]
+    fn many_late_points_of_one_series_do_not_take_long() {
+        let points: Vec<[u64; 3]> = (1..100_000).map(|end| [end, end + 1, 5]).collect();
+        let began = std::time::Instant::now();
+        let all_late = |points: &[[u64; 3]], posts: &[&[[u64; 3]]]| found(points, posts, |_| true);
+        let found = all_late(&points, &[&points[..2]]);
+        assert_eq!((found[0], found[1], found[2]), (Duplicate, Duplicate, REFUSED));
+        // Each is by itself what a post had.
+        let in_turn: Vec<[u64; 3]> = (0..100_000).map(|place| points[place % 2]).collect();
+        let found = all_late(&in_turn, &[&points[..1], &points[1..2]]);
+        assert_eq!((found[0], found[1], found[99_999]), (Duplicate, Duplicate, REFUSED));
+        assert!(began.elapsed().as_secs() < 5, "{:?}", began.elapsed());
+    }
+}

@@ -1,0 +1,132 @@
+use super::*;
+use crate::shares::{Owned, Rules, Share};
+use crate::slot::Shared;
+use crate::work::Readers;
+use std::collections::HashMap;
+use std::sync::mpsc::Receiver;
+use std::sync::Mutex;
+use std::time::Duration;
+
+mod units;
+
+/// As where there is no memory to write it: what is in flight never lands, and the slot ends.
+#[tokio::test]
+async fn who_waits_behind_what_is_in_flight_is_told_that_the_slot_has_ended() {
+    let slot = Slot::in_memory(&Shared::of_test());
+    let post = |start: u64| {
+        let (slot, body) = (slot.clone(), point(start));
+        async move { slot.post("A".into(), body.into()).await }
+    };
+    assert_eq!(post(10).await, Outcome::taken(0));
+    let _in_flight = slot.core.lock().take_all().unwrap();
+    assert_eq!(post(20).await, Outcome::taken(0));
+    let waiting = tokio::spawn(post(HOUR + 10));
+    tokio::time::sleep(Duration::from_millis(50)).await;
+    assert!(!waiting.is_finished());
+    slot.lose();
+    let told = tokio::time::timeout(Duration::from_secs(5), waiting).await.expect("it waits for ever");
+    assert!(told.unwrap().status() == 503);
+}
+
+/// Who looks for a series for as long as nobody else has done something.
+struct Slow(Mutex<Receiver<()>>);
+
+impl Owned for Slow {
+    fn seen(&self) -> (u64, usize) {
+        (0, 1)
+    }
+
+    fn by_owner(&self) -> HashMap<String, u64> {
+        [("A".to_string(), 1)].into()
+    }
+
+    fn has(&self, _: &SeriesKey) -> bool {
+        self.0.lock().unwrap().recv_timeout(Duration::from_secs(5)).is_ok()
+    }
+}
+
+/// Else all others of its thread would wait while its text is read, which may take long.
+#[tokio::test]
+async fn a_long_post_of_who_has_all_of_its_share_is_looked_at_beside_others() {
+    let shared = Shared::of_test();
+    let (other, done) = std::sync::mpsc::channel();
+    shared.shares.begin(Rules {
+        most_series: 10,
+        of_each: Share { series: Some(1), points: None },
+        tokens: None,
+        profile: Profile::Deltas,
+        owned: Box::new(Slow(Mutex::new(done))),
+    });
+    let slot = Slot::in_memory(&shared);
+    let long = point(10) + &" ".repeat(Readers::SHORT);
+    let posting = tokio::spawn(async move { slot.post("A".into(), long.into()).await });
+    tokio::time::sleep(Duration::from_millis(200)).await;
+    other.send(()).unwrap();
+    assert_eq!(posting.await.unwrap(), Outcome::taken(0));
+}
+
+/// Nothing is in a flush.
+struct Nothing;
+
+impl Owned for Nothing {
+    fn seen(&self) -> (u64, usize) {
+        (0, 0)
+    }
+
+    fn by_owner(&self) -> HashMap<String, u64> {
+        HashMap::new()
+    }
+
+    fn has(&self, _: &SeriesKey) -> bool {
+        false
+    }
+}
+
+/// What it has it may post again, also before a flush says whose it is.
+#[tokio::test]
+async fn no_sender_comes_over_its_share_of_series_by_one_post() {
+    let shared = Shared::of_test();
+    shared.shares.begin(Rules {
+        most_series: 10,
+        of_each: Share { series: Some(3), points: None },
+        tokens: None,
+        profile: Profile::Deltas,
+        owned: Box::new(Nothing),
+    });
+    let slot = Slot::in_memory(&shared);
+    let status = async |start: u64, metrics: &[&str]| {
+        let each: Vec<String> = metrics.iter().map(|name| metric(name, start)).collect();
+        let body =
+            format!(r#"{{"resourceMetrics":[{{"scopeMetrics":[{{"metrics":[{}]}}]}}]}}"#, each.join(","));
+        slot.post("A".into(), body.into()).await.status()
+    };
+    assert_eq!((status(10, &["a", "b"]).await, status(20, &["b", "c", "d"]).await), (200, 429));
+    assert_eq!((status(20, &["a", "b", "c"]).await, status(30, &["a", "b", "c"]).await), (200, 200));
+    assert_eq!((status(40, &["c", "d"]).await, status(40, &["c", "a"]).await), (429, 200));
+}
+
+const HOUR: u64 = 3_600_000_000_000;
+
+fn metric(name: &str, start: u64) -> String {
+    format!(
+        "{{\"name\":\"{name}\",\"sum\":{{\"aggregationTemporality\":1,\"dataPoints\":[{{\"asInt\":\"1\",\
+         \"startTimeUnixNano\":\"{start}\",\"timeUnixNano\":\"{}\"}}]}}}}",
+        start + 1
+    )
+}
+
+fn point(start: u64) -> String {
+    format!(r#"{{"resourceMetrics":[{{"scopeMetrics":[{{"metrics":[{}]}}]}}]}}"#, metric("a", start))
+}
+
+/// Of a folder the process ends.
+#[tokio::test]
+async fn half_a_post_ends_the_slot_alone_where_it_is_in_a_store() {
+    let slot = Slot::in_memory(&Shared::of_test());
+    slot.note_refusal(slot.core.lock(), Refused::HalfTaken);
+    assert_eq!(slot.phase(), Phase::Lost);
+    assert_eq!(slot.journal.failure(), Some(NO_REST));
+    let told = Journalled::behind_all(Refused::BadSender, &slot.journal);
+    let told = told.durable(&slot.journal).await;
+    assert_eq!(told.reason(), Some(Reason::SlotMoves));
+}
