@@ -203,7 +203,7 @@ impl Service {
 
     pub fn at_socket(&self, method: &str, path: &str) -> Option<(u16, String)> {
         let stream = UnixStream::connect(self.reached()).ok()?;
-        stream.set_read_timeout(Some(Duration::from_secs(20))).ok()?;
+        stream.set_read_timeout(Some(Duration::from_secs(60))).ok()?;
         answered(stream, method, path, "-", "")
     }
 
