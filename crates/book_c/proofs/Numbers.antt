@@ -26,20 +26,22 @@ pub statuses_are :
     ∷ 19 ∷ []
 statuses_are = refl
 
--- of an identity: bytes of a text, attributes of a set, values of a list, bounds of a histogram, and the greatest bound
+-- of an identity: bytes of a text, attributes of a set, values of a list, bounds of a histogram,
+-- the greatest bound
 pub identities_end_at :
     MAX_TEXT ∷ MAX_ATTRIBUTES ∷ MAX_VALUES ∷ MAX_BOUNDS ∷ MAX_BOUND ∷ []
     ≡ 4096 ∷ 128 ∷ 128 ∷ 255 ∷ 9007199254740992 ∷ []
 identities_end_at = refl
 
--- of a book: series, open batches, live flushes, quarantined senders, series of a flush, entries of its journal,
--- rounds
+-- of a book: series, open batches, live flushes, quarantined senders, series of a flush, entries
+-- of its journal, rounds
 pub books_end_at :
     MAX_SERIES ∷ MAX_OPEN ∷ MAX_LIVE ∷ MAX_HELD ∷ MAX_TAKEN ∷ MAX_ENTRIES ∷ LAST_ROUND ∷ []
     ≡ 10000 ∷ 1024 ∷ 64 ∷ 1000 ∷ 1000 ∷ 65536 ∷ 4294967295 ∷ []
 books_end_at = refl
 
--- of a series: its points in a round, its amount, the sum of a histogram, a bucket, its count; and bytes of a sender's name
+-- of a series: its points in a round, its amount, the sum of a histogram, a bucket, its count;
+-- bytes of a sender's name
 pub series_end_at :
     MAX_POINTS ∷ MAX_AMOUNT ∷ MAX_SUM ∷ MAX_BUCKET ∷ MAX_COUNT ∷ MAX_SENDER ∷ []
     ≡ 1099511627775 ∷ 9223372036854775807 ∷ 9007199254740992 ∷ 18446744073709551615
