@@ -56,9 +56,13 @@ pub struct Changed {
     numbering: u64,
 }
 
-/// Which numbers the outbox is to say the ids of.
+/// Which numbers the outbox is to say the ids of, and those that went by their ids, of this numbering.
 #[derive(Default)]
-pub struct Unknown(ByNumber<Digest>);
+pub struct Unknown {
+    of: ByNumber<Digest>,
+    by_id: ByNumber<()>,
+    numbering: u64,
+}
 
 impl Table {
     fn new(names: &Arc<Names>) -> Table {
@@ -179,8 +183,17 @@ impl Book {
             let tables = recent.tables.iter_mut().flat_map(|table| table.pages.iter_mut().flatten());
             tables.flat_map(|page| page.iter_mut()).for_each(|entry| entry.id |= NO_ID);
         }
+        if unknown.numbering != numbering {
+            // The outbox may have had others when it was told: these are told once more.
+            for (names, numbers) in unknown.by_id {
+                if let Some(table) = recent.tables.iter_mut().find(|table| Arc::ptr_eq(&table.names, &names))
+                {
+                    numbers.into_iter().for_each(|(number, ())| table.note_change(number));
+                }
+            }
+        }
         let mut ids = ids.into_iter();
-        for (names, numbers) in unknown.0 {
+        for (names, numbers) in unknown.of {
             let mut table = recent.tables.iter_mut().find(|table| Arc::ptr_eq(&table.names, &names));
             for ((number, _), id) in numbers.into_iter().zip(&mut ids) {
                 match (&mut table, id.filter(|id| *id < NO_ID)) {
@@ -198,12 +211,15 @@ impl Changed {
     /// By the series' ids in the outbox, if they are of this numbering, else by the digests of their keys; and of which the ids are to
     /// be asked for once the outbox has them.
     pub fn by_series(self, numbering: u64) -> (Recents, Unknown) {
-        let (mut recents, mut unknown) = (Recents { numbering, ..Recents::default() }, Unknown::default());
+        let mut recents = Recents { numbering, ..Recents::default() };
+        let mut unknown = Unknown { numbering, ..Unknown::default() };
         let has_ids = self.numbering == numbering;
         for (names, changed) in self.of {
             let id = |entry: &Entry| Some(entry.id & NO_ID).filter(|id| has_ids && *id != NO_ID);
             let with_id = changed.iter().filter_map(|(_, entry)| Some((id(entry)?, entry.recent)));
             recents.by_id.extend(with_id);
+            let numbers = changed.iter().filter_map(|(number, entry)| id(entry).map(|_| (*number, ())));
+            unknown.by_id.push((names.clone(), numbers.collect()));
             let without: Vec<&(u32, Entry)> =
                 changed.iter().filter(|(_, entry)| id(entry).is_none()).collect();
             let mut found = Vec::with_capacity(without.len());
@@ -216,7 +232,7 @@ impl Changed {
                 let known = recents.by_digest.entry(*digest).or_default();
                 *known = known.then(*recent);
             }
-            unknown.0.push((names, found.into_iter().map(|(number, digest, _)| (number, digest)).collect()));
+            unknown.of.push((names, found.into_iter().map(|(number, digest, _)| (number, digest)).collect()));
         }
         (recents, unknown)
     }
@@ -236,7 +252,7 @@ fn digests(names: &Names, some: &[&(u32, Entry)]) -> Vec<(u32, Digest, Recent)> 
 
 impl Unknown {
     pub fn digests(&self) -> impl Iterator<Item = &Digest> {
-        self.0.iter().flat_map(|(_, numbers)| numbers.iter().map(|(_, digest)| digest))
+        self.of.iter().flat_map(|(_, numbers)| numbers.iter().map(|(_, digest)| digest))
     }
 }
 

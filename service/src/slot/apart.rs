@@ -94,14 +94,16 @@ impl Slot {
         Ok(fates(points, refusals, recent))
     }
 
-    /// As `put` does where there is no memory for new series.
+    /// As `put` does where there is no memory for new series. Other posts may have come meanwhile: if the book refuses a point of a
+    /// series now, the sender repeats the post.
     fn put_known(&self, posted: &mut Posted) -> Result<Put, Refused> {
         if !self.has_series_of(&posted.read) {
             return Err(Refused::NoMemory);
         }
         posted.read.parse_with_known_series()?;
         let book = self.serving_book().map_err(|_| Refused::NoMemory)?;
-        self.put_locked(book, posted)
+        let put = self.put_locked(book, posted);
+        put.map_err(|refused| if refused.is_of_series() { Refused::NoMemory } else { refused })
     }
 
     /// Puts those that are to be taken.

@@ -125,7 +125,7 @@ impl Slot {
             match put? {
                 Some(put) => {
                     if put.is_in_book {
-                        claim.keep(put.points, all);
+                        claim.keep(put.points + put.duplicates, all);
                     }
                     self.count_put(&making.sender, &put);
                     return Ok(put.journalled);
@@ -246,17 +246,18 @@ impl Slot {
     ) -> Result<Apart, Refused> {
         let (fates, beyond) = {
             let mut book = self.core.lock();
-            let mut refusals = book.point_refusals(&mut read.read)?;
+            let refusals = book.point_refusals(&mut read.read)?;
+            let mut fates = self.fates_of(&book, &read.read, &refusals)?;
             let mut beyond = Vec::new();
-            for (at, refusal) in (0..).zip(&mut refusals) {
+            for (at, fate) in (0..).zip(&mut fates) {
                 if let (Some(PointRefusal::OutOfOrder { frontier, .. }), true) =
-                    (*refusal, draft.has_made(at))
+                    (refusals[at as usize], draft.has_made(at))
                 {
                     beyond.extend(draft.note_frontier(at, frontier).map(|series| (series, frontier)));
-                    *refusal = None;
+                    *fate = Fate::Taken; // as far as is known: what it adds is found anew
                 }
             }
-            (self.fates_of(&book, &read.read, &refusals)?, beyond)
+            (fates, beyond)
         };
         let left = (0..).zip(fates).filter(|(_, fate)| *fate != Fate::Taken);
         let left = left.filter_map(|(at, fate)| self.left(making, draft, draft.place(at)?, fate));

@@ -146,9 +146,8 @@ impl Slot {
             }
             match put? {
                 Ok(put) => {
-                    if put.is_in_book {
-                        claim.keep(put.points, all);
-                    }
+                    // To look for duplicates costs more than to take points.
+                    claim.keep(put.points + put.duplicates, all);
                     self.count_put(&posted.read.post.sender, &put);
                     return Ok(put.journalled);
                 }

@@ -363,3 +363,26 @@ fn where_a_block_is_refused_a_series_gets_its_number_later() {
         }
     }
 }
+
+/// Else a start would name a repeat of that post as late: the outbox leaves out ids of a numbering that it has no more.
+#[test]
+fn what_went_by_ids_of_an_earlier_numbering_is_told_once_more() {
+    let core = Core::new(1).unwrap();
+    let by = named(&names("s", 2));
+    let told = |numbering| {
+        let (recents, unknown) = core.lock().changed_recents().by_series(numbering);
+        ((recents.by_id.len(), recents.by_digest.len()), unknown)
+    };
+    assert_eq!(put(&core, &by, "A", of(0..2, 10, 5)), Ok(0));
+    let (found, unknown) = told(7);
+    assert_eq!(found, (0, 2));
+    core.lock().note_ids(7, unknown, vec![Some(3), Some(4)]);
+    assert_eq!(put(&core, &by, "A", of(0..1, 20, 5)), Ok(0));
+    let (found, unknown) = told(7);
+    assert_eq!(found, (1, 0));
+    core.lock().note_ids(8, unknown, Vec::new());
+    let (found, unknown) = told(8);
+    assert_eq!(found, (0, 1), "by the digest of its key");
+    core.lock().note_ids(8, unknown, vec![Some(5)]);
+    assert_eq!(told(8).0, (0, 0));
+}
