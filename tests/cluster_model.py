@@ -10,8 +10,9 @@ post comes to any instance that takes itself for the owner, or is forwarded ther
 time, so an owner that was stopped, or cut off, goes on at any later time. A statement that was sent may be executed at any
 later time, also where its connection is lost, and then its sender repeats it. The store commits on its primary, and answers
 once the standby has it. A restart of the primary shows what the standby does not have; where the primary is lost, and the
-standby takes its place, that is gone. Meanwhile there are checkpoints, deliveries to a sink and their acknowledgements,
-hand-overs, and in two slots a post with a part in each and a quarantine.
+standby takes its place, that is gone. The store may be put back from a dump, once all instances have ended: then what it lacks,
+and the sink has not, is lost, and what the sink has beyond it is no fault. Meanwhile there are checkpoints, deliveries to a sink and
+their acknowledgements, hand-overs, and in two slots a post with a part in each and a quarantine.
 
 In each state, of what the store has on both sides, and the sink:
   - `answered and gone`: what a sender was told is taken is in no file of the slot and not in the sink;
@@ -86,6 +87,8 @@ class Rules:
     a_group_is_delivered_behind_its_commit: bool = True
     # under a key of the store, the same whoever delivers it,
     a_key_is_the_stores: bool = True
+    # which the sink has not, since a store that went back has each number again,
+    an_epoch_is_drawn_at_each_taking: bool = True
     # and acknowledged once the sink has it.
     the_sink_answers_before_the_ack: bool = True
     # An operator is told of a quarantine once a sync has it,
@@ -106,6 +109,8 @@ class Left(NamedTuple):
     deliveries: int = 0
     hand_overs: int = 0
     quarantines: int = 0
+    # Dumps that are made and put back.
+    returns: int = 0
 
 
 class World(NamedTuple):
@@ -141,6 +146,7 @@ WITHOUT = {
     "a_post_is_of_the_same_series_everywhere": (ONE, Left(takeovers=2, doubts=1, checkpoints=1), TWICE),
     "a_group_is_delivered_behind_its_commit": (ONE, Left(takeovers=2, checkpoints=2, deliveries=1), LOST),
     "a_key_is_the_stores": (ONE, Left(takeovers=2, checkpoints=1, deliveries=2), TWICE),
+    "an_epoch_is_drawn_at_each_taking": (ONE, Left(takeovers=2, checkpoints=2, deliveries=2, returns=1), LOST),
     "the_sink_answers_before_the_ack": (ONE, Left(takeovers=1, checkpoints=1, deliveries=1), LOST),
     "a_quarantine_is_told_behind_its_sync": (TWO, Left(takeovers=3, quarantines=2), TAKEN),
     "a_quarantine_is_told_once_all_slots_have_it": (TWO, Left(takeovers=2, quarantines=2), TAKEN),
@@ -172,8 +178,9 @@ COPIES = {
     "a_post_is_of_the_same_series_everywhere": (
         "slot_is_read_by_what_its_instance_knows", "units_of_a_slot_are_not_known", "instances_read_posts_in_different_ways"),
     "a_group_is_delivered_behind_its_commit": ("request_of_a_store_is_delivered_before_it_is_durable",),
-    # The store has one epoch for all owners, and each group keeps the one that it was made with: either is enough.
+    # Each group keeps the epoch that it was made with, whoever delivers it.
     "a_key_is_the_stores": ("key_of_a_request_is_its_owners",),
+    "an_epoch_is_drawn_at_each_taking": ("slot_that_is_taken_keeps_its_epoch",),
     "the_sink_answers_before_the_ack": ("request_is_acknowledged_before_the_sink_has_it",),
     "a_quarantine_is_told_behind_its_sync": ("quarantine_is_told_before_its_sync",),
     "a_quarantine_is_told_once_all_slots_have_it": ("order_counts_where_a_slot_has_not_done_it",),
@@ -187,6 +194,7 @@ WHOLE = (
     (ONE, Left(takeovers=2, failures=1, checkpoints=1, deliveries=1)),
     (TWO, Left(takeovers=3, quarantines=2)),
     (TWO, Left(takeovers=3, hand_overs=1)),
+    (ONE, Left(takeovers=2, checkpoints=2, deliveries=2, returns=1)),
 )
 
 # --------------------------------------------------------------------------------------------------------------------
@@ -276,11 +284,17 @@ class State(NamedTuple):
     # Slots whose quarantine was told; and once an operator was, the points taken and those sent by then.
     noted: int
     quarantine: tuple[int, int]
+    # A dump of the store; and once it was put back, how many groups of each slot it has, and the points of which that may be the
+    # fault.
+    dump: tuple[Slot, ...]
+    returned: tuple[int, ...]
+    excused: int
     left: Left
 
 
 NO_SLOT = Slot(0, None, 0, 0, frozenset(), 0, (), 0, False, False)
 NOTE = 1 << 16  # among what a sync covers: an operator
+AGAIN = 100  # of a key: that of a number which the store has had before
 
 # What happens, and the statement that it is of, if any.
 Label = tuple[str | Statement, ...]
@@ -291,7 +305,7 @@ T = TypeVar("T")
 
 def begin_of(world: World, left: Left) -> State:
     slots = (NO_SLOT,) * world.slots
-    return State(0, (0,) * len(world.points), (None,) * 2 * world.slots, (), (), False, slots, slots, frozenset(), 0, None, left)
+    return State(0, (0,) * len(world.points), (None,) * 2 * world.slots, (), (), False, slots, slots, frozenset(), 0, None, (), (), 0, left)
 
 
 def put(items: tuple[T, ...], place: int, item: T) -> tuple[T, ...]:
@@ -435,6 +449,20 @@ def primary_fails(world: World, state: State) -> Events:
     if state.primary != state.standby:
         yield ("the primary is killed, and starts again",), cut._replace(is_shown=True)
     yield ("the primary is lost, and the standby takes its place",), cut._replace(primary=state.standby, is_shown=False)
+
+
+def goes_back(state: State) -> Events:
+    """A dump is made of what is on both, and later put back."""
+    if state.left.returns and state.primary == state.standby:
+        yield ("a dump is made",), state._replace(dump=state.standby, left=state.left._replace(returns=state.left.returns - 1))
+    if state.dump and state.dump != state.standby:
+        has = all_of(points for _, _, points in state.sink)
+        kept = all_of(slot.journal | all_of(slot.groups) for slot in state.dump)
+        excused = state.told & ~has & ~kept | has & kept
+        slots = tuple(slot._replace(term=slot.term + 1, owner=None) for slot in state.dump)
+        yield ("all end, and the dump is put back",), state._replace(
+            owners=(None,) * len(state.owners), waiting=(), local=(), is_shown=False, primary=slots, standby=slots, dump=(),
+            returned=tuple(len(slot.groups) for slot in slots), excused=excused)
 
 
 # --------------------------------------------------------------------------------------------------------------------
@@ -609,13 +637,18 @@ def checkpoint(rules: Rules, world: World, state: State, who: int, slot: int, ow
         yield (f"{'AB'[who]} makes a group of {owner.pending:b}",), with_owner(world, left, who, slot, after)
 
 
+def key_of(rules: Rules, state: State, slot: int, number: int) -> int:
+    is_new = bool(state.returned) and number >= state.returned[slot]
+    return number + AGAIN if is_new and rules.an_epoch_is_drawn_at_each_taking else number
+
+
 def deliver(rules: Rules, world: World, state: State, who: int, slot: int, owner: Owner) -> Events:
     """The first group that is not acknowledged. That the sink's answer is lost is no case: the ack may be lost behind it."""
     left = spend(state, "deliveries")
     number = owner.acknowledged
     if not left or number == len(owner.groups):
         return
-    key: Key = number if rules.a_key_is_the_stores else (number, who)
+    key: Key = key_of(rules, state, slot, number) if rules.a_key_is_the_stores else (number, who)
     after = owner._replace(acknowledged=number + 1, writes=owner.writes + (("ack", number + 1),))
     acked = with_owner(world, left, who, slot, after)
     if not rules.the_sink_answers_before_the_ack:
@@ -630,22 +663,23 @@ def deliver(rules: Rules, world: World, state: State, who: int, slot: int, owner
 # What holds
 
 
-def fault_of(world: World, state: State) -> str | None:
+def fault_of(rules: Rules, state: State) -> str | None:
     """The name of what is wrong, or None."""
     if any(slot.is_torn for slot in state.standby):
         return UNREADABLE
     sets = [points for _, _, points in state.sink]
     sent = {(slot, key if isinstance(key, int) else key[0]) for slot, key, _ in state.sink}
     for place, slot in enumerate(state.standby):
-        if (place, len(slot.groups)) not in sent:  # else its group will go out under a key that the sink has
+        keys = [(place, key_of(rules, state, place, number)) for number in range(len(slot.groups) + 1)]
+        if keys[-1] not in sent:  # else its group will go out under a key that the sink has
             sets.append(slot.journal)
-        sets += [points for number, points in enumerate(slot.groups) if number >= slot.acknowledged and (place, number) not in sent]
+        sets += [points for number, points in enumerate(slot.groups) if number >= slot.acknowledged and keys[number] not in sent]
     once = twice = 0
     for points in sets:
         once, twice = once | points, twice | once & points
-    if twice:
+    if twice & ~state.excused:
         return TWICE
-    missing = state.told & ~once
+    missing = state.told & ~once & ~state.excused
     if missing:
         return LOST if missing & counted_by(state)[0] else GONE
     if state.quarantine:
@@ -659,6 +693,7 @@ def steps(rules: Rules, world: World, state: State) -> Events:
     yield from post_steps(rules, world, state)
     yield from instance_steps(rules, world, state)
     yield from store_steps(rules, world, state)
+    yield from goes_back(state)
 
 
 class Found(NamedTuple):
@@ -680,7 +715,7 @@ def explore(rules: Rules, world: World, left: Left) -> Found:
             if after in parents:
                 continue
             parents[after] = state, label
-            fault = fault_of(world, after)
+            fault = fault_of(rules, after)
             if fault:
                 return Found(len(parents), fault, way_to(parents, after), False)
             waiting.append(after)

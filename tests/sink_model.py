@@ -8,9 +8,10 @@ begins where the last one ended, or later. Requests are sent in order; an answer
 put aside, as a server's limits do, and is sent again by hand at any time, as is what the sink refused. The folder may be lost, so
 that a new one begins anywhere; a copy of it may be put back, which draws a new epoch, or doesn't where nobody can see that it is
 one; the series may be put back to an earlier end (a rewind, after which what it counted later counts again), or be forgotten. Other
-series of the folder, and of another slot with the same epoch, may be put back too.
+series of the folder, and of another slot with the same epoch, may be put back too. The folder may be a slot of a store, which draws
+a new epoch whenever an instance takes it, also after the store went back: that epoch says from which number of which one it goes on.
 
-A sink keeps of the series where it ends, the life (an epoch of a slot) that added to it last, and its floor: above it there is
+A sink keeps of the series where it ends, the life (epochs of a slot) that added to it last, and its floor: above it there is
 nothing but what that life has sent since the series was put back. Of each life it keeps which request put the series back last.
 In no state has it counted two intervals that overlap, but for what a rewind lets count again: what was made and counted before
 it, and what was made and counted after. Where there is one life, and the series is not put back, it takes all. A copy that
@@ -62,6 +63,10 @@ class Rules:
     a_rewind_moves_the_floor: bool = True
     # A rewind is a boundary for what was made before.
     a_rewind_is_a_boundary: bool = True
+    # An epoch that goes on from another is of its life,
+    an_epoch_that_goes_on_is_of_the_life: bool = True
+    # unless the sink has requests of that life beyond.
+    an_epoch_that_lacks_some_begins_a_life: bool = True
     # Another request under a key that was taken begins a life.
     another_request_of_a_key_begins_a_life: bool = True
     # An operator's order to forget a series is a boundary for what was made before.
@@ -82,6 +87,7 @@ class Request(NamedTuple):
     start: int  # of a rewind: the end of the series from then on
     end: Optional[int]  # none of a rewind
     is_of_others: bool = False  # of a rewind: of other series
+    goes_on: Optional[tuple[int, int]] = None  # the epoch from which its own goes on, and the last number before
 
 
 class Folder(NamedTuple):
@@ -91,6 +97,7 @@ class Folder(NamedTuple):
     waiting: tuple[Request, ...] = ()
     letters: tuple[Request, ...] = ()
     is_unseen: bool = False  # a copy that nobody could see, and that has not sent what waits
+    goes_on: Optional[tuple[int, int]] = None
 
 
 class Life(NamedTuple):
@@ -99,6 +106,7 @@ class Life(NamedTuple):
     slot: int
     epoch: int
     rewound: int  # the number of the last request that put the series back; 0 without one
+    id: tuple[int, int] = GONE  # the slot and the first epoch of a life
 
 
 class Counted(NamedTuple):
@@ -112,7 +120,7 @@ class Sink(NamedTuple):
     keys: tuple[tuple[int, int, int, int, bool], ...] = ()  # slot, epoch, number, made, whether it was added
     lives: tuple[Life, ...] = ()
     # Of the series:
-    life: Optional[tuple[int, int]] = None  # slot and epoch; none without points
+    life: Optional[tuple[int, int]] = None  # its id; none without points
     floor: int = 0
     last: int = 0
     counted: tuple[Counted, ...] = ()
@@ -138,12 +146,24 @@ def with_one(all_of: tuple[Any, ...], one: Any) -> tuple[Any, ...]:
     return tuple(sorted((*all_of, one)))
 
 
-def life_of(sink: Sink, request: Request) -> tuple[Sink, Life]:
+def life_of(rules: Rules, sink: Sink, request: Request) -> tuple[Sink, Life]:
     for life in sink.lives:
         if life[:2] == request[:2]:
             return sink, life
-    life = Life(request.slot, request.epoch, 0)
+    life = Life(request.slot, request.epoch, 0, begun(rules, sink, request))
     return sink._replace(lives=with_one(sink.lives, life)), life
+
+
+def begun(rules: Rules, sink: Sink, request: Request) -> tuple[int, int]:
+    """The life of an epoch of which nothing came before."""
+    own = request[:2]
+    if request.goes_on is None or not rules.an_epoch_that_goes_on_is_of_the_life:
+        return own
+    before, number = request.goes_on
+    id_of: dict[tuple[int, ...], tuple[int, int]] = {life[:2]: life.id for life in sink.lives}
+    goes_on = id_of.get((request.slot, before), (request.slot, before))
+    is_beyond = any(id_of.get(key[:2]) == goes_on and key[2] > number and key[:2] != own for key in sink.keys)
+    return own if is_beyond and rules.an_epoch_that_lacks_some_begins_a_life else goes_on
 
 
 def changed(sink: Sink, life: Life, after: Life) -> Sink:
@@ -152,13 +172,13 @@ def changed(sink: Sink, life: Life, after: Life) -> Sink:
 
 def begin(sink: Sink, request: Request) -> Sink:
     """What its slot and epoch send from now on is of another life."""
-    return sink._replace(life=GONE) if sink.life == request[:2] else sink
+    return sink._replace(life=GONE) if sink.life in {life.id for life in sink.lives if life[:2] == request[:2]} else sink
 
 
 def rewound(rules: Rules, sink: Sink, request: Request) -> Sink:
     if request.is_of_others:
         return sink
-    sink, life = life_of(sink, request)
+    sink, life = life_of(rules, sink, request)
     is_forgotten = request.start == ALWAYS
     if rules.an_order_to_forget_is_a_boundary if is_forgotten else rules.a_rewind_is_a_boundary:
         others = tuple(one for one in sink.lives if one != life)
@@ -170,20 +190,20 @@ def rewound(rules: Rules, sink: Sink, request: Request) -> Sink:
     last = min(sink.last, request.start)
     if not rules.a_rewind_moves_the_floor:
         return sink._replace(last=last)
-    return sink._replace(life=life[:2], floor=last, last=last)
+    return sink._replace(life=life.id, floor=last, last=last)
 
 
 def is_of_life(rules: Rules, sink: Sink, life: Life, request: Request) -> bool:
     """Whether it was made by the life of the series, since that was put back."""
-    is_same = life[:2] == sink.life or not rules.letters_of_other_lives_begin_at_the_end
-    return is_same and (
-        request.number > life.rewound or not rules.letters_of_before_a_rewind_begin_at_the_end
-    )
+    is_same = life.id == sink.life or not rules.letters_of_other_lives_begin_at_the_end
+    rewound = max(one.rewound for one in sink.lives if one.id == life.id)
+    return is_same and (request.number > rewound or not rules.letters_of_before_a_rewind_begin_at_the_end)
 
 
 def limit(rules: Rules, sink: Sink, life: Life, request: Request, is_by_hand: bool) -> int:
     is_letter = is_by_hand or not rules.only_what_is_sent_by_hand_is_late
-    if is_letter and any(key[:2] == request[:2] and key[2] > request.number for key in sink.keys):
+    epochs = {one[:2] for one in sink.lives if one.id == life.id}
+    if is_letter and any(key[:2] in epochs and key[2] > request.number for key in sink.keys):
         if is_of_life(rules, sink, life, request):
             return sink.floor if rules.letters_begin_at_the_floor else 0
     elif not rules.what_is_in_order_begins_at_the_end:
@@ -195,10 +215,10 @@ def added(rules: Rules, sink: Sink, life: Life, request: Request, is_by_hand: bo
     assert request.end is not None
     last = max(sink.last, request.end)
     if sink.life is None:
-        sink = sink._replace(life=life[:2])
+        sink = sink._replace(life=life.id)
     if not is_by_hand:
-        keeps = sink.life == life[:2] or not rules.a_life_has_its_own_floor
-        return sink._replace(life=life[:2], floor=sink.floor if keeps else sink.last, last=last)
+        keeps = sink.life == life.id or not rules.a_life_has_its_own_floor
+        return sink._replace(life=life.id, floor=sink.floor if keeps else sink.last, last=last)
     keeps = is_of_life(rules, sink, life, request) or not rules.letters_at_the_end_move_the_floor
     return sink._replace(floor=sink.floor if keeps else last, last=last)
 
@@ -213,7 +233,7 @@ def deliver(rules: Rules, sink: Sink, request: Request, is_by_hand: bool = False
     with_key = sink._replace(keys=with_one(sink.keys, (*request[:4], True)))
     if request.end is None:
         return rewound(rules, with_key, request), True
-    with_key, life = life_of(with_key, request)
+    with_key, life = life_of(rules, with_key, request)
     if sink.life is not None and request.start < limit(rules, sink, life, request, is_by_hand):
         refused = sink._replace(keys=with_one(sink.keys, (*request[:4], False)))
         return refused if rules.what_was_not_added_never_is else sink, False
@@ -246,7 +266,7 @@ def sent(rules: Rules, state: State, request: Request, folder: Folder, is_by_han
 def made(state: State, start: int, end: Optional[int], frontier: int, is_of_others: bool = False) -> State:
     """With a request more that waits."""
     folder = state.folder
-    request = Request(0, folder.epoch, folder.number, state.made, start, end, is_of_others)
+    request = Request(0, folder.epoch, folder.number, state.made, start, end, is_of_others, folder.goes_on)
     after = folder._replace(number=folder.number + 1, frontier=frontier, waiting=(*folder.waiting, request))
     return state._replace(folder=after, made=state.made + 1)
 
@@ -291,11 +311,16 @@ def troubles(rules: Rules, bounds: Bounds, state: State) -> Iterator[tuple[str, 
     if state.epochs < 2 and state.made:
         fresh = Folder(epoch=state.epochs)
         yield "the folder is lost", another._replace(folder=fresh, epochs=state.epochs + 1)
+    if state.epochs < 2 and folder.number > 1:
+        taken = folder._replace(epoch=state.epochs, goes_on=(folder.epoch, folder.number - 1))
+        yield "another instance takes it", state._replace(folder=taken, epochs=state.epochs + 1)
     if state.copy is None and state.made < 2:
         yield "a copy is made", state._replace(copy=folder)
     if state.copy is not None and state.copy != folder and state.epochs < 2:
         seen = state.copy._replace(epoch=state.epochs)
         yield "the copy is put back", another._replace(folder=seen, epochs=state.epochs + 1)
+        goes_on = state.copy._replace(epoch=state.epochs, goes_on=(state.copy.epoch, state.copy.number - 1))
+        yield "the store is put back", another._replace(folder=goes_on, epochs=state.epochs + 1)
         unseen = state.copy._replace(is_unseen=True)
         yield "the copy is put back, and nobody sees it", another._replace(folder=unseen, epochs=state.epochs + 1)
     if folder.frontier and not state.has_others:

@@ -20,6 +20,7 @@ import tempfile
 import threading
 import time
 from collections.abc import Callable, Sequence
+from typing import Protocol
 
 ROOT = os.path.dirname(os.path.dirname(os.path.abspath(__file__)))
 sys.path.insert(1, f"{ROOT}/demo")
@@ -85,7 +86,11 @@ def try_starts(checks: Checks, program: str, store: Pair, folder: str) -> None:
     checks.true("a store that can lose what it said is refused", status == 1 and "--store-copies 1" in text, text)
 
 
-def instance(program: str, folder: str, name: str, store: Pair, sink: OtlpSink) -> Service:
+class Addressed(Protocol):
+    address: str
+
+
+def instance(program: str, folder: str, name: str, store: Pair, sink: Addressed) -> Service:
     peer = f"127.0.0.1:{free_port()}"
     return Service(program, f"{folder}/{name}", sink.address, "--store", store.address, "--instance", name, "--peer", peer,
                    "--flush-every", "1s")

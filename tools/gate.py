@@ -51,6 +51,7 @@ SERVICE_STEPS: tuple[tuple[str, list[str], int], ...] = (
     ("close_interrupted.py", ["3"], 60),
     ("behind_proxies.py", [], 60),
     ("store.py", ["60"], 120),
+    ("store_goes_back.py", [], 90),
     # Of several machines, shortly: `make several` tries more, store_peers.py among it, which waits for instances for minutes, and
     # under_patroni.py, for which etcd and Patroni are installed. Without network namespaces several_machines.py is left out.
     ("orders_anywhere.py", [], 60),

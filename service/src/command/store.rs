@@ -20,8 +20,19 @@ pub enum Command {
     },
     /// Brings what a folder has into a store that nobody has used yet, which counts then. All services must have ended; killed, the same command goes on
     Move(Move),
+    /// Says that a store was put back from a backup, or has lost rows for good: it goes on with what it has. All instances must have ended
+    Restored(Restored),
     /// Says whether a store counts, or which folder is on its way into it
     Check(Place),
+}
+
+#[derive(Args)]
+pub struct Restored {
+    #[command(flatten)]
+    store: Place,
+    /// These slots begin with nothing: what they have is deleted. For rows that are lost
+    #[arg(long, value_name = "SLOTS", value_delimiter = ',')]
+    anew: Vec<u16>,
 }
 
 #[derive(Args)]
@@ -51,6 +62,7 @@ impl Command {
                 format!("a store of {slots} slots in {database}")
             }
             Command::Move(of) => of.run()?,
+            Command::Restored(of) => of.run()?,
             Command::Check(Place { database }) => {
                 let standing = PostgresStore::look_into(database, Copies::One)?.standing()?;
                 match standing.refusal() {
@@ -73,6 +85,20 @@ pub fn copies(number: u8) -> Copies {
     match number {
         1 => Copies::One,
         _ => Copies::Two,
+    }
+}
+
+impl Restored {
+    fn run(&self) -> Result<String> {
+        let database = &self.store.database;
+        let anew = PostgresStore::look_into(database, Copies::One)?.restored(&self.anew)?;
+        let numbers: Vec<String> = anew.iter().map(u16::to_string).collect();
+        let anew = match &numbers[..] {
+            [] => String::new(),
+            [one] => format!("; slot {one} begins with nothing"),
+            several => format!("; the slots {} begin with nothing", several.join(", ")),
+        };
+        Ok(format!("the store in {database} goes on with what it has{anew}. Start the instances: their log says what the sink has beyond it"))
     }
 }
 

@@ -7,6 +7,7 @@ mod slot;
 use std::ffi::OsString;
 use std::io;
 use std::path::Path;
+use std::sync::Arc;
 use std::time::Duration;
 
 pub use slot::open;
@@ -47,10 +48,26 @@ pub trait Drive: Send + Sync {
     fn owned_under(&self) -> Option<u64> {
         None
     }
+    /// Drawn when it was taken: what is forwarded from now on has it in its key. None where no owner has one of its own.
+    fn epoch(&self) -> Option<Arc<str>> {
+        None
+    }
+    /// Whether there were files of the slot at some time.
+    fn had_files(&self) -> bool {
+        false
+    }
     /// Up to which request the sink has said, where it is kept beside the files, that it has all.
     fn delivered(&self) -> u64 {
         0
     }
+}
+
+/// Under which a slot is an owner's.
+#[derive(Clone, Debug, PartialEq, Eq)]
+pub struct Tenure {
+    pub term: u64,
+    /// A store that went back gives terms again; an epoch it does not.
+    pub epoch: Arc<str>,
 }
 
 /// Another instance has the slot, or may have: nothing of it may be answered or delivered any more.

@@ -21,14 +21,15 @@ pub use dead::Dead;
 pub(crate) use disk::FAILED;
 #[cfg(test)]
 pub(crate) use disk::{Call, Disk};
-pub use drive::{Drive, Lost};
+pub use drive::{Drive, Lost, Tenure};
 pub use folder::{Folder, FolderFault, KnownSink};
 pub(crate) use free_space::FreeSpace;
 pub use journal::{
     shared_ends, Body, ByNumber, Held, Journal, Left, Names, NoNames, OfRun, Points, Post, Replayed, Ticket,
 };
 pub use outbox::{
-    Beginning, Outbox, Owned, PointsDigest, Recent, Recents, Runs, Series, UnitOfMetric, Waits, POSTS_KNOWN,
+    Beginning, Epochs, GoesOn, Outbox, Owned, PointsDigest, Recent, Recents, Runs, Series, UnitOfMetric,
+    Waits, POSTS_KNOWN,
 };
 pub use segment::Dropped;
 

@@ -8,6 +8,7 @@ mod beside;
 mod brought;
 mod changes;
 mod damaged;
+mod epochs;
 mod keys;
 mod moved;
 mod open;
@@ -24,7 +25,7 @@ mod writer;
 mod written;
 
 use super::disk::Disk;
-use super::drive::Lost;
+use super::drive::{Lost, Tenure};
 use super::free_space::FreeSpace;
 use super::segment::{self, Dropped};
 use super::{locked, Fault};
@@ -34,6 +35,7 @@ use crate::work::{blocking, made_in_order};
 pub use brought::{Beginning, Waits};
 use changes::Change;
 pub use changes::UnitOfMetric;
+pub use epochs::{Epochs, GoesOn};
 pub use owned::Owned;
 pub use recent::{PointsDigest, Recent, Recents, POSTS_KNOWN};
 use state::{Age, State};
@@ -112,8 +114,8 @@ fn ends(body: &[u8]) -> Result<Vec<(SeriesKey, u64)>, NotForwarded> {
 }
 
 impl Outbox {
-    /// The epoch of the first waiting request; where none waits, of those to come. Drawn when the folder was made,
-    /// and anew where it was put back.
+    /// The epoch of the first waiting request; where none waits, of those to come. A folder's was drawn when it was made, and anew
+    /// where it was put back; a slot's of a store when its owner took it.
     pub fn epoch(&self) -> String {
         locked(&self.state).epoch().to_string()
     }
@@ -307,12 +309,33 @@ impl Outbox {
         self.disk.term()
     }
 
+    /// The same, with the epoch of what this instance makes.
+    pub fn tenure(&self) -> Option<Tenure> {
+        let term = self.disk.term()?;
+        Some(Tenure { term, epoch: locked(&self.state).facts.epoch.clone() })
+    }
+
+    /// Those of all requests that wait, and from which they go on.
+    pub fn epochs(&self) -> Epochs {
+        locked(&self.state).facts.epochs.clone()
+    }
+
+    /// What this owner of a slot makes has an epoch of its own.
+    pub(super) fn begin_epoch(&self, root: &str, epoch: &Arc<str>) {
+        let mut state = locked(&self.state);
+        let (next, acknowledged) = (state.facts.next, state.facts.acknowledged);
+        state.facts.epochs.begin(root, epoch, next, acknowledged);
+        state.facts.epoch = epoch.clone();
+    }
+
     /// The sink has all up to this request: what told so is not in the outbox.
     pub(super) fn is_delivered_to(&self, number: u64) -> Result<(), Fault> {
         let last = locked(&self.state).facts.next - 1;
         if number > last {
-            // The next requests would have keys that were used.
-            let what = format!("ends at request {last}, and the sink has requests up to number {number}: put all of the slot's files back");
+            let what = format!(
+                "ends at request {last}, and the sink has requests up to number {number}: put all of the slot's files back, or \
+                 end all instances and call `totxegun store restored`: it goes on with what there is"
+            );
             return Err(Fault::Damaged { path: self.folder.clone(), at: 0, what });
         }
         loop {

@@ -56,6 +56,7 @@ impl Keeper {
                 }
             }
         }
+        self.flush_what_was_filled().await?;
         self.slot.open();
         let mut looks = tokio::time::interval(LOOK);
         looks.set_missed_tick_behavior(MissedTickBehavior::Delay);
@@ -114,6 +115,15 @@ impl Keeper {
         );
         tell_ahead(&self.slot);
         Ok(true)
+    }
+
+    /// In a store that went back a sink may have all that the journal brought, and nothing of what comes: both as one would be left
+    /// out, or count twice. Nothing says in time whether it went back.
+    async fn flush_what_was_filled(&mut self) -> Result<(), Trouble> {
+        if self.slot.journal.is_in_store() && (self.slot.ungrouped() > 0 || !self.carried.is_empty()) {
+            let _put_off = self.checkpoint().await?; // without memory for it, it comes later
+        }
+        Ok(())
     }
 
     async fn look(&mut self) -> Result<(), Trouble> {

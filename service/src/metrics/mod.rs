@@ -64,6 +64,8 @@ metrics! {
         // What is `denied` is sent again too.
         pub deliveries: IntCounterVec = "deliveries_total" ["outcome"] of ["taken", "partial", "again", "denied", "refused"],
             "Tries to deliver, by outcome";
+        pub sink_ahead: IntGaugeVec = "sink_ahead_requests" ["slot"],
+            "Requests that the sink had when a slot was opened here, and that the store did not have: the store has gone back";
         pub noted_runs: IntCounter = "noted_runs_total",
             "Cumulative series that count from their first point here on: what they had before is left out";
         pub forgotten_series: IntCounter = "forgotten_series_total", "Series that were forgotten for their age";

@@ -201,7 +201,7 @@ impl Instance {
         });
         let (drive, files) = read.await.map_err(|fault| match fault {
             Fault::Lost(_) => Unopened::Lost,
-            fault => Unopened::Fault(fault.to_string()),
+            fault => Unopened::Fault(format!("{fault}. {}", to_do(slot))),
         })?;
         locked(&self.open).insert(slot, drive);
         let opened = self.units.open(Files::of_drive(slot, files)).await;
@@ -243,6 +243,14 @@ impl terms::Units for Instance {
         let filling = units.iter().filter(|unit| unit.slot.phase() == Phase::Recovering);
         filling.map(|unit| unit.slot.number()).collect()
     }
+}
+
+/// Of a slot whose files can't be read.
+fn to_do(slot: u16) -> String {
+    format!(
+        "If the store has lost rows of slot {slot}, put them back; or end all instances, and have it begin with nothing: `totxegun store \
+         restored --anew {slot} ADDRESS`"
+    )
 }
 
 /// Where posts go, by the store's slots.

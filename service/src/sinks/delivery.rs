@@ -1,11 +1,12 @@
 //! Brings a slot's outbox to the sink: one request after the other, or several at once, each under its own key until it is
 //! taken.
 
+mod epochs;
 mod together;
 
 use super::{backoff, Fate, Forwarded, Sink};
 use crate::files::outbox::Waiting;
-use crate::files::{Dead, Fault, Lost, Outbox};
+use crate::files::{Dead, Epochs, Fault, Lost, Outbox, Tenure};
 use crate::latch::Latch;
 use crate::log;
 use crate::metrics::Metrics;
@@ -14,6 +15,7 @@ use crate::work::locked;
 use std::convert::Infallible;
 use std::future::Future;
 use std::pin::pin;
+use std::sync::atomic::AtomicBool;
 use std::sync::{Arc, Mutex};
 use std::time::{Duration, Instant};
 use together::Size;
@@ -76,16 +78,21 @@ pub async fn deliver(
         owners.put(slot, &outbox);
     }
     let files = Files { outbox, dead };
-    Run { slot, files, sink, metrics, attempts, failing: FAILING, unsure: UNSURE, stop }.until_it_ends().await
+    let is_told = AtomicBool::new(false);
+    Run { slot, files, sink, metrics, attempts, is_told, failing: FAILING, unsure: UNSURE, stop }
+        .until_it_ends()
+        .await
 }
 
 /// What a delivery needs of the files.
 trait Store: Sync {
     fn epoch(&self) -> String;
     /// Under which the slot is this instance's, where there are several.
-    fn term(&self) -> Option<u64> {
+    fn tenure(&self) -> Option<Tenure> {
         None
     }
+    /// Those of requests that wait, and of those to come.
+    fn epochs(&self) -> Epochs;
     async fn first(&self) -> Result<(Waiting, Vec<u8>), Fault>;
     /// Returns once a request may be sent: it is durable, and the slot is this instance's.
     async fn may_deliver(&self, number: u64) -> Result<(), Fault>;
@@ -109,8 +116,12 @@ impl Store for Files {
         self.outbox.epoch()
     }
 
-    fn term(&self) -> Option<u64> {
-        self.outbox.term()
+    fn tenure(&self) -> Option<Tenure> {
+        self.outbox.tenure()
+    }
+
+    fn epochs(&self) -> Epochs {
+        self.outbox.epochs()
     }
 
     async fn first(&self) -> Result<(Waiting, Vec<u8>), Fault> {
@@ -159,6 +170,8 @@ struct Run<S> {
     sink: Arc<dyn Sink>,
     metrics: Arc<Metrics>,
     attempts: Arc<Attempts>,
+    /// The sink knows from which epochs requests go on.
+    is_told: AtomicBool,
     /// How long a request is sent again at which the sink fails.
     failing: Duration,
     /// How long it is not said that it is not sure of its slot.
@@ -177,6 +190,7 @@ impl<S: Store> Run<S> {
 
     async fn run(&self) -> Result<Infallible, End> {
         let mut size = Size::of(&*self.sink);
+        let _later = self.tell_epochs().await?; // before the next request, if it fails
         loop {
             let (waiting, body) = self.unless_stopped(self.files.first()).await??;
             let request = self.request(waiting.number, body);
@@ -200,8 +214,11 @@ impl<S: Store> Run<S> {
             let key = request.key();
             let held = self.unless_stopped(self.sink.keys().hold(&key)).await?;
             self.wait_until_sure(request.number).await?;
-            let fate = self.sink.deliver_of(&request, self.files.term());
-            let fate = self.unless_stopped(fate).await?;
+            let tenure = self.files.tenure();
+            let fate = match self.tell_epochs().await? {
+                Ok(()) => self.unless_stopped(self.sink.deliver_of(&request, tenure.as_ref())).await?,
+                Err(fate) => fate,
+            };
             let outcome = match fate {
                 Fate::Denied { .. } => "denied",
                 _ => "again",

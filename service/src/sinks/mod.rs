@@ -30,6 +30,7 @@ pub use retention::Retention;
 pub use rewind::Rewind;
 pub use roots::ClientFiles;
 
+use crate::files::{Epochs, Tenure};
 use std::future::Future;
 use std::pin::Pin;
 use std::sync::Arc;
@@ -107,6 +108,15 @@ impl Forwarded {
     }
 }
 
+/// What a sink has of a slot that its outbox does not know.
+#[derive(Clone, Debug, Default, PartialEq, Eq)]
+pub struct Beyond {
+    pub requests: u64,
+    /// When it took the first and the last of them, as it writes times.
+    pub since: String,
+    pub until: String,
+}
+
 /// What a sink answers.
 pub type Answer<'a, T> = Pin<Box<dyn Future<Output = T> + Send + 'a>>;
 
@@ -117,9 +127,15 @@ pub trait Sink: Send + Sync {
         self.deliver_of(request, None)
     }
 
-    /// One in its place, of a slot that this instance may have under a term: where the sink is in the database that has the
-    /// slot's row, it takes the request and notes that it has, in one transaction, and takes none of an earlier term.
-    fn deliver_of<'a>(&'a self, request: &'a Forwarded, term: Option<u64>) -> Answer<'a, Fate>;
+    /// One in its place, of a slot that this instance may have: where the sink is in the database that has the slot's row, it takes
+    /// the request and notes that it has, in one transaction, and takes none of an earlier owner.
+    fn deliver_of<'a>(&'a self, request: &'a Forwarded, tenure: Option<&'a Tenure>) -> Answer<'a, Fate>;
+
+    /// Learns from which epochs those of a slot's requests go on, before any of these comes: what it has beyond where the last one
+    /// goes on. A sink that keeps no keys has nothing to say.
+    fn goes_on<'a>(&'a self, _slot: u16, _epochs: &'a Epochs) -> Answer<'a, Result<Beyond, Fate>> {
+        Box::pin(std::future::ready(Ok(Beyond::default())))
+    }
 
     /// How many requests it takes in one go.
     fn most_together(&self) -> usize {
@@ -128,7 +144,11 @@ pub trait Sink: Send + Sync {
 
     /// Takes all of these whole, in one go, or nothing of them; whether it has. Where it has not each is delivered by itself,
     /// by which it is known why.
-    fn deliver_together<'a>(&'a self, _all: &'a [Forwarded], _term: Option<u64>) -> Answer<'a, bool> {
+    fn deliver_together<'a>(
+        &'a self,
+        _all: &'a [Forwarded],
+        _tenure: Option<&'a Tenure>,
+    ) -> Answer<'a, bool> {
         Box::pin(std::future::ready(false))
     }
 

@@ -62,5 +62,27 @@ fn a_slot_without_the_files_of_which_the_sink_has_requests_is_not_begun_anew() {
     let gone = refusal(&store);
     assert!(gone.contains("has no segments, and the sink has requests of it up to number 4"), "{gone}");
     server.ask("delete from totxegun_store.delivered");
-    assert_eq!(refusal(&store), "", "it is new");
+    let begun = refusal(&store);
+    assert!(begun.contains("has no segments, and the slot had some"), "{begun}");
+    assert!(begun.contains("totxegun store restored"), "{begun}");
+    assert_eq!(store.restored(&[]).unwrap(), [0]);
+    assert_eq!(refusal(&store), "", "an operator has said that it begins with nothing");
+    assert_eq!(store.restored(&[]).unwrap(), [0u16; 0]);
+}
+
+/// Without rows of its own it can't be read, and what is left is deleted.
+#[test]
+fn a_slot_begins_with_nothing_where_an_operator_says_so() {
+    let Some((server, store)) = made() else { return };
+    commit(&store, 3);
+    server.ask(
+        "delete from totxegun_store.piece where number = (select min(number) from totxegun_store.piece)",
+    );
+    assert!(refusal(&store).contains("was changed"), "its rows are not all there");
+    assert!(store.restored(&[64]).unwrap_err().to_string().contains("there is no slot 64"));
+    assert_eq!(store.restored(&[0]).unwrap(), [0]);
+    assert_eq!(refusal(&store), "");
+    commit(&store, 1);
+    assert_eq!(store.restored(&[]).unwrap(), [0u16; 0], "it has files again");
+    assert_eq!(refusal(&store), "");
 }

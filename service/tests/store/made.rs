@@ -37,12 +37,12 @@ fn a_start_refuses_what_is_no_store_or_another_or_can_lose() {
         format!("set synchronous_commit = 'local'; update totxegun_store.cluster set version = {version}")
     };
     server.ask("select pg_reload_conf()");
-    for other in [1, 3] {
+    for other in [1, 2, 4] {
         server.ask(&versions(other));
-        let told = format!("of format version {other}, and this totxegun reads 2 alone: ");
+        let told = format!("of format version {other}, and this totxegun reads 3 alone: ");
         refused(&one, Copies::Two, "a", &told);
     }
-    server.ask(&versions(2));
+    server.ask(&versions(3));
     // A start would wait: nobody is there, so no commit ends.
     let store = PostgresStore::look_into(&address(&one).unwrap(), Copies::Two).unwrap();
     assert_eq!(wait(store.copies()).unwrap(), Some(1));

@@ -1,5 +1,6 @@
 //! The store in PostgreSQL, against servers of its own. Without `initdb` nothing is tried, and a line says so.
 
+mod back;
 mod faults;
 mod lost;
 mod made;

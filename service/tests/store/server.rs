@@ -181,14 +181,22 @@ impl Server {
     }
 
     fn psql(&self, query: &str) -> Command {
+        self.psql_in("postgres", query)
+    }
+
+    fn psql_in(&self, database: &str, query: &str) -> Command {
         let mut command = self.command("psql");
         command.args(["-U", "postgres", "-XAtq", "-v", "ON_ERROR_STOP=1", "-h", "127.0.0.1"]);
-        command.args(["-p", &self.port.to_string(), "-d", "postgres", "-c", query]);
+        command.args(["-p", &self.port.to_string(), "-d", database, "-c", query]);
         command
     }
 
     pub fn ask(&self, query: &str) -> String {
         done(&mut self.psql(query))
+    }
+
+    pub fn ask_in(&self, database: &str, query: &str) -> String {
+        done(&mut self.psql_in(database, query))
     }
 
     pub fn address(&self) -> String {

@@ -5,9 +5,9 @@ use super::work::{take, wait};
 use super::{make, open};
 use std::sync::Arc;
 use totxegun::files::drive::{self, Drive};
-use totxegun::files::{Recents, Runs};
+use totxegun::files::{Recents, Runs, Tenure};
 use totxegun::sinks::{self, Fate, Forwarded, Memory, Retention, Sink};
-use totxegun::store::postgres::{Copies, PostgresStore};
+use totxegun::store::postgres::{Copies, PostgresDrive, PostgresStore};
 
 /// It knows the store that the slots are in.
 struct OfStore(Arc<PostgresStore>);
@@ -46,9 +46,12 @@ fn of_two(slot: u16, number: u64, starts: [u64; 2]) -> Forwarded {
     }
 }
 
-fn deliver(sink: &Arc<dyn Sink>, request: &Forwarded, term: u64) -> Fate {
-    let runtime = tokio::runtime::Builder::new_current_thread().enable_all().build().unwrap();
-    runtime.block_on(sink.deliver_of(request, Some(term)))
+fn deliver(sink: &Arc<dyn Sink>, request: &Forwarded, tenure: &Tenure) -> Fate {
+    wait(sink.deliver_of(request, Some(tenure)))
+}
+
+fn tenure(of: &PostgresDrive) -> Tenure {
+    Tenure { term: of.term(), epoch: of.epoch().unwrap() }
 }
 
 const NOTED: &str = "select coalesce(string_agg(slot || ':' || term || ':' || number, ' ' order by slot), '')
@@ -63,32 +66,38 @@ fn a_request_and_what_says_that_it_was_delivered_are_one_transaction_under_the_t
     let store = Arc::new(open(&server.address(), Copies::One));
     let by_other_name = server.address().replace("127.0.0.1", "localhost");
     let sink = sink(&by_other_name, &store);
-    let first = take(&store, 3).0;
+    let first = tenure(&take(&store, 3).0);
     for number in 1..4 {
-        assert_eq!(deliver(&sink, &request(3, number, number * 10), first.term()), Fate::Taken);
+        assert_eq!(deliver(&sink, &request(3, number, number * 10), &first), Fate::Taken);
     }
-    let repeated = deliver(&sink, &request(3, 3, 30), first.term());
+    let repeated = deliver(&sink, &request(3, 3, 30), &first);
     assert_eq!(
         (repeated, server.ask(NOTED), server.ask(TOTALS)),
         (Fate::Taken, "3:1:3".into(), "m3=15".into())
     );
-    assert_eq!(deliver(&sink, &request(3, 4, 40), first.term()), Fate::Taken);
+    assert_eq!(deliver(&sink, &request(3, 4, 40), &first), Fate::Taken);
     for _ in 0..2 {
         // A part that is left is kept first, so the request has to come again.
-        let partly = deliver(&sink, &of_two(3, 5, [45, 45]), first.term());
+        let partly = deliver(&sink, &of_two(3, 5, [45, 45]), &first);
         assert!(matches!(partly, Fate::TakenPartly { rejected: 1, .. }), "{partly:?}");
         assert_eq!(server.ask(NOTED), "3:1:4");
     }
-    let second = take(&store, 3).0;
-    assert_eq!(second.delivered(), 4, "the next owner knows");
+    let owner = take(&store, 3).0;
+    assert_eq!(owner.delivered(), 4, "the next owner knows");
+    let second = tenure(&owner);
     let next = request(3, 6, 60);
-    assert_eq!(deliver(&sink, &next, second.term()), Fate::Taken);
-    match deliver(&sink, &request(3, 7, 70), first.term()) {
+    assert_eq!(deliver(&sink, &next, &second), Fate::Taken);
+    match deliver(&sink, &request(3, 7, 70), &first) {
         Fate::Again { reason, .. } => {
-            assert!(reason.contains("slot 3 was taken by another instance"), "{reason}")
+            let says = [&format!("with epoch {}", second.epoch), &format!("with epoch {}", first.epoch)];
+            assert!(reason.contains("slot 3 was taken by another instance"), "{reason}");
+            assert!(says.into_iter().all(|part| reason.contains(part)), "{reason}");
         }
         other => panic!("{other:?}"),
     }
+    // As after a store was put back: the term of an owner of before is greater, and not its epoch.
+    let other = Tenure { term: second.term + 5, ..first };
+    assert!(matches!(deliver(&sink, &request(3, 7, 70), &other), Fate::Again { .. }));
     assert_eq!(
         (server.ask(NOTED), server.ask(TOTALS)),
         ("3:2:6".into(), "m3=25 n3=5".into()),
@@ -104,10 +113,11 @@ fn a_sink_elsewhere_has_keys_alone_whatever_its_address() {
     server.ask("create database sink");
     make(&server.address());
     let store = Arc::new(open(&server.address(), Copies::One));
-    let term = take(&store, 3).0.term();
+    let tenure = tenure(&take(&store, 3).0);
+    let nobodys = Tenure { term: 0, epoch: "".into() };
     let apart = sink(&server.address_of("sink"), &store);
-    assert_eq!(deliver(&apart, &request(3, 1, 10), term), Fate::Taken);
-    assert_eq!(deliver(&apart, &request(3, 2, 20), 0), Fate::Taken, "nobody looks at a term there");
+    assert_eq!(deliver(&apart, &request(3, 1, 10), &tenure), Fate::Taken);
+    assert_eq!(deliver(&apart, &request(3, 2, 20), &nobodys), Fate::Taken, "nobody looks at a term there");
     assert_eq!(server.ask(NOTED), "");
 }
 

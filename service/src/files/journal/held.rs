@@ -11,7 +11,7 @@ use super::record::{self, Posts, Wanted};
 use super::{locked, Journal, Post, Replayed, Shared, HELD};
 use crate::files::disk::{io_fault, Disk, File};
 use crate::files::records::{self, Next, Reader, Which};
-use crate::files::Fault;
+use crate::files::{Fault, Lost};
 use bytes::Bytes;
 use serde::{Deserialize, Serialize};
 use std::collections::{BTreeMap, BTreeSet, HashMap};
@@ -121,6 +121,9 @@ impl Shared {
         records::put(&mut record, HELD, &[&bytes]);
         self.alone(|place| {
             if place.segment.number != next {
+                if self.disk.is_lost() {
+                    return Err(Lost.into()); // so no segment could be begun
+                }
                 let source =
                     io::Error::other("the journal turned while posts of quarantined senders were moved");
                 return Err(io_fault(&place.segment.path)(source));

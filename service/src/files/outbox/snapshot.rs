@@ -1,6 +1,7 @@
 //! What a segment begins with: all that the outbox knows, but its requests.
 
 use super::changes::UnitOfMetric;
+use super::epochs::Epochs;
 use super::keys::each_part;
 use super::parts::put_long;
 use super::rows::{packed_pieces, unpacked, PIECE, SNAPSHOT};
@@ -38,6 +39,8 @@ struct Content {
     forgotten: Forgotten,
     #[serde(default)]
     recent: Vec<RecentRow>,
+    #[serde(default)]
+    epochs: Epochs,
 }
 
 /// A part of what is written.
@@ -98,19 +101,21 @@ impl Snapshot {
         let runs: Vec<RunRow> = (0..).zip(&self.series).filter_map(run).collect();
         let recent = |(id, series): (u32, &Series)| RecentRow::of(id, series.recent);
         let recent: Vec<RecentRow> = (0..).zip(&self.series).filter_map(recent).collect();
-        let Facts { epoch, next, acknowledged, journal, quarantined, since, beside, forgotten } = &self.facts;
+        let Facts { epoch, next, acknowledged, journal, quarantined, since, beside, forgotten, epochs } =
+            &self.facts;
         let ahead = format!(
             r#"{{"epoch":{},"next":{next},"acknowledged":{acknowledged},"journal":{journal},"quarantined":{},"series":["#,
             json(&&**epoch),
             json(quarantined)
         );
         let behind = format!(
-            r#"],"since":{},"runs":{},"beside":{},"forgotten":{},"recent":{}}}"#,
+            r#"],"since":{},"runs":{},"beside":{},"forgotten":{},"recent":{},"epochs":{}}}"#,
             json(since),
             json(&runs),
             json(beside),
             json(forgotten),
-            json(&recent)
+            json(&recent),
+            json(epochs)
         );
         let text = |text: &[u8]| Piece::Text(text.into());
         let pieces = std::iter::once(text(ahead.as_bytes()));
@@ -143,9 +148,11 @@ impl Snapshot {
 
     pub fn read(bytes: &[u8]) -> Option<State> {
         let content: Content = unpacked(bytes)?;
-        let Content { next, acknowledged, journal, quarantined, since, beside, forgotten, .. } = content;
+        let Content { next, acknowledged, journal, quarantined, since, beside, forgotten, epochs, .. } =
+            content;
         let epoch = content.epoch.into();
-        let facts = Facts { epoch, next, acknowledged, journal, quarantined, since, beside, forgotten };
+        let facts =
+            Facts { epoch, next, acknowledged, journal, quarantined, since, beside, forgotten, epochs };
         let mut state = State { facts, series: content.series, ..State::default() };
         for row in content.runs {
             let series = &mut state.series.at_mut(row.0)?.series;

@@ -1,6 +1,7 @@
 //! What the outbox knows, in memory: some bytes a series, and some a group, but none a waiting request.
 
 use super::changes::{Change, Group, UnitOfMetric};
+use super::epochs::Epochs;
 use super::snapshot::Snapshot;
 use super::table::{whole_seconds, Heard, KnownSeries, Table};
 use super::{Recent, Series, Waiting};
@@ -92,6 +93,7 @@ pub struct Facts {
     pub beside: BTreeSet<UnitOfMetric>,
     pub since: Since,
     pub forgotten: Forgotten,
+    pub epochs: Epochs,
 }
 
 #[derive(Default)]

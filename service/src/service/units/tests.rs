@@ -8,7 +8,7 @@ use super::super::unit::tests::{no_disk, over, unit};
 use super::*;
 use crate::core::Across;
 use crate::files::drive::{self, memory::Store};
-use crate::files::{Dead, Durability, Folder, Journal, Lost, Outbox};
+use crate::files::{Dead, Durability, Folder, Journal, Lost, Outbox, Tenure};
 use crate::identity::Door;
 use crate::intake::connections::Handler;
 use crate::intake::head::{Head, Packing};
@@ -34,7 +34,7 @@ struct Taken {
 }
 
 impl Sink for Taken {
-    fn deliver_of<'a>(&'a self, request: &'a Forwarded, _term: Option<u64>) -> Answer<'a, Fate> {
+    fn deliver_of<'a>(&'a self, request: &'a Forwarded, _tenure: Option<&'a Tenure>) -> Answer<'a, Fate> {
         self.came.lock().unwrap().push(request.clone());
         Box::pin(async { Fate::Taken })
     }
@@ -279,6 +279,21 @@ async fn what_ends_in_a_store_is_told_with_its_term() {
         assert!(matches!(ending.end, End::Lost) && ending.term == Some(term), "{ending:?}");
         at_work.lose(0);
     }
+}
+
+/// Of a store that went back the sink may have all that the journal has, and nothing of what comes: it would leave out both.
+#[tokio::test]
+async fn what_a_start_puts_in_again_is_a_group_of_its_own() {
+    let place = folder();
+    let (service, store) = (Service::new(&place), Arc::<Store>::default());
+    let files = || drive::open(store.take(), "00000000000000aa").unwrap();
+    service.begin(0, files()).await;
+    assert_eq!(service.post(&[0], 10).await, Outcome::taken(0));
+    service.units.lose(0);
+    service.begin(0, files()).await;
+    assert_eq!(service.post(&[0], 20).await, Outcome::taken(0));
+    assert_eq!(service.ask("POST", "/checkpoint").await.0, 503, "two slots are elsewhere");
+    assert_eq!(service.taken().await, (vec![0, 0], 2));
 }
 
 /// Else a sender would be taken by one slot that another refuses, and nobody would know.

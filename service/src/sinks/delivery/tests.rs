@@ -1,9 +1,10 @@
 //! What becomes of requests, by a sink that answers by a script and files that are in memory.
 
 use super::*;
-use crate::sinks::{Answer, Keys};
+use crate::sinks::{Answer, Beyond, Keys};
 use std::collections::VecDeque;
 
+mod epochs;
 mod files;
 mod held;
 mod lost;
@@ -15,15 +16,25 @@ struct Script {
     fates: Mutex<VecDeque<Fate>>,
     came: Mutex<Vec<Forwarded>>,
     at: Mutex<Vec<Instant>>,
+    /// What it says of epochs, and then that it has nothing beyond.
+    beyond: Mutex<VecDeque<Result<Beyond, Fate>>>,
+    asked: Mutex<u64>,
     held: Keys,
 }
 
 impl Sink for Script {
-    fn deliver_of<'a>(&'a self, request: &'a Forwarded, _term: Option<u64>) -> Answer<'a, Fate> {
+    fn deliver_of<'a>(&'a self, request: &'a Forwarded, _tenure: Option<&'a Tenure>) -> Answer<'a, Fate> {
         self.came.lock().expect("came").push(request.clone());
         self.at.lock().expect("at").push(Instant::now());
         let fate = self.fates.lock().expect("fates").pop_front().unwrap_or(Fate::Taken);
         Box::pin(async move { fate })
+    }
+
+    fn goes_on<'a>(&'a self, slot: u16, _epochs: &'a Epochs) -> Answer<'a, Result<Beyond, Fate>> {
+        assert_eq!(slot, 2);
+        *self.asked.lock().expect("asked") += 1;
+        let beyond = self.beyond.lock().expect("beyond").pop_front().unwrap_or(Ok(Beyond::default()));
+        Box::pin(std::future::ready(beyond))
     }
 
     fn name(&self) -> String {
@@ -76,8 +87,12 @@ impl Store for &Memory {
         "e".into()
     }
 
-    fn term(&self) -> Option<u64> {
-        self.term
+    fn tenure(&self) -> Option<Tenure> {
+        Some(Tenure { term: self.term?, epoch: "e".into() })
+    }
+
+    fn epochs(&self) -> Epochs {
+        Epochs::default()
     }
 
     async fn first(&self) -> Result<(Waiting, Vec<u8>), Fault> {
@@ -191,6 +206,7 @@ fn prepared(sink: Arc<Script>, memory: &Memory, stop: watch::Receiver<bool>) -> 
         sink,
         metrics: Arc::new(Metrics::new().expect("metrics")),
         attempts: Arc::default(),
+        is_told: AtomicBool::new(false),
         failing: Duration::from_millis(400),
         unsure: Duration::from_millis(50),
         stop,

@@ -63,6 +63,10 @@ impl<S: Store> Run<S> {
         if let Some(last) = all.last() {
             self.wait_until_sure(last.number).await?;
         }
-        self.unless_stopped(self.sink.deliver_together(all, self.files.term())).await
+        if self.tell_epochs().await?.is_err() {
+            return Ok(false); // each by itself, by which it is known why
+        }
+        let tenure = self.files.tenure();
+        self.unless_stopped(self.sink.deliver_together(all, tenure.as_ref())).await
     }
 }

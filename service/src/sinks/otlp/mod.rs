@@ -14,6 +14,7 @@ pub use access::Access;
 pub(crate) use connect::Client;
 
 use super::{Answer, Fate, Forwarded, Keys, Rewind, Sink};
+use crate::files::Tenure;
 use crate::otlp::{protobuf_of_forwarded, Encoding};
 use crate::work::blocking;
 use bytes::Bytes;
@@ -153,7 +154,7 @@ impl OtlpSink {
 }
 
 impl Sink for OtlpSink {
-    fn deliver_of<'a>(&'a self, request: &'a Forwarded, _term: Option<u64>) -> Answer<'a, Fate> {
+    fn deliver_of<'a>(&'a self, request: &'a Forwarded, _tenure: Option<&'a Tenure>) -> Answer<'a, Fate> {
         Box::pin(self.send(request))
     }
 

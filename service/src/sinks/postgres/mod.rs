@@ -4,6 +4,7 @@
 //! again: no request is lost by it.
 
 pub mod by_hour;
+mod epochs;
 pub mod export;
 mod fault;
 mod fence;
@@ -24,7 +25,8 @@ pub use crate::postgres::Server;
 use super::left_out::LeftOut;
 use super::periods::{Deed, Told};
 use super::sql::{Content, Sent};
-use super::{Answer, Fate, Forwarded, Keys, Memory, Owners, Retention, Sink};
+use super::{Answer, Beyond, Fate, Forwarded, Keys, Memory, Owners, Retention, Sink};
+use crate::files::{Epochs, Tenure};
 use crate::work::blocking;
 use fault::Fault;
 use session::{within, Session};
@@ -84,7 +86,12 @@ impl PostgresSink {
     }
 
     /// By the session that is there, or by a new one, which may have to bring the schema up first.
-    async fn take(&self, request: &Forwarded, sent: Sent, term: Option<u64>) -> Result<LeftOut, NotTaken> {
+    async fn take(
+        &self,
+        request: &Forwarded,
+        sent: Sent,
+        tenure: Option<&Tenure>,
+    ) -> Result<LeftOut, NotTaken> {
         let body = request.body.clone();
         // Milliseconds of work, too much for the runtime.
         let content = blocking(move || Content::read(&body)).await?;
@@ -92,7 +99,7 @@ impl PostgresSink {
         let mut place = self.session.lock().await;
         let mut session = self.session(&mut place).await?;
         session.owners = Some(self.owners.of(request));
-        let taken = within(self.patience, store::take(&mut session, request, sent, term, content)).await;
+        let taken = within(self.patience, store::take(&mut session, request, sent, tenure, content)).await;
         PostgresSink::put_back(session, &mut place, &taken);
         taken
     }
@@ -119,27 +126,41 @@ impl PostgresSink {
     }
 
     /// As `take`, of several, which are all taken or none of them.
-    async fn take_together(&self, all: &[Forwarded], term: Option<u64>) -> Result<bool, NotTaken> {
+    async fn take_together(&self, all: &[Forwarded], tenure: Option<&Tenure>) -> Result<bool, NotTaken> {
         let bodies: Vec<Vec<u8>> = all.iter().map(|one| one.body.clone()).collect();
         let read = move || bodies.iter().map(|body| Content::read(body)).collect::<Result<Vec<_>, _>>();
         let contents = blocking(read).await?;
         let mut place = self.session.lock().await;
         let mut session = self.session(&mut place).await?;
         session.owners = all.first().map(|first| self.owners.of(first));
-        let taken = within(self.patience, store::take_together(&mut session, all, term, contents)).await;
+        let taken = within(self.patience, store::take_together(&mut session, all, tenure, contents)).await;
         PostgresSink::put_back(session, &mut place, &taken);
         taken
     }
 
-    async fn send(&self, request: &Forwarded, sent: Sent, term: Option<u64>) -> Fate {
-        let reason = |fault: Fault| fault.at(&self.server).to_string();
-        match self.take(request, sent, term).await {
+    async fn send(&self, request: &Forwarded, sent: Sent, tenure: Option<&Tenure>) -> Fate {
+        match self.take(request, sent, tenure).await {
             Ok(left) => left.fate(&request.body),
-            Err(NotTaken::Refused(reason)) => Fate::refused(reason),
-            Err(NotTaken::Failed(fault)) => Fate::Failed { reason: reason(fault), after: None },
-            Err(NotTaken::Fault(fault @ Fault::Away(_))) => Fate::away(reason(fault)),
-            Err(NotTaken::Fault(fault)) => Fate::again(reason(fault)),
+            Err(why) => self.fate(why),
         }
+    }
+
+    fn fate(&self, why: NotTaken) -> Fate {
+        let reason = |fault: Fault| fault.at(&self.server).to_string();
+        match why {
+            NotTaken::Refused(reason) => Fate::refused(reason),
+            NotTaken::Failed(fault) => Fate::Failed { reason: reason(fault), after: None },
+            NotTaken::Fault(fault @ Fault::Away(_)) => Fate::away(reason(fault)),
+            NotTaken::Fault(fault) => Fate::again(reason(fault)),
+        }
+    }
+
+    async fn learn(&self, slot: u16, epochs: &Epochs) -> Result<Beyond, NotTaken> {
+        let mut place = self.session.lock().await;
+        let mut session = self.session(&mut place).await?;
+        let learned = within(self.patience, epochs::goes_on(&mut session, slot, epochs)).await;
+        PostgresSink::put_back(session, &mut place, &learned);
+        learned
     }
 }
 
@@ -158,16 +179,20 @@ impl Sink for PostgresSink {
         Box::pin(self.send(request, Sent::ByHand, None))
     }
 
-    fn deliver_of<'a>(&'a self, request: &'a Forwarded, term: Option<u64>) -> Answer<'a, Fate> {
-        Box::pin(self.send(request, Sent::InOrder, term))
+    fn deliver_of<'a>(&'a self, request: &'a Forwarded, tenure: Option<&'a Tenure>) -> Answer<'a, Fate> {
+        Box::pin(self.send(request, Sent::InOrder, tenure))
+    }
+
+    fn goes_on<'a>(&'a self, slot: u16, epochs: &'a Epochs) -> Answer<'a, Result<Beyond, Fate>> {
+        Box::pin(async move { self.learn(slot, epochs).await.map_err(|why| self.fate(why)) })
     }
 
     fn most_together(&self) -> usize {
         super::TOGETHER
     }
 
-    fn deliver_together<'a>(&'a self, all: &'a [Forwarded], term: Option<u64>) -> Answer<'a, bool> {
-        Box::pin(async move { self.take_together(all, term).await.unwrap_or(false) })
+    fn deliver_together<'a>(&'a self, all: &'a [Forwarded], tenure: Option<&'a Tenure>) -> Answer<'a, bool> {
+        Box::pin(async move { self.take_together(all, tenure).await.unwrap_or(false) })
     }
 
     fn settle<'a>(&'a self, who: &'a str, deed: &'a Deed) -> Answer<'a, Told> {

@@ -31,15 +31,32 @@ pub(super) const MAKE_REQUESTS: &str = "with made as (
 pub(super) const FIRST_LIFE: &str = "insert into totxegun.life (slot, epoch) values ($1::int4, $2::text)
     on conflict (slot, epoch) do update set epoch = excluded.epoch returning id";
 
+/// Of an epoch that was seen before.
+pub(super) const LIFE_OF: &str = "select id from totxegun.life where slot = $1::int4 and epoch = $2::text";
+
+/// What a life has beyond a request, but for those of an epoch: how many, and when the first and the last came.
+pub(super) const BEYOND: &str = "select count(*),
+        coalesce(to_char(min(taken_at), 'YYYY-MM-DD HH24:MI:SS'), ''), coalesce(to_char(max(taken_at), 'YYYY-MM-DD HH24:MI:SS'), '')
+    from totxegun.life join totxegun.request on request.slot = life.slot and request.epoch = life.epoch
+    where life.slot = $1::int4 and life.id = $2::int8 and request.number > $3::numeric and life.epoch <> $4::text";
+
+/// An epoch that goes on with a life.
+pub(super) const GO_ON: &str =
+    "insert into totxegun.life (slot, epoch, id) values ($1::int4, $2::text, $3::int8)";
+
 pub(super) const BEGIN_LIFE: &str = "insert into totxegun.life (slot, epoch) values ($1::int4, $2::text)
     on conflict (slot, epoch) do update set id = default";
 
-/// Whether a later request was there, and the places of series that a later one has put back. Of series that are locked: else
-/// what was added to them meanwhile would not be known here.
-pub(super) const LATE: &str = "select exists (select from totxegun.request
-            where slot = $1::int4 and epoch = $2::text and number > $3::numeric),
+/// Whether a later request of its life was there, and the places of series that a later one has put back. Of series that are
+/// locked: else what was added to them meanwhile would not be known here.
+pub(super) const LATE: &str = "with same as materialized (
+        select epoch from totxegun.life where slot = $1::int4
+            and id = (select id from totxegun.life where slot = $1::int4 and epoch = $2::text)
+    )
+    select exists (select from totxegun.request
+            where slot = $1::int4 and epoch in (select epoch from same) and number > $3::numeric),
         array(select place from unnest($4::bytea[]) with ordinality as wanted(digest, place)
-            join totxegun.rewind on rewind.slot = $1::int4 and rewind.epoch = $2::text
+            join totxegun.rewind on rewind.slot = $1::int4 and rewind.epoch in (select epoch from same)
                 and rewind.digest = wanted.digest and number > $3::numeric)";
 
 /// A row that is locked makes the commit behind it a write, which waits for the standby.

@@ -8,6 +8,7 @@ use super::schema::KNOWN;
 use super::series::{Known, Seen};
 use super::session::{Session, Statements};
 use super::values::{NewRow, Numeric};
+use crate::files::Tenure;
 use crate::postgres::Warnings;
 use crate::sinks::left_out::LeftOut;
 use crate::sinks::owners::OwnersOfSlot;
@@ -27,13 +28,13 @@ pub(super) async fn take(
     session: &mut Session,
     request: &Forwarded,
     sent: Sent,
-    term: Option<u64>,
+    tenure: Option<&Tenure>,
     content: Content,
 ) -> Result<LeftOut, NotTaken> {
     let mut writing = Writing::begin(session).await?;
     let outcome = sql::take(&mut writing, Request::with(request, sent, content)).await?;
     if let Outcome::New(left) = &outcome {
-        writing.delivered(request, term, left.is_empty()).await?;
+        writing.delivered(request, tenure, left.is_empty()).await?;
     }
     // No content can be at fault any more. A server shows, after a restart, what its standby does not have: so also what was
     // there is believed behind a commit.
@@ -46,7 +47,7 @@ pub(super) async fn take(
 pub(super) async fn take_together(
     session: &mut Session,
     requests: &[Forwarded],
-    term: Option<u64>,
+    tenure: Option<&Tenure>,
     contents: Vec<Content>,
 ) -> Result<bool, NotTaken> {
     let Some(last) = requests.last() else {
@@ -58,7 +59,7 @@ pub(super) async fn take_together(
     if !sql::take_together(&mut writing, all).await? {
         return Ok(false);
     }
-    writing.delivered(last, term, true).await?;
+    writing.delivered(last, tenure, true).await?;
     let new = writing.commit().await?;
     session.seen.add(new);
     Ok(true)

@@ -26,6 +26,7 @@ use super::periods::{Deed, Told};
 use super::sql::{NotTaken, Sent};
 use super::{Answer, Fate, Forwarded, Keys, Memory, Owners, Retention, Sink};
 use crate::core::give_back_of_thread;
+use crate::files::Tenure;
 use anyhow::Context;
 use fault::Fault;
 use std::path::{Path, PathBuf};
@@ -109,7 +110,7 @@ impl Sink for SqliteSink {
         self.send(request, Sent::ByHand)
     }
 
-    fn deliver_of<'a>(&'a self, request: &'a Forwarded, _term: Option<u64>) -> Answer<'a, Fate> {
+    fn deliver_of<'a>(&'a self, request: &'a Forwarded, _tenure: Option<&'a Tenure>) -> Answer<'a, Fate> {
         self.send(request, Sent::InOrder)
     }
 
@@ -117,7 +118,7 @@ impl Sink for SqliteSink {
         super::TOGETHER
     }
 
-    fn deliver_together<'a>(&'a self, all: &'a [Forwarded], _term: Option<u64>) -> Answer<'a, bool> {
+    fn deliver_together<'a>(&'a self, all: &'a [Forwarded], _tenure: Option<&'a Tenure>) -> Answer<'a, bool> {
         let all = all.to_vec();
         let taken = self.ask(move |writer| writer.take_together(&all));
         Box::pin(async { taken.await.unwrap_or(false) })

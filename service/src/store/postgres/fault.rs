@@ -16,6 +16,10 @@ pub enum StoreFault {
     Version { server: String, found: i32, known: i32 },
     #[error("a store has 1 to {most} slots: not {given}")]
     Slots { given: u16, most: u16 },
+    #[error("there is no slot {given}: the store has 0 to {}", slots - 1)]
+    NoSlot { given: u16, slots: u16 },
+    #[error("the store is in use by {0}: end all instances, and call this again")]
+    Running(String),
     #[error("this instance reads posts by other rules than the store's instances. Here: {here}. There: {there}. Start it with the same; or stop all, and `update totxegun_store.cluster set reading = ''`")]
     Reading { here: String, there: String },
     #[error("{0}")]

@@ -10,6 +10,7 @@ mod doubt;
 mod drive;
 mod fault;
 mod member;
+mod restored;
 mod schema;
 mod session;
 mod shared;

@@ -1,5 +1,6 @@
 //! A store's tables, and what it says of itself.
 
+use super::doubt::Doubt;
 use super::fault::StoreFault;
 use super::session::{connect, within, SILENT};
 use crate::postgres::Server;
@@ -7,8 +8,8 @@ use std::fs::File;
 use std::io::{self, Read};
 use tokio_postgres::{Client, Error};
 
-/// The version of the tables that this program knows. 1 stood for other forms.
-pub(super) const KNOWN: i32 = 2;
+/// The version of the tables that this program knows. 1 and 2 stood for other forms.
+pub(super) const KNOWN: i32 = 3;
 const TABLES: &str = include_str!("schema.sql");
 /// Where it is no PostgreSQL, though it speaks as one, its tables are left as they are.
 const TUNING: &str = include_str!("tuning.sql");
@@ -19,7 +20,7 @@ pub const MOST_SLOTS: u16 = 1024;
 pub struct Cluster {
     pub id: String,
     pub slots: u16,
-    /// Of keys: drawn once, when the store was made.
+    /// From which the epochs of all slots go on: drawn once, when the store was made.
     pub epoch: String,
     /// By which its instances know each other.
     pub secret: String,
@@ -29,6 +30,11 @@ impl Cluster {
     fn draw(slots: u16) -> io::Result<Cluster> {
         Ok(Cluster { id: random(8)?, slots, epoch: random(8)?, secret: random(32)? })
     }
+}
+
+/// An epoch that nobody has drawn before.
+pub(super) fn draw_epoch() -> Result<String, Doubt> {
+    random(8).map_err(|error| Doubt::NotConnected(format!("/dev/urandom: {error}")))
 }
 
 /// So many random bytes, in hexadecimal digits.

@@ -10,10 +10,12 @@ create table totxegun_store.instance (
     name text primary key, address text not null, operate text not null, version text not null, beat bigint not null,
     -- The slots that it can't open, and why, in JSON.
     refused text not null);
--- The fence. Its rows are never deleted. What is written of a slot locks its row where term and link are as the writer
--- knows them: the term is the owner's, the link the last connection of the owner's.
+-- The fence. Its rows are never deleted. What is written of a slot locks its row where term, link and epoch are as the writer
+-- knows them: the term is the owner's, the link the last connection of the owner's. The epoch is drawn at each taking: a store
+-- that was put back from a dump has each term again, and no epoch. `begun` says that the slot has had files.
 create table totxegun_store.slot (
-    slot int primary key, term bigint not null, link bigint not null, owner text not null);
+    slot int primary key, term bigint not null, link bigint not null, owner text not null, epoch text not null default '',
+    begun boolean not null default false);
 -- Up to which request of a slot its owner has brought to a sink in this database, in the transaction of that request.
 create table totxegun_store.delivered (
     slot int primary key, term bigint not null, number bigint not null);

@@ -36,13 +36,14 @@ const PLANS: &str =
     "set jit = off; set enable_seqscan = off; set enable_hashjoin = off; set enable_mergejoin = off;
     set plan_cache_mode = 'force_generic_plan'";
 
-/// The fence of each write, by slots, terms and links: those that are as these say, but for those that are locked, as by a write that
-/// waits for its standby. Another has the slots that are not there, or another link is their owner's.
+/// The fence of each write, by slots, terms, links and epochs: those that are as these say, but for those that are locked, as by a
+/// write that waits for its standby. Another has the slots that are not there, or another link is their owner's.
 macro_rules! mine {
     () => {
         "with mine as (
-        select slot.slot from totxegun_store.slot, unnest($1::int[], $2::bigint[], $3::bigint[]) as owned (slot, term, link)
-        where slot.slot = owned.slot and slot.term = owned.term and slot.link = owned.link
+        select slot.slot from totxegun_store.slot,
+            unnest($1::int[], $2::bigint[], $3::bigint[], $4::text[]) as owned (slot, term, link, epoch)
+        where slot.slot = owned.slot and slot.term = owned.term and slot.link = owned.link and slot.epoch = owned.epoch
         order by slot.slot for update of slot skip locked
     )"
     };
@@ -52,7 +53,7 @@ macro_rules! pieces {
     () => {
         "insert into totxegun_store.piece (slot, file, number, place, length, bytes)
         select mine.slot, new.file, new.number, new.place, new.length, new.bytes
-        from mine join unnest($4::int[], $5::bigint[], $6::bigint[], $7::bigint[], $8::int[], $9::bytea[])
+        from mine join unnest($5::int[], $6::bigint[], $7::bigint[], $8::bigint[], $9::int[], $10::bytea[])
             as new (slot, file, number, place, length, bytes) on new.slot = mine.slot
         "
     };
@@ -68,7 +69,7 @@ const PUT: &str = concat!(
     mine!(),
     ", old as (
         select slot, min(file) as least, array_agg(file) as files
-        from unnest($10::int[], $11::bigint[]) as old (slot, file) group by slot
+        from unnest($11::int[], $12::bigint[]) as old (slot, file) group by slot
     ), gone as (
         delete from totxegun_store.piece using mine, old where old.slot = mine.slot
         and piece.slot = mine.slot and piece.file = any(old.files) and piece.number > old.least
@@ -78,8 +79,11 @@ const PUT: &str = concat!(
     ), named as (
         insert into totxegun_store.file (slot, file, name)
         select mine.slot, new.file, new.name
-        from mine join unnest($12::int[], $13::bigint[], $14::text[]) as new (slot, file, name) on new.slot = mine.slot
+        from mine join unnest($13::int[], $14::bigint[], $15::text[]) as new (slot, file, name) on new.slot = mine.slot
         on conflict (slot, file) do update set name = excluded.name
+    ), begun as (
+        update totxegun_store.slot set begun = true from mine
+        where slot.slot = mine.slot and slot.slot = any($13::int[]) and not slot.begun
     ), put as (",
     pieces!(),
     "on conflict do nothing) select slot from mine"
@@ -88,11 +92,14 @@ const PUT: &str = concat!(
 /// What a statement has at most, and a piece.
 const MOST: usize = 16 << 20;
 
-/// None where another has the slot, or its row is locked.
+/// None where another has the slot, or its row is locked. Who has just taken it learns its epoch.
 const RAISE: &str = "with mine as (
-        select slot from totxegun_store.slot where slot = $1 and term = $2 for update skip locked
-    ) update totxegun_store.slot set link = link + 1 from mine where slot.slot = mine.slot returning slot.link";
-const IS_OURS: &str = "select count(*) from totxegun_store.slot where slot = $1 and term = $2";
+        select slot from totxegun_store.slot where slot = $1 and term = $2 and epoch = coalesce($3::text, epoch)
+        for update skip locked
+    ) update totxegun_store.slot set link = link + 1 from mine where slot.slot = mine.slot
+    returning slot.link, slot.epoch, slot.begun";
+const IS_OURS: &str =
+    "select count(*) from totxegun_store.slot where slot = $1 and term = $2 and epoch = coalesce($3::text, epoch)";
 
 /// Which of these pieces are there.
 const ARE_THERE: &str =
@@ -101,6 +108,22 @@ const ARE_THERE: &str =
 
 const PIECES: &str = "select number, length, bytes from totxegun_store.piece
     where slot = $1 and file = $2 and number = any($3::bigint[])";
+
+/// Whose a slot is.
+pub(super) struct Owned<'a> {
+    pub slot: i32,
+    pub term: i64,
+    /// None of who has just taken it, and does not know it yet.
+    pub epoch: Option<&'a str>,
+}
+
+/// What a slot's row says to its owner.
+pub(super) struct SlotRow {
+    pub link: i64,
+    pub epoch: String,
+    /// It has had files.
+    pub begun: bool,
+}
 
 pub(super) struct Session {
     pub client: Client,
@@ -164,12 +187,12 @@ impl Session {
         }
     }
 
-    /// Raises a slot's link: what it is then, and all that is read from here on is behind a committed write under the term. None
+    /// Raises a slot's link: its row then, and all that is read from here on is behind a committed write under the term. None
     /// where another has the slot.
-    pub async fn raise_link(&self, slot: i32, term: i64) -> Result<Option<i64>, Doubt> {
-        let key: [&(dyn ToSql + Sync); 2] = [&slot, &term];
+    pub async fn raise_link(&self, of: &Owned<'_>) -> Result<Option<SlotRow>, Doubt> {
+        let key: [&(dyn ToSql + Sync); 3] = [&of.slot, &of.term, &of.epoch];
         if let Some(row) = self.written(self.client.query_opt(RAISE, &key)).await? {
-            return Ok(Some(row.get(0)));
+            return Ok(Some(SlotRow { link: row.get(0), epoch: row.get(1), begun: row.get(2) }));
         }
         let found = within(SILENT, self.client.query_one(IS_OURS, &key)).await?;
         match found.get::<_, i64>(0) {
@@ -236,6 +259,7 @@ impl Session {
         let slots: Vec<i32> = writes.iter().map(|write| write.owner.slot).collect();
         let terms: Vec<i64> = writes.iter().map(|write| write.owner.term).collect();
         let links: Vec<i64> = writes.iter().map(|write| write.owner.fence().link).collect();
+        let epochs: Vec<&str> = writes.iter().map(|write| &*write.owner.epoch).collect();
         let column =
             |of: fn(&PackedPiece) -> i64| -> Vec<i64> { pieces.iter().map(|(_, piece)| of(piece)).collect() };
         let of_slots: Vec<i32> = pieces.iter().map(|(slot, _)| *slot).collect();
@@ -244,7 +268,7 @@ impl Session {
         let lengths: Vec<i32> = pieces.iter().map(|(_, piece)| piece.length).collect();
         let bytes: Vec<&[u8]> = pieces.iter().map(|(_, piece)| &piece.bytes[..]).collect();
         let mut values: Vec<&(dyn ToSql + Sync)> =
-            vec![&slots, &terms, &links, &of_slots, &files, &numbers, &places, &lengths, &bytes];
+            vec![&slots, &terms, &links, &epochs, &of_slots, &files, &numbers, &places, &lengths, &bytes];
         let is_append = writes.iter().all(|write| !write.is_repeat && write.packed.only_appends());
         let named = || writes.iter().filter(|_| is_first);
         let gone = named().flat_map(|write| write.packed.gone.iter().map(|file| (write.owner.slot, *file)));

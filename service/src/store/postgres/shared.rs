@@ -1,7 +1,7 @@
 //! A connection to a database that all slots share.
 
 use super::doubt::{Backoff, Doubt};
-use super::session::Session;
+use super::session::{Owned, Session, SlotRow};
 use crate::log::RateLimit;
 use crate::postgres::Server;
 use std::sync::Arc;
@@ -64,20 +64,20 @@ impl Shared {
     /// slot. `raised` gets the slot's link.
     pub async fn confirmed_pieces(
         &self,
-        (slot, term): (i32, i64),
+        of: &Owned<'_>,
         file: u64,
         numbers: &[u64],
         raised: impl Fn(i64),
     ) -> Option<Vec<Stored>> {
         let mut backoff = Backoff::default();
         loop {
-            let confirmed = self.behind_a_write(slot, term, async |session, link| {
-                raised(link);
-                session.pieces(slot, file, numbers).await
+            let confirmed = self.behind_a_write(of, async |session, row| {
+                raised(row.link);
+                session.pieces(of.slot, file, numbers).await
             });
             match confirmed.await {
                 Ok(found) => return found,
-                Err(doubt) => tell(slot, &doubt),
+                Err(doubt) => tell(of.slot, &doubt),
             }
             backoff.wait().await;
         }
@@ -86,14 +86,13 @@ impl Shared {
     /// What is read behind a committed write under the term, which has raised the slot's link. None where another has the slot.
     pub async fn behind_a_write<T>(
         &self,
-        slot: i32,
-        term: i64,
-        read: impl AsyncFnOnce(&Session, i64) -> Result<T, Doubt>,
+        of: &Owned<'_>,
+        read: impl AsyncFnOnce(&Session, SlotRow) -> Result<T, Doubt>,
     ) -> Result<Option<T>, Doubt> {
         let session = self.session().await?;
         let reading = async {
-            match session.raise_link(slot, term).await? {
-                Some(link) => read(&session, link).await.map(Some),
+            match session.raise_link(of).await? {
+                Some(row) => read(&session, row).await.map(Some),
                 None => Ok(None),
             }
         };

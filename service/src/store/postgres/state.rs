@@ -2,6 +2,7 @@
 
 use super::doubt::{Backoff, Doubt};
 use super::fault::StoreFault;
+use super::schema::draw_epoch;
 use super::session::{connect, within, SILENT};
 use super::shared::Shared;
 use super::terms::RELEASE;
@@ -37,9 +38,11 @@ const STANDING: &str = "update totxegun_store.cluster set id = id returning stat
 const CHANGE: &str = "update totxegun_store.cluster set state = $1, move = $2, folder = $3
     where state = $4 and move = $5";
 /// Whoever had a slot writes no more.
-const FENCE: &str = "update totxegun_store.slot set term = term + 1, link = 0, owner = $1";
+const FENCE: &str = "update totxegun_store.slot set term = term + 1, link = 0, owner = $1, epoch = ''";
 const FILES: &str = "select count(*) from totxegun_store.file";
-const TAKE: &str = "update totxegun_store.slot set term = term + 1, link = 0, owner = $3
+/// What an earlier try has brought there is deleted.
+const TAKE: &str =
+    "update totxegun_store.slot set term = term + 1, link = 0, owner = $3, epoch = $5, begun = false
     where slot = $1 and term = $2
     and exists (select from totxegun_store.cluster where move = $4 and state = 'filling')";
 /// Who takes a slot to move it.
@@ -118,7 +121,7 @@ impl Shared {
 
 impl PostgresStore {
     /// Tries until there is an answer, but not for ever.
-    fn tried<T>(&self, step: impl AsyncFn() -> Result<T, Doubt>) -> Result<T, StoreFault> {
+    pub(super) fn tried<T>(&self, step: impl AsyncFn() -> Result<T, Doubt>) -> Result<T, StoreFault> {
         self.threads.wait(async {
             let mut backoff = Backoff::default();
             let mut last = Doubt::NotConnected(String::new());
@@ -186,7 +189,10 @@ impl PostgresStore {
         let taken = self.tried(async || {
             let rows = self.taker.clone().slots().await?;
             let seen = rows.iter().find(|row| row.slot == slot).map_or(0, |row| row.term);
-            let taken = self.taker.write(TAKE, &[&i32::from(slot), &(seen as i64), &MOVER, &id]).await?;
+            let taken = self
+                .taker
+                .write(TAKE, &[&i32::from(slot), &(seen as i64), &MOVER, &id, &draw_epoch()?])
+                .await?;
             Ok((taken == 1).then_some(seen + 1))
         });
         taken?.ok_or(StoreFault::Meanwhile)

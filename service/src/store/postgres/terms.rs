@@ -1,6 +1,7 @@
 //! The rows of instances and slots: who beats, and who has which slot under which term.
 
 use super::doubt::Doubt;
+use super::schema::draw_epoch;
 use super::session::within;
 use super::shared::Shared;
 use super::{copies, PostgresStore};
@@ -21,7 +22,7 @@ const INSTANCES: &str = "select name, address, version, beat, refused, operate f
 const SLOTS: &str = "select slot, term, owner from totxegun_store.slot order by slot";
 /// Not while a folder is moved into the store.
 const TAKE: &str =
-    "update totxegun_store.slot set term = term + 1, link = 0, owner = $3 where slot = $1 and term = $2
+    "update totxegun_store.slot set term = term + 1, link = 0, owner = $3, epoch = $4 where slot = $1 and term = $2
     and exists (select from totxegun_store.cluster where state = 'counts')";
 pub(super) const RELEASE: &str = "update totxegun_store.slot set owner = '' where slot = $1 and term = $2";
 const LEAVE: &str = "delete from totxegun_store.instance where name = $1";
@@ -104,11 +105,14 @@ impl PostgresStore {
         self.threads.run(self.beater.clone().slots()).await
     }
 
-    /// Writes the term behind the one that was seen: the new one, or none where another was first. After a doubt nothing was
-    /// taken: the next try sees which term there is, and what comes late finds another.
+    /// Writes the term behind the one that was seen, and a new epoch: the new term, or none where another was first. After a
+    /// doubt nothing was taken: the next try sees which term there is, and what comes late finds another.
     pub async fn take(&self, slot: u16, seen: u64, owner: &str) -> Result<Option<u64>, Doubt> {
         let (taker, owner) = (self.taker.clone(), owner.to_string());
-        let take = async move { taker.write(TAKE, &[&i32::from(slot), &(seen as i64), &owner]).await };
+        let take = async move {
+            let epoch = draw_epoch()?;
+            taker.write(TAKE, &[&i32::from(slot), &(seen as i64), &owner, &epoch]).await
+        };
         Ok((self.threads.run(take).await? == 1).then_some(seen + 1))
     }
 

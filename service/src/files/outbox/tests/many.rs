@@ -69,7 +69,7 @@ fn many_series_come_back_with_their_keys() {
 /// All programs of a format write and read the same.
 #[test]
 fn a_snapshot_has_one_form() {
-    let text = r#"{"epoch":"e","next":4,"acknowledged":3,"journal":7,"quarantined":["q"],"series":[["a",5,6,null],["[\"b\"]",9,8,"me"]],"since":{"made":1,"forgotten":2},"runs":[[1,3,4,[5,6],2,[1,2]]],"beside":[["m","ms"]],"forgotten":[[1,2,3,4,5],[1,2,3,5,4]],"recent":[[1,281474976710655,7]]}"#;
+    let text = r#"{"epoch":"e","next":4,"acknowledged":3,"journal":7,"quarantined":["q"],"series":[["a",5,6,null],["[\"b\"]",9,8,"me"]],"since":{"made":1,"forgotten":2},"runs":[[1,3,4,[5,6],2,[1,2]]],"beside":[["m","ms"]],"forgotten":[[1,2,3,4,5],[1,2,3,5,4]],"recent":[[1,281474976710655,7]],"epochs":[["r",0],["e",1]]}"#;
     let mut state = snapshot::Snapshot::read(&rows::deflated(text.as_bytes())).unwrap();
     let b = &state.series.get(&key_of("[\"b\"]").digest()).unwrap().series;
     assert_eq!((b.frontier, b.seen, b.owner.as_deref()), (9, 8, Some("me")));

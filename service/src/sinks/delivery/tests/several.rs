@@ -15,7 +15,7 @@ struct Several {
 }
 
 impl Sink for Several {
-    fn deliver_of<'a>(&'a self, request: &'a Forwarded, _term: Option<u64>) -> Answer<'a, Fate> {
+    fn deliver_of<'a>(&'a self, request: &'a Forwarded, _tenure: Option<&'a Tenure>) -> Answer<'a, Fate> {
         self.came.lock().expect("came").push(1);
         let is_refused = self.refused.contains(&request.number);
         let fate = match std::mem::take(&mut *self.is_away.lock().expect("away")) {
@@ -33,7 +33,7 @@ impl Sink for Several {
         8
     }
 
-    fn deliver_together<'a>(&'a self, all: &'a [Forwarded], _term: Option<u64>) -> Answer<'a, bool> {
+    fn deliver_together<'a>(&'a self, all: &'a [Forwarded], _tenure: Option<&'a Tenure>) -> Answer<'a, bool> {
         self.came.lock().expect("came").push(all.len());
         let is_away = *self.is_away.lock().expect("away");
         let is_taken = !is_away && !all.iter().any(|one| self.refused.contains(&one.number));

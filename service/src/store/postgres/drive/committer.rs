@@ -252,10 +252,10 @@ impl<T> Lane<T> {
     /// False where another has the slot, or the store has lost what it had of it.
     async fn try_again(&self, session: &Session, write: &Write) -> Result<bool, Doubt> {
         let owner = &write.owner;
-        let Some(link) = session.raise_link(owner.slot, owner.term).await? else {
+        let Some(row) = session.raise_link(&owner.owned()).await? else {
             return Ok(false);
         };
-        owner.is_linked(link);
+        owner.is_linked(row.link);
         if session.whole(&[write]).await?.is_empty() {
             self.connection.all.tell_vanished(owner.slot);
             return Ok(false);

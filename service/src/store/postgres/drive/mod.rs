@@ -21,7 +21,7 @@ mod tests;
 
 pub(super) use committer::{GroupCommitter, Write};
 pub(super) use here::on_this_thread;
-pub(super) use open::open;
+pub(super) use open::{open, Found};
 pub(super) use owned_slot::OwnedSlot;
 pub(super) use packed::PackedPiece;
 
@@ -41,6 +41,7 @@ use std::time::Duration;
 pub struct PostgresDrive {
     owner: Arc<OwnedSlot>,
     delivered: u64,
+    begun: bool,
     committer: Arc<GroupCommitter>,
     reader: Arc<Shared>,
     /// They go on while there is a drive, whoever has ended the store.
@@ -50,13 +51,13 @@ pub struct PostgresDrive {
 impl PostgresDrive {
     /// Of a slot that was opened just now.
     pub(super) fn new(
-        (owner, delivered): (Arc<OwnedSlot>, u64),
+        Found { owner, delivered, begun }: Found,
         committer: &Arc<GroupCommitter>,
         reader: &Arc<Shared>,
         threads: &Arc<Threads>,
     ) -> PostgresDrive {
         let (committer, reader, threads) = (committer.clone(), reader.clone(), threads.clone());
-        PostgresDrive { owner, delivered, committer, reader, threads }
+        PostgresDrive { owner, delivered, begun, committer, reader, threads }
     }
 
     pub fn slot(&self) -> u16 {
@@ -74,8 +75,9 @@ impl PostgresDrive {
     }
 
     /// Opens the files. Nothing of the slot is written any more if they can't be opened.
-    pub fn open_files(self: &Arc<Self>, epoch: &str) -> Result<(Journal, Outbox, Dead), Fault> {
-        let opened = open_files(self.clone() as Arc<dyn Drive>, epoch);
+    /// `root` is the store's epoch.
+    pub fn open_files(self: &Arc<Self>, root: &str) -> Result<(Journal, Outbox, Dead), Fault> {
+        let opened = open_files(self.clone() as Arc<dyn Drive>, root);
         opened.inspect_err(|_| self.lose())
     }
 
@@ -94,8 +96,8 @@ impl PostgresDrive {
             if rows.len() == wanted.len() {
                 return Ok(rows);
             }
-            let (key, raised) = ((owner.slot, owner.term), |link| owner.is_linked(link));
-            self.reader.confirmed_pieces(key, file, &wanted, raised).await.ok_or(Lost)
+            let (owned, raised) = (owner.owned(), |link| owner.is_linked(link));
+            self.reader.confirmed_pieces(&owned, file, &wanted, raised).await.ok_or(Lost)
         };
         let rows = self.threads.wait(async {
             tokio::select! {
@@ -194,7 +196,15 @@ impl Drive for PostgresDrive {
         Some(self.term())
     }
 
+    fn epoch(&self) -> Option<Arc<str>> {
+        Some(self.owner.epoch.clone())
+    }
+
     fn delivered(&self) -> u64 {
         self.delivered
+    }
+
+    fn had_files(&self) -> bool {
+        self.begun
     }
 }

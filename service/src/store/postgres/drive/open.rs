@@ -5,7 +5,7 @@ use super::owned_slot::OwnedSlot;
 use crate::files::drive::Lost;
 use crate::store::postgres::counts::Counts;
 use crate::store::postgres::doubt::{Backoff, Doubt};
-use crate::store::postgres::session::{within, Session, SILENT};
+use crate::store::postgres::session::{within, Owned, Session, SILENT};
 use crate::store::postgres::shared::{tell, Shared};
 use std::sync::atomic::Ordering::Relaxed;
 use std::sync::Arc;
@@ -17,19 +17,24 @@ const NAMES: &str = "select file, name from totxegun_store.file where slot = $1"
 const PIECES: &str =
     "select number, file, place, length from totxegun_store.piece where slot = $1 order by number";
 
-/// The slot, behind a committed write under its term; and up to which request the sink had all, by what is noted beside. It asks
-/// until it knows.
-pub async fn open(
-    reader: &Shared,
-    slot: i32,
-    term: i64,
-    counts: &Counts,
-) -> Result<(Arc<OwnedSlot>, u64), Lost> {
+/// What there is of a slot.
+pub struct Found {
+    pub owner: Arc<OwnedSlot>,
+    /// Up to which request the sink had all, by what is noted beside.
+    pub delivered: u64,
+    /// It has had files.
+    pub begun: bool,
+}
+
+/// The slot, behind a committed write under its term. It asks until it knows.
+pub async fn open(reader: &Shared, slot: i32, term: i64, counts: &Counts) -> Result<Found, Lost> {
     let mut backoff = Backoff::default();
+    let of = Owned { slot, term, epoch: None };
     loop {
-        let found = reader.behind_a_write(slot, term, async |session, link| {
+        let found = reader.behind_a_write(&of, async |session, row| {
             let (files, delivered) = read(session, slot, term).await?;
-            Ok((OwnedSlot::new(slot, term, link, files), delivered))
+            let owner = OwnedSlot::new(slot, term, row.epoch, row.link, files);
+            Ok(Found { owner, delivered, begun: row.begun })
         });
         match found.await {
             Ok(Some(opened)) => return Ok(opened),

@@ -5,6 +5,7 @@ use super::committer::Write;
 use super::files::{Batch, Files};
 use super::rounds::SyncRounds;
 use crate::latch::Latch;
+use crate::store::postgres::session::Owned;
 use crate::work::locked;
 use std::sync::{Arc, Mutex, MutexGuard};
 use tokio::sync::watch;
@@ -12,6 +13,8 @@ use tokio::sync::watch;
 pub struct OwnedSlot {
     pub slot: i32,
     pub term: i64,
+    /// Drawn when it was taken.
+    pub epoch: Arc<str>,
     pub files: Mutex<Files>,
     pub cache: Mutex<Cache>,
     pub rounds: SyncRounds,
@@ -31,16 +34,22 @@ pub struct Fence {
 }
 
 impl OwnedSlot {
-    pub fn new(slot: i32, term: i64, link: i64, files: Files) -> Arc<OwnedSlot> {
+    pub fn new(slot: i32, term: i64, epoch: String, link: i64, files: Files) -> Arc<OwnedSlot> {
         Arc::new(OwnedSlot {
             slot,
             term,
+            epoch: epoch.into(),
             files: Mutex::new(files),
             cache: Mutex::default(),
             rounds: SyncRounds::default(),
             fence: Mutex::new(Fence { link, ..Fence::default() }),
             is_lost: watch::channel(false).0,
         })
+    }
+
+    /// As its row has it.
+    pub fn owned(&self) -> Owned<'_> {
+        Owned { slot: self.slot, term: self.term, epoch: Some(&self.epoch) }
     }
 
     /// Nothing is written any more, and callers that wait are told so.

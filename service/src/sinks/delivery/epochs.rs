@@ -1,0 +1,38 @@
+//! A sink is told from which epochs a slot's requests go on, before these come.
+
+use super::{End, Run, Store};
+use crate::sinks::{Beyond, Fate};
+use std::sync::atomic::Ordering::Relaxed;
+
+impl<S: Store> Run<S> {
+    /// Has the sink know from which epochs requests go on, and says what it has that the store has not. The error is what is to be
+    /// done of a request until it knows.
+    pub(super) async fn tell_epochs(&self) -> Result<Result<(), Fate>, End> {
+        if self.files.tenure().is_none() || self.is_told.load(Relaxed) {
+            return Ok(Ok(()));
+        }
+        let epochs = self.files.epochs();
+        let told = self.unless_stopped(self.sink.goes_on(self.slot, &epochs)).await?;
+        Ok(told.map(|beyond| {
+            self.is_told.store(true, Relaxed);
+            self.tell_beyond(&beyond);
+        }))
+    }
+
+    fn tell_beyond(&self, beyond: &Beyond) {
+        let (slot, sink, Beyond { requests, since, until }) = (self.slot, self.sink.name(), beyond);
+        self.metrics.sink_ahead.with_label_values(&[&slot.to_string()]).set(*requests as i64);
+        if *requests > 0 {
+            tracing::error!(
+                slot,
+                sink,
+                requests,
+                since,
+                until,
+                "slot {slot}: the store has gone back: {sink} has {requests} requests of it, taken from {since} to {until}, that the \
+                 store does not have. What was answered in that time, or later, and is not in the sink is lost; what comes, and \
+                 begins before its series ends in the sink, goes to dead/"
+            );
+        }
+    }
+}

@@ -1,0 +1,160 @@
+//! A store that goes back: its tables are as they were, and the sink, in another database, is not.
+
+use super::server::Server;
+use super::work::{taken, wait};
+use super::{make, open};
+use std::sync::Arc;
+use totxegun::files::drive::{self, Drive};
+use totxegun::files::{Dead, Journal, Outbox, Recents, Runs};
+use totxegun::sinks::{self, Beyond, Fate, Forwarded, Retention, Sink};
+use totxegun::store::postgres::{Copies, PostgresStore};
+
+const TABLES: [&str; 6] = ["cluster", "instance", "slot", "delivered", "file", "piece"];
+const TOTALS: &str =
+    "select coalesce(string_agg(name || '=' || total, ' ' order by name), '') from totxegun.totals";
+const EPOCHS: &str = "select count(distinct epoch) || ' ' || count(distinct id) from totxegun.life";
+
+/// The tables as they are, beside the others.
+fn dump(server: &Server) {
+    server.ask("create schema dump");
+    for table in TABLES {
+        server.ask(&format!("create table dump.{table} as select * from totxegun_store.{table}"));
+    }
+}
+
+fn put_back(server: &Server) {
+    for table in TABLES {
+        server.ask(&format!(
+            "delete from totxegun_store.{table}; insert into totxegun_store.{table} select * from dump.{table}"
+        ));
+    }
+}
+
+/// A slot's owner.
+struct Owner {
+    journal: Journal,
+    outbox: Outbox,
+    _dead: Dead,
+}
+
+impl Owner {
+    fn take(store: &PostgresStore) -> Owner {
+        let (journal, outbox, _dead) =
+            drive::open(taken(store, 0) as Arc<dyn Drive>, &store.cluster.epoch).unwrap();
+        Owner { journal, outbox, _dead }
+    }
+
+    /// A request of a point of this series.
+    fn make(&self, name: &str, start: u64) {
+        let body = format!(
+            r#"{{"resourceMetrics":[{{"resource":{{"attributes":[]}},"scopeMetrics":[{{"metrics":[{{"name":"{name}","sum":{{"aggregationTemporality":1,"dataPoints":[{{"asInt":"5","attributes":[],"startTimeUnixNano":"{start}","timeUnixNano":"{}"}}],"isMonotonic":false}},"unit":""}}],"scope":{{"attributes":[],"name":"","version":""}}}}]}}]}}"#,
+            start + 10
+        );
+        let next = self.journal.turn().0;
+        self.outbox.commit_with(&[body.into_bytes()], next, Runs::new(), &Recents::default()).unwrap();
+        self.outbox.settle().unwrap();
+    }
+
+    /// What the sink has beyond.
+    fn begin(&self, sink: &Arc<dyn Sink>) -> Beyond {
+        wait(sink.goes_on(0, &self.outbox.epochs())).unwrap()
+    }
+
+    fn first(&self) -> Forwarded {
+        let (waiting, body) = wait(self.outbox.first()).unwrap();
+        Forwarded { slot: 0, epoch: self.outbox.epoch(), number: waiting.number, body }
+    }
+
+    /// What becomes of the first that waits.
+    fn send(&self, sink: &Arc<dyn Sink>) -> Fate {
+        let request = self.first();
+        let tenure = self.outbox.tenure();
+        let fate = wait(sink.deliver_of(&request, tenure.as_ref()));
+        self.outbox.acknowledge(request.number).unwrap();
+        self.outbox.settle().unwrap();
+        fate
+    }
+}
+
+fn started() -> Option<(Server, PostgresStore, Arc<dyn Sink>)> {
+    let server = Server::start("")?;
+    server.ask("create database sink");
+    make(&server.address());
+    let store = open(&server.address(), Copies::One);
+    let sink = sinks::open(&server.address_of("sink").parse().unwrap(), Retention::default(), Arc::new(()));
+    Some((server, store, sink.unwrap()))
+}
+
+#[test]
+fn what_is_made_after_a_store_was_put_back_has_keys_that_no_sink_has() {
+    let Some((server, store, sink)) = started() else { return };
+    let totals = || server.ask_in("sink", TOTALS);
+    let first = Owner::take(&store);
+    assert_eq!(first.begin(&sink), Beyond::default());
+    for start in [10, 20] {
+        first.make("a", start);
+    }
+    assert_eq!(first.send(&sink), Fate::Taken);
+    dump(&server); // it has a request that waits
+    first.make("a", 30);
+    first.make("b", 10);
+    for _ in 0..3 {
+        assert_eq!(first.send(&sink), Fate::Taken);
+    }
+    assert_eq!(totals(), "a=15 b=5");
+    put_back(&server);
+    let next = Owner::take(&store);
+    let Beyond { requests, since, until } = next.begin(&sink);
+    assert_eq!(requests, 2, "those that it does not know");
+    assert!(since.starts_with("20") && until >= since, "{since} {until}");
+    next.make("c", 10);
+    next.make("a", 30);
+    assert_eq!(next.send(&sink), Fate::Taken, "the one that waited is a repeat");
+    assert_eq!(next.send(&sink), Fate::Taken);
+    let again = next.send(&sink);
+    let Fate::Refused { reason } = again else { panic!("{again:?}") };
+    assert!(reason.contains("its series has points until 40"), "{reason}");
+    assert_eq!(totals(), "a=15 b=5 c=5", "nothing is lost, and nothing there twice");
+    // The next one goes on, and another life has begun once.
+    let last = Owner::take(&store);
+    assert_eq!(last.begin(&sink), Beyond::default());
+    last.make("c", 20);
+    assert_eq!(last.send(&sink), Fate::Taken);
+    assert_eq!(totals(), "a=15 b=5 c=10");
+    assert_eq!(server.ask_in("sink", EPOCHS), "4 2");
+}
+
+/// A letter of an owner before is added where it belongs, as one of a folder that only started again.
+#[test]
+fn a_letter_of_an_owner_before_is_of_the_same_life() {
+    let Some((server, store, sink)) = started() else { return };
+    let first = Owner::take(&store);
+    first.begin(&sink);
+    first.make("a", 10);
+    assert_eq!(first.send(&sink), Fate::Taken);
+    first.make("a", 20);
+    let letter = first.first();
+    first.outbox.acknowledge(letter.number).unwrap(); // it lies in `dead/`
+    first.outbox.settle().unwrap();
+    let next = Owner::take(&store);
+    assert_eq!(next.begin(&sink), Beyond::default());
+    next.make("a", 30);
+    assert_eq!(next.send(&sink), Fate::Taken);
+    assert_eq!(wait(sink.deliver(&letter)), Fate::Taken);
+    assert_eq!(server.ask_in("sink", TOTALS), "a=15");
+}
+
+/// The store has the term and the link again that an owner of before has, and another epoch.
+#[test]
+fn who_had_the_slot_before_the_store_was_put_back_writes_nothing_more() {
+    let Some((server, store, _sink)) = started() else { return };
+    drop(taken(&store, 0));
+    dump(&server);
+    let before = taken(&store, 0);
+    put_back(&server);
+    let now = taken(&store, 0);
+    assert_eq!(before.term(), now.term());
+    server.ask("update totxegun_store.slot set link = 1");
+    before.create("journal/x".as_ref()).unwrap();
+    assert!(drive::is_lost(&before.sync().unwrap_err()));
+}
