@@ -1,5 +1,5 @@
 #!/usr/bin/env python3
-"""A period that is closed, corrected and opened again, interrupted at each call on the files of the SQLite sink.
+"""A period that is closed, adjusted and opened again, interrupted at each call on the files of the SQLite sink.
 
     tests/close_interrupted.py TOTXEGUN [EVERY [WAY ..]]
 
@@ -8,8 +8,8 @@ each of them, or each EVERY-th, a run is made that is interrupted there, in each
 before, middle, behind: the process is killed there, of what is written half is there, or all; ENOSPC, EIO: the call fails.
 Then the service is started without the library, and the run goes on: each order is given again until it is done.
 
-A run closes an hour that the sink has something of, posts more of it, corrects it and opens it again. Behind each of these the sink
-has the hour as it was closed, what came late once, and one correction; at the end nothing is closed.
+A run closes an hour that the sink has something of, posts more of it, adjusts it and opens it again. Behind each of these the sink
+has the hour as it was closed, what came late once, and one adjustment; at the end nothing is closed.
 
 A line for each run that failed; the last line counts those that passed and failed, and the status is 0 where none failed.
 """
@@ -17,6 +17,7 @@ from __future__ import annotations
 
 import concurrent.futures
 import contextlib
+import json
 import os
 import shutil
 import sqlite3
@@ -59,8 +60,9 @@ class Interrupted(Service):
                 raise Failed(f"the last answer is {answer}; {self.last_lines(5)}")
             time.sleep(0.02)
 
-    def order_done(self, path: str) -> None:
-        self.until(lambda: self.asked("POST", path, 10), lambda status, _: status == 200)
+    def order_done(self, path: str, **asked: object) -> None:
+        body = json.dumps(asked).encode() if asked else b""
+        self.until(lambda: self.asked("POST", path, 10, body), lambda status, _: status == 200)
 
 
 class Runs:
@@ -118,7 +120,7 @@ class Runs:
         service.order_done("/flush")
         service.until(lambda: (service.is_drained(), None), lambda is_drained, _: is_drained)
         self.look(folder, 1, (7,), 0)
-        service.order_done(f"/correct/1/{NAME}/-2?reason=twice")
+        service.order_done("/v1/adjustments", series="1", hour=NAME, value=-2, reason="twice")
         self.look(folder, 1, (7,), -2)
         service.order_done(f"/open/{NAME}")
         self.look(folder, 0, (7,), -2)

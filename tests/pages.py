@@ -163,8 +163,8 @@ def grouped(number: int) -> str:
 def look_at_answers(checks: Checks, answer: Any, other: Any) -> None:
     checks.same("what is not taken is counted by cause", ("5", 'points outside the profile: 3 gauges, 2 cumulative sums: see '
                 'docs/OPERATING.md, "Senders"'), (answer["rejectedDataPoints"], answer["errorMessage"]))
-    checks.same("another's series is named", "other writer: point 0: `http.requests` {route=/cart} is another sender's: give each "
-                "process its own service.instance.id", other)
+    checks.same("another's series is named", "other writer: point 0: `http.requests` {route=/cart} is another sender's, so ",
+                other.split("20", maxsplit=1)[0])
 
 
 def look_at_overview(checks: Checks, page: Page, how: str) -> None:

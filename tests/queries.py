@@ -494,13 +494,13 @@ class Bill:
             self.service.end()
 
     def steps(self, all_blocks: Any) -> None:
-        (_, bill), (_, find), (_, correct), (_, close), (_, again), (_, late) = all_blocks
+        (_, bill), (_, find), (_, adjust), (_, close), (_, again), (_, late) = all_blocks
         bill = self.of_today(bill)
         self.same("what each owes", [["s1", 1000, 0, 1000], ["s2", 700, 0, 700], ["s3", 77, 0, 77]], bill, wait=True)
         self.same("the series of an hour", [[2, 500]], self.of_today(find))
         for _ in range(2):
-            all_said = [self.totxegun(line)[0] for line in correct]
-        self.checks.true(f"{self.what}: the same correction again", "is there already" in all_said[0], all_said)
+            all_said = [self.totxegun(line)[0] for line in adjust]
+        self.checks.true(f"{self.what}: the same adjustment again", "is there already" in all_said[0], all_said)
         self.post("s1", 2, 0, 5)
         refused = subprocess.run([self.program, "close", self.months[0], "--data", f"{self.folder}/bill"],
                                  capture_output=True, text=True, check=False)
@@ -538,7 +538,7 @@ class Bill:
         with open(f"{self.folder}/bill/acts.jsonl", encoding="utf-8") as file:
             acts = [json.loads(line) for line in file]
         done = [act["act"] for act in acts if act.get("outcome", "").startswith("done: ")]
-        self.checks.same(f"{self.what}: acts", ["correct", "correct", "close", "correct"], done)
+        self.checks.same(f"{self.what}: acts", ["adjust", "adjust", "close", "adjust"], done)
         whos = {act["who"] for act in acts}
         self.checks.true(f"{self.what}: who did them", len(whos) == 1 and "" not in whos, whos)
 

@@ -3,7 +3,7 @@
 //! Senders post to `intake`, or call `grpc`, which read their request by `otlp` and give it to the `slot`: the book (`core`)
 //! with its journal and outbox (`files`). A `keeper` fills the book at the start, and flushes it. What was flushed
 //! is delivered to one of the `sinks`. `shares` is what each sender may have, `post_reports` tells senders
-//! and operators of posts that were not taken.
+//! and operators of posts that were not taken, `late` keeps points that their series refused.
 //! `operate` is the operator's address, `command` the command line, `service` all of it as one process, `log` what it says;
 //! `latch` tells a part of it to stop, `work` is done beside the runtime, `postgres` connects.
 //! A `store` has the files of slots that several machines share.
@@ -26,6 +26,7 @@ pub mod identity;
 pub mod intake;
 pub mod keeper;
 pub mod latch;
+pub mod late;
 mod log;
 pub mod metrics;
 pub mod operate;

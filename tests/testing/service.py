@@ -114,11 +114,11 @@ class Service:
     def is_running(self) -> bool:
         return self.process is not None and self.process.poll() is None
 
-    def asked(self, method: str, path: str, seconds: float = 20) -> Answer:
+    def asked(self, method: str, path: str, seconds: float = 20, body: bytes = b"") -> Answer:
         """What the operators' addresses answer, of which the socket takes orders."""
-        is_order = method == "POST" or path.startswith(("/dead", "/report"))
+        is_order = method == "POST" or path.startswith(("/dead", "/late", "/report"))
         at: int | str = self.socket if is_order and os.path.exists(self.socket) else self.operate
-        return ask(at, method, path, seconds=seconds, host=self.host)
+        return ask(at, method, path, body, seconds=seconds, host=self.host)
 
     def is_ready(self) -> bool:
         return self.asked("GET", "/ready", 2)[0] == 200

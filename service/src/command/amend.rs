@@ -24,7 +24,7 @@ pub fn time(text: &str) -> Result<String, String> {
     }
 }
 
-fn series(text: &str) -> Result<String, String> {
+pub fn series(text: &str) -> Result<String, String> {
     text.parse::<Named>().map(|_| text.to_string())
 }
 

@@ -54,9 +54,14 @@ struct Reply {
 /// Asks, and returns the answer's body where its status is 200, else its message. All that is asked for is JSON. An instance that
 /// says where to ask is left for that one.
 pub fn ask(at: &Address, method: Method, path: &str) -> Result<Vec<u8>> {
+    ask_with(at, method, path, &[])
+}
+
+/// The same with a body.
+pub fn ask_with(at: &Address, method: Method, path: &str, body: &[u8]) -> Result<Vec<u8>> {
     let (mut place, token, mut asked) = (at.place(), at.token()?, Vec::new());
     loop {
-        let reply = reply(&place, token.as_deref(), &method, path, ANSWER)?;
+        let reply = reply(&place, token.as_deref(), &method, path, body, ANSWER)?;
         asked.push(place);
         // An order of all slots is done where it was asked for: what is there again has come since.
         let Some(next) = reply.location.clone().filter(|next| !asked.contains(next)) else {
@@ -107,7 +112,14 @@ pub fn status(at: &Address) -> Result<Status> {
     read(at, Method::GET, "/status")
 }
 
-fn reply(place: &str, token: Option<&str>, method: &Method, path: &str, patience: Duration) -> Result<Reply> {
+fn reply(
+    place: &str,
+    token: Option<&str>,
+    method: &Method,
+    path: &str,
+    body: &[u8],
+    patience: Duration,
+) -> Result<Reply> {
     let mut request = Request::builder().method(method).uri(path);
     if let Some(token) = token {
         request = request.header(AUTHORIZATION, format!("Bearer {token}"));
@@ -115,7 +127,7 @@ fn reply(place: &str, token: Option<&str>, method: &Method, path: &str, patience
     if let Some(person) = behind_sudo() {
         request = request.header(OPERATOR, person);
     }
-    let request = request.body(Body::empty()).context("no request can be made")?;
+    let request = request.body(Body::from(body.to_vec())).context("no request can be made")?;
     let asking = async {
         let answered = within(patience, place, asked(place, request)).await;
         answered.unwrap_or_else(|| Err(late(place, method, patience)))
@@ -246,7 +258,7 @@ mod tests {
     use std::time::Instant;
 
     fn get(place: &str, patience: Duration) -> Result<Reply> {
-        reply(place, None, &Method::GET, "/status", patience)
+        reply(place, None, &Method::GET, "/status", &[], patience)
     }
 
     /// The address of somebody who answers one request so.
@@ -292,7 +304,7 @@ mod tests {
         let listener = TcpListener::bind("127.0.0.1:0").unwrap();
         let place = listener.local_addr().unwrap().to_string();
         let said = |method| {
-            let tried = reply(&place, None, &method, "/flush", Duration::from_secs(1));
+            let tried = reply(&place, None, &method, "/flush", &[], Duration::from_secs(1));
             format!("{:#}", tried.unwrap_err())
         };
         let order = said(Method::POST);

@@ -2,11 +2,13 @@
 
 use super::ask::Address as Operate;
 use super::{client, series, values};
+use crate::operate::LateSum;
 use crate::sinks::periods::{Closed, Period};
 use crate::sinks::sql::export::{self, Line, What};
 use crate::sinks::Address;
 use anyhow::{bail, Context, Result};
 use clap::Args;
+use hyper::Method;
 use sha2::{Digest, Sha256};
 use std::borrow::Cow;
 use std::io::{BufWriter, Write};
@@ -70,7 +72,25 @@ impl Options {
         };
         let sink = sink(self.sink.as_ref(), &self.at)?;
         let closed = export::read(&sink, &What::Of(period.clone()), &mut each)?;
-        out.end(period, &closed)
+        out.end(period, &closed)?;
+        tell_of_late(period, &self.at);
+        Ok(())
+    }
+}
+
+/// On standard error, what of the period was refused and is in no row: the service knows it.
+fn tell_of_late(period: &Period, at: &Operate) {
+    let path = format!("/late/{period}");
+    match client::read::<Vec<LateSum>>(at, Method::GET, &path) {
+        Ok(sums) if sums.is_empty() => {
+            crate::complain(format_args!("{period}: nothing of it was refused as late or another sender's"));
+        }
+        Ok(sums) => {
+            for sum in sums {
+                crate::complain(format_args!("{period}: refused, and not counted in it: {sum}"));
+            }
+        }
+        Err(why) => crate::complain(format_args!("{period}: what was refused of it is not known: {why:#}")),
     }
 }
 

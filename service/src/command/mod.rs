@@ -2,12 +2,14 @@
 //!
 //! 0: done. 1: refused, or not possible. 2: a faulty command line. 70: the disk, or what is on it. 71: no memory to go on.
 
+mod adjust;
 mod amend;
 mod ask;
 mod check;
 mod client;
 mod explain;
 mod export;
+mod late;
 mod letters;
 mod of_book;
 mod of_receivers;
@@ -69,6 +71,8 @@ enum Command {
     /// Shows requests that the sink refused for good, sends them again, throws them away
     #[command(subcommand)]
     Dead(letters::Command),
+    /// Shows points that their series refused, so that they are not counted: `totxegun adjust --late KEY` books one
+    Late(late::Options),
     /// Closes a month, a day or an hour: what comes for it later counts in the hour in which it comes
     Close(periods::Close),
     /// Opens what was closed: what came late meanwhile stays where it was counted
@@ -78,8 +82,8 @@ enum Command {
         #[command(flatten)]
         at: ask::Address,
     },
-    /// Adds to what a series counted in an hour, by hand
-    Correct(periods::Correct),
+    /// Adds to what a series counted in an hour, by hand; or books late data
+    Adjust(adjust::Options),
     /// Puts back where a series ends, which a wrong clock has put ahead, so that its points are taken again
     Repair {
         #[command(flatten)]
@@ -162,9 +166,10 @@ impl Command {
             Command::Quarantine(of) => Ok(ask::order(&of.at, &format!("/quarantine/{}", of.sender))?),
             Command::Lift(of) => Ok(ask::order(&of.at, &format!("/lift/{}", of.sender))?),
             Command::Dead(command) => Ok(command.run()?),
+            Command::Late(options) => Ok(options.run()?),
             Command::Close(options) => Ok(options.run()?),
             Command::Open { period, at } => Ok(periods::open(&period, &at)?),
-            Command::Correct(options) => Ok(options.run()?),
+            Command::Adjust(options) => Ok(options.run()?),
             Command::Repair { of, to, at } => Ok(periods::told(&at, &of.path(&format!("/repair/{to}")))?),
             Command::Forget { of, at } => Ok(periods::told(&at, &of.path("/forget"))?),
             Command::Export(options) => Ok(options.run().map(|()| Vec::new())?),
@@ -295,9 +300,13 @@ mod tests {
             ("close 2026-13", "2026-13"),
             ("close 2026-11 --flush --anyway", "--anyway"),
             ("open november", "no period"),
-            ("correct 7 2026-11-05T13 1.5 x", "'1.5'"),
-            ("correct 7 2026-11-05T13 -2.5 x", "write a whole number, in the unit"),
-            ("correct 7 2026-11-05T13 -1", "<REASON>"),
+            ("adjust 7 2026-11-05T13 1.5 --reason x", "'1.5'"),
+            ("adjust 7 2026-11-05T13 -2.5 --reason x", "write a whole number, in the unit"),
+            ("adjust 7 2026-11-05T13 -1", "--reason"),
+            ("adjust a{b 2026-11-05T13 -1 --reason x", "names no series"),
+            ("adjust 7 2026-11-05T13 --reason x", "<VALUE>"),
+            ("adjust --late 00ff 7", "--late"),
+            ("adjust", "<SERIES>"),
             ("repair a --to yesterday", "--to"),
             ("repair a", "--to"),
             ("repair {} --to 2026-11-05", "names no series"),

@@ -1,9 +1,9 @@
-//! `totxegun close`, `open` and `correct`: periods of the sink, by which it is billed.
+//! `totxegun close` and `open`: periods of the sink, by which it is billed.
 
 use super::{ask, ask::Address, client, line};
 use crate::operate::{ANYWAY, FLUSHED};
-use crate::sinks::periods::{Correction, Period};
-use anyhow::{anyhow, bail, Context, Result};
+use crate::sinks::periods::Period;
+use anyhow::{bail, Context, Result};
 use clap::Args;
 use hyper::Method;
 use std::time::{Duration, Instant};
@@ -26,26 +26,6 @@ pub struct Close {
     at: Address,
 }
 
-#[derive(Args)]
-pub struct Correct {
-    /// Its number, which is the column `series` of the view by_hour
-    series: i64,
-    /// The hour of UTC that it belongs to: 2026-11-05T13
-    hour: Period,
-    /// What is added to it, a whole number
-    #[arg(allow_negative_numbers = true, value_parser = value)]
-    value: i64,
-    /// Why
-    reason: String,
-    #[command(flatten)]
-    at: Address,
-}
-
-fn value(text: &str) -> Result<i64, String> {
-    let why = "write a whole number, in the unit that the sink has the series in: -25";
-    text.parse().map_err(|_| why.to_string())
-}
-
 impl Close {
     pub fn run(self) -> Result<Vec<u8>> {
         if self.flush {
@@ -64,31 +44,18 @@ pub fn open(period: &Period, at: &Address) -> Result<Vec<u8>> {
     told(at, &format!("/open/{}", written(period)))
 }
 
-impl Correct {
-    pub fn run(self) -> Result<Vec<u8>> {
-        let correction = Correction {
-            series: self.series,
-            hour: self.hour,
-            value: self.value,
-            reason: self.reason.trim().into(),
-        };
-        correction.check().map_err(|why| anyhow!(why))?;
-        let Correction { series, hour, value, .. } = &correction;
-        let set = percent_encoding::NON_ALPHANUMERIC;
-        let reason = percent_encoding::utf8_percent_encode(&correction.reason, set);
-        let path = format!("/correct/{series}/{}/{value}?reason={reason}", written(hour));
-        told(&self.at, &path)
-    }
-}
-
 /// In a path.
 fn written(period: &Period) -> String {
     period.to_string().replace(' ', "T")
 }
 
 pub fn told(at: &Address, path: &str) -> Result<Vec<u8>> {
-    let body = client::ask(at, Method::POST, path)?;
-    let read: serde_json::Value = serde_json::from_slice(&body).unwrap_or_default();
+    told_of(&client::ask(at, Method::POST, path)?)
+}
+
+/// What an answer says of what is done.
+pub fn told_of(body: &[u8]) -> Result<Vec<u8>> {
+    let read: serde_json::Value = serde_json::from_slice(body).unwrap_or_default();
     let message = read["message"].as_str().context(client::OTHER_VERSION)?;
     Ok(line(format_args!("done: {message}")))
 }

@@ -44,6 +44,9 @@ const OWN_FILES: u64 = 192;
 /// With less than this most posts would be refused as too long for good, and lost.
 const LEAST_BYTES: u64 = 1 << 20;
 
+/// With less an eighth of it, which a file has, is too short for a point with many long attributes.
+const LEAST_LATE: u64 = 1 << 20;
+
 #[derive(Args)]
 pub struct Options {
     /// The folder of all files; it is made where there is none
@@ -104,6 +107,9 @@ pub struct Options {
     /// The most memory that all posts may take until they are answered
     #[arg(long, env = "TOTXEGUN_MOST_BYTES", value_name = "BYTES", default_value = "256MiB", value_parser = most_bytes)]
     most_bytes: u64,
+    /// How much late data is kept, the last: points that their series refused, for `totxegun late` and `adjust`
+    #[arg(long, env = "TOTXEGUN_MAX_LATE", value_name = "BYTES", default_value = "64MiB", value_parser = max_late)]
+    max_late: u64,
     /// How many connections senders may have at a time
     #[arg(long, env = "TOTXEGUN_MOST_CONNECTIONS", value_name = "N", default_value_t = 1024, value_parser = value_parser!(u32).range(1..=100_000))]
     most_connections: u32,
@@ -134,6 +140,14 @@ fn most_bytes(text: &str) -> Result<u64, String> {
     match bytes >= LEAST_BYTES {
         true => Ok(bytes),
         false => Err("less than 1MiB would refuse most posts for good".to_string()),
+    }
+}
+
+fn max_late(text: &str) -> Result<u64, String> {
+    let bytes = size(text)?;
+    match bytes >= LEAST_LATE {
+        true => Ok(bytes),
+        false => Err("less than 1MiB has no room for a point with long attributes".to_string()),
     }
 }
 
@@ -260,6 +274,7 @@ impl Options {
             pass,
             reading,
             most_bytes: usize::try_from(self.most_bytes).unwrap_or(usize::MAX),
+            max_late: self.max_late,
             most_connections,
             threads: usize::from(self.threads),
             most_series: self.of_book.most_series as usize,

@@ -43,6 +43,8 @@ metrics! {
             "Points that were not taken, of requests that were, but for those of --expect-foreign";
         duplicate_points: IntCounterVec = "duplicate_points_total" ["sender"],
             "Points that were taken before: they are left out, and answered as the first time";
+        pub late_points: IntCounterVec = "late_points_total" ["outcome"] of ["kept", "not_kept"],
+            "Points that their series refused, by whether they are kept as late data (`totxegun late`)";
         expected_rejected_points: IntCounterVec = "expected_rejected_points_total" ["reason"],
             "Points that were not taken, as --expect-foreign says";
         pub passed_points: IntCounterVec = "passed_points_total" ["outcome"] of ["taken", "refused", "lost", "dropped"],
@@ -107,6 +109,7 @@ metrics! {
         pub outbox_requests: IntGauge = "outbox_requests", "Requests that the sink does not have";
         pub outbox_bytes: IntGauge = "outbox_bytes", "Bytes on disk of requests that the sink does not have";
         pub outbox_age_seconds: IntGauge = "outbox_age_seconds", "Age of the oldest request that the sink does not have";
+        pub late_bytes: IntGauge = "late_bytes", "Bytes on disk of late data";
         pub dead_requests: IntGauge = "dead_requests", "Requests that the sink refused for good, kept aside";
         pub quarantined_senders: IntGauge = "quarantined_senders",
             "Senders whose points are kept back and whose posts are refused; of several instances the one with the first slot that any has says so";

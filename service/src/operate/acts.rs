@@ -72,9 +72,9 @@ pub struct Acts {
 /// What was asked for.
 #[derive(Clone, Debug, PartialEq, Eq)]
 pub struct Asked {
-    /// `quarantine`, `lift`, `dead drop`, `dead resend`, `close`, `open`, `correct`, `repair`, `forget`, `new sink`.
+    /// `quarantine`, `lift`, `dead drop`, `dead resend`, `close`, `open`, `adjust`, `repair`, `forget`, `new sink`.
     pub what: &'static str,
-    /// A sender, a key, a period, a correction, a series, a sink.
+    /// A sender, a key, a period, an adjustment, a series, a sink.
     pub of: String,
     /// By which of these it was asked for: `--all`, `--anyway`, `--flush`.
     pub given: Vec<&'static str>,

@@ -6,7 +6,10 @@
 //! where to ask.
 
 mod acts;
+mod adjust;
 mod amend;
+mod late;
+mod late_sums;
 mod letters;
 mod named;
 mod orders;
@@ -23,6 +26,8 @@ mod user;
 mod web;
 
 pub use acts::{Act, Actor, Acts, Asked, OPERATOR};
+pub use adjust::{AskedAdjustment, ADJUSTMENTS};
+pub use late_sums::LateSum;
 pub use letters::Resent;
 pub use named::Named;
 pub use periods::{ANYWAY, FLUSHED};
@@ -36,6 +41,7 @@ pub(crate) use web::is_ours;
 
 use crate::intake::connections::Handler;
 use crate::intake::Budget;
+use crate::late::LateData;
 use crate::metrics::Metrics;
 use crate::post_reports::SenderActivity;
 use crate::shares::Shares;
@@ -68,6 +74,8 @@ pub struct Desk {
     pub budget: Arc<Budget>,
     /// Who has posted.
     pub activity: Arc<SenderActivity>,
+    /// Points that their series refused.
+    pub late: Arc<LateData>,
     /// What was posted and delivered a second.
     pub pulse: Arc<Pulse>,
     /// Where senders post.
@@ -95,7 +103,12 @@ enum Route {
     Ready,
     Status,
     Letters,
-    /// `close`, `open` or `correct`, and the parts of the path behind it.
+    Late,
+    /// What of a period is not counted.
+    LateOf(String),
+    /// Its body says which.
+    Adjust,
+    /// `close` or `open`, and the parts of the path behind it.
     Period(Vec<String>),
     /// `repair` or `forget`, and the part of the path behind it.
     Amend(Vec<String>),
@@ -117,10 +130,13 @@ impl Route {
             ["ready"] => (Method::GET, Route::Ready),
             ["status"] => (Method::GET, Route::Status),
             ["dead"] => (Method::GET, Route::Letters),
+            ["late"] => (Method::GET, Route::Late),
+            ["late", period] => (Method::GET, Route::LateOf(decoded(period))),
             ["dead", key] => (Method::GET, Route::Letter(OfLetter::Show, decoded(key))),
             ["dead", key, "resend"] => (Method::POST, Route::Letter(OfLetter::Resend, decoded(key))),
             ["dead", key, "drop"] => (Method::POST, Route::Letter(OfLetter::Drop, decoded(key))),
-            ["close" | "open" | "correct", _, ..] => (Method::POST, Route::Period(all_decoded(&parts))),
+            ["v1", "adjustments"] => (Method::POST, Route::Adjust),
+            ["close" | "open", _, ..] => (Method::POST, Route::Period(all_decoded(&parts))),
             ["repair", _] | ["forget"] => (Method::POST, Route::Amend(all_decoded(&parts))),
             [""] => (Method::GET, Route::Page(Page::Overview)),
             ["series"] => (Method::GET, Route::Page(Page::Series)),
@@ -133,9 +149,14 @@ impl Route {
     /// Who may ask for it over TCP.
     fn over_tcp(&self) -> OverTcp {
         match self {
-            Route::Order(_) | Route::Letter(..) | Route::Letters | Route::Period(_) | Route::Amend(_) => {
-                OverTcp::Operators
-            }
+            Route::Order(_)
+            | Route::Letter(..)
+            | Route::Letters
+            | Route::Late
+            | Route::LateOf(_)
+            | Route::Adjust
+            | Route::Period(_)
+            | Route::Amend(_) => OverTcp::Operators,
             Route::Report => OverTcp::Nobody,
             _ => OverTcp::All,
         }
@@ -172,8 +193,9 @@ impl Desk {
                 match self.stranger(&route, &request) {
                     Some(why) => message(403, &why),
                     None => {
-                        let query = Query(request.uri().query().unwrap_or_default());
-                        with_path(self.go(route, actor, query).await, request.uri())
+                        let (head, body) = request.into_parts();
+                        let query = Query(head.uri.query().unwrap_or_default());
+                        with_path(self.go(route, actor, query, body).await, &head.uri)
                     }
                 }
             }
@@ -198,7 +220,13 @@ impl Desk {
         }
     }
 
-    async fn go(self: &Arc<Self>, route: Route, actor: Actor, query: Query<'_>) -> Response<Body> {
+    async fn go(
+        self: &Arc<Self>,
+        route: Route,
+        actor: Actor,
+        query: Query<'_>,
+        body: Body,
+    ) -> Response<Body> {
         match route {
             Route::Order(order) => {
                 let asked = order.act();
@@ -226,6 +254,9 @@ impl Desk {
                 Err(error) => message(500, &error.to_string()),
             },
             Route::Letters => self.letters().await.into(),
+            Route::Late => self.late(query).await.into(),
+            Route::LateOf(period) => self.late_of(&period).await.into(),
+            Route::Adjust => self.adjust(actor, body).await.into(),
             Route::Period(parts) => self.period(actor, &parts, query).await.into(),
             Route::Amend(parts) => self.amend(actor, &parts, query).await.into(),
             Route::Page(page) => self.page(page, query).await,
@@ -289,12 +320,14 @@ mod tests {
             ("/ready", Method::GET, read),
             ("/status", Method::GET, read),
             ("/dead", Method::GET, order),
+            ("/late", Method::GET, order),
+            ("/late/2026-11", Method::GET, order),
             ("/dead/0-a-1", Method::GET, order),
             ("/dead/0-a-1/resend", Method::POST, order),
             ("/dead/0-a-1/drop", Method::POST, order),
             ("/close/2026-11", Method::POST, order),
             ("/open/2026-11", Method::POST, order),
-            ("/correct/7/2026-11-05T13/-1", Method::POST, order),
+            (ADJUSTMENTS, Method::POST, order),
             ("/repair/2026-11-05T13", Method::POST, order),
             ("/forget", Method::POST, order),
             ("/", Method::GET, read),
@@ -316,7 +349,7 @@ mod tests {
             _ => vec![],
         };
         assert_eq!(parts("/repair/2026-11-05T13%3A30%3A15"), ["repair", "2026-11-05T13:30:15"]);
-        assert_eq!(parts("/correct/2/2026-11-05%2013:00/5"), ["correct", "2", "2026-11-05 13:00", "5"]);
+        assert_eq!(parts("/close/2026-11-05%2013:00"), ["close", "2026-11-05 13:00"]);
         for path in [
             "/quarantine/shop%2D1",
             "/lift/shop%2d1",

@@ -52,6 +52,7 @@ pub struct Status {
     /// What `--whole` has rounded since the start.
     pub rounded: Vec<RoundedStatus>,
     pub cumulative: CumulativeStatus,
+    pub late: LateStatus,
     /// Where several instances share a store.
     #[serde(default, skip_serializing_if = "Option::is_none")]
     pub cluster: Option<ClusterStatus>,
@@ -85,6 +86,16 @@ pub struct CumulativeStatus {
     pub series: usize,
     /// Since the start, how many count from their first point here on: what they had before is left out.
     pub noted: u64,
+}
+
+/// Points that their series refused.
+#[derive(Debug, Default, Serialize, Deserialize)]
+pub struct LateStatus {
+    /// Bytes on disk.
+    pub bytes: u64,
+    /// Since the start, how many were kept, and how many were not, for want of room or of time.
+    pub kept: u64,
+    pub not_kept: u64,
 }
 
 /// How much this instance uses of what it may have.
@@ -211,6 +222,7 @@ impl Desk {
                 series: self.cumulative_series(),
                 noted: self.metrics.noted_runs.get(),
             },
+            late: self.late_status(),
             cluster: self.own_cluster_status(),
             ..Status::default()
         }
@@ -236,6 +248,11 @@ impl Desk {
             RoundedStatus { rule, rounding, series, greatest }
         })
         .collect()
+    }
+
+    fn late_status(&self) -> LateStatus {
+        let [kept, not_kept] = self.late.points();
+        LateStatus { bytes: self.late.bytes(), kept, not_kept }
     }
 
     fn cumulative_series(&self) -> usize {

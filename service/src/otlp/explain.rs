@@ -30,6 +30,9 @@ pub struct Explained {
     /// The same as it is counted.
     #[serde(rename = "reason")]
     pub cause: Option<Reason>,
+    /// Its start and its end, where it is of the profile.
+    #[serde(skip)]
+    pub interval: (u64, u64),
 }
 
 impl Explained {
@@ -153,6 +156,10 @@ fn of(seen: &Seen<'_, '_>) -> Explained {
             _ => why.to_string(),
         }),
         cause: Reason::of_seen(seen),
+        interval: match (&seen.found, seen.words) {
+            (Ok(_), [start, end, ..]) => (*start, *end),
+            _ => (0, 0),
+        },
     }
 }
 

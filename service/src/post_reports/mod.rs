@@ -2,45 +2,30 @@
 //!
 //! It stands before what takes a slot's posts, and changes nothing of them but the text of their answers. Of a post with
 //! points that were not taken it reads the body once more, for the answer (`texts`). What was told is of all slots: `activity` is
-//! who has posted, `Logged` what the log has already. For the log one post is read at a time and beside the runtime's threads;
+//! who has posted, `logged` what the log has. For the log one post is read at a time and beside the runtime's threads;
 //! one that comes meanwhile is passed over, since its sender comes again.
 
 mod activity;
+mod logged;
 mod texts;
 
 pub use activity::{OfReason, OfSender, SenderActivity};
-pub(crate) use texts::{late, named, of_another, of_twice, twice, SERIES_SHOWN};
+pub(crate) use texts::{late, named, of_another, of_twice, twice, Interval, SERIES_SHOWN};
 
 use crate::intake::{Hears, Taker};
-use crate::log::{shown, OnceAnHour};
 use crate::metrics::Metrics;
 use crate::otlp::series::SeriesKey;
-use crate::otlp::{
-    foreign_points, point_at, Causes, OffClock, Original, Outcome, Profile, Reason, RejectedPoint, Rejection,
-    NO_NAME,
-};
+use crate::otlp::{point_at, Causes, Original, Outcome, Profile, Reason, RejectedPoint, Rejection, NO_NAME};
 use crate::pass::Pass;
 use crate::slot::{is_sender, Request, Slot, Source};
-use crate::work::{locked, Readers};
-use bytes::Bytes;
-use std::collections::{BTreeMap, HashSet};
+use crate::work::Readers;
+use logged::Logged;
 use std::sync::atomic::{AtomicBool, Ordering::Relaxed};
 use std::sync::{Arc, Mutex};
-use texts::{metric, not_taken, of_late, of_other_writer, other_writer, reason};
-
-/// How many senders, series and refusals are remembered as told.
-const REMEMBERED: usize = 1000;
-/// How many addresses of strangers are named within an hour: further ones count as who names none, so that they hide no sender.
-const STRANGERS: usize = 100;
+use texts::{of_late, of_other_writer};
 
 /// How many long bodies are read at a time.
 const READERS: usize = 2;
-
-/// How much of an answer is in the log, in characters.
-const ANSWER_SHOWN: usize = 600;
-
-/// How many posts of a sender are read for reasons that are new.
-const MOST_READ: usize = 100;
 
 /// Of one slot's posts, which it hands on to what takes them.
 pub struct Reported<T> {
@@ -58,36 +43,6 @@ pub struct Reporter {
     readers: Readers,
     is_reading: AtomicBool,
     logged: Mutex<Logged>,
-}
-
-/// What the log has of each sender, so that it is told once an hour.
-struct Logged {
-    foreign: OnceAnHour<String, LoggedOf>,
-    /// By sender and reason: points of requests that are taken.
-    rejected: OnceAnHour<(String, Reason)>,
-    series: OnceAnHour<SeriesKey>,
-    /// Addresses of who has no name.
-    strangers: OnceAnHour<String>,
-    /// By sender and reason.
-    refusals: OnceAnHour<(String, Reason)>,
-}
-
-impl Default for Logged {
-    fn default() -> Logged {
-        Logged {
-            foreign: OnceAnHour::new(REMEMBERED),
-            rejected: OnceAnHour::new(REMEMBERED),
-            series: OnceAnHour::new(REMEMBERED),
-            strangers: OnceAnHour::new(STRANGERS),
-            refusals: OnceAnHour::new(REMEMBERED),
-        }
-    }
-}
-
-#[derive(Default)]
-struct LoggedOf {
-    read: usize,
-    reasons: HashSet<String>,
 }
 
 /// What is told of foreign points.
@@ -244,121 +199,6 @@ impl Reporter {
         let source = source.clone();
         let length = source.length();
         self.readers.read(length, move || source.text().map(|body| read(&body))).await
-    }
-
-    /// Notes an answer. The first refusal of a sender for each reason within an hour is in the log; those that the service
-    /// itself is the reason of have a line of their own.
-    fn note(&self, sender: &str, outcome: &Outcome) {
-        let (Some(reason), Some(message)) = (self.activity.note(sender, outcome), outcome.refusal()) else {
-            return;
-        };
-        let status = outcome.status();
-        if status < 500 && locked(&self.logged).refusals.is_due(&(sender.to_string(), reason)) {
-            let (answer, reason) = (shown(message, ANSWER_SHOWN), reason.label());
-            tracing::warn!(sender, reason, status, "a post of {sender} is refused with {status}: {answer}");
-        }
-    }
-
-    /// For each reason, points of a sender that are not taken are in the log once an hour, with the first metric among them.
-    async fn tell_rejected(&self, sender: &str, source: &Source, all: &Causes, off: OffClock) {
-        let is_due = |reason: &Reason| {
-            let is_expected = self.options.expected.contains(reason);
-            !is_expected && locked(&self.logged).rejected.is_due(&(sender.to_string(), *reason))
-        };
-        let due: Vec<(Reason, u64)> = all.iter().filter(|(reason, _)| is_due(reason)).collect();
-        if due.is_empty() {
-            return;
-        }
-        let profile = self.options.profile;
-        let reasons: Vec<Reason> = due.iter().map(|(reason, _)| *reason).collect();
-        let first_of = move |body: &[u8]| {
-            let mut first = BTreeMap::new();
-            foreign_points(body, profile, |point| {
-                if let Some(reason) = point.cause.filter(|reason| reasons.contains(reason)) {
-                    first.entry(reason).or_insert(point);
-                }
-                first.len() == reasons.len()
-            });
-            first
-        };
-        let first = self.read(source, first_of).await.unwrap_or_default();
-        for (reason, points) in due {
-            let first = first.get(&reason);
-            let told = not_taken(reason, points, first, off);
-            self.activity.note_rejected(sender, reason, first.map(|point| &*point.metric));
-            let (reason, metric) = (reason.label(), first.map(metric));
-            tracing::warn!(sender, reason, points, metric, "points of {sender} are not taken: {told}");
-        }
-    }
-
-    /// Points that their series refuse are in the log too, the first ones for each reason within an hour.
-    fn note_refused_points(&self, sender: &str, outcome: &Outcome) {
-        let Outcome::Taken { parts, .. } = outcome else {
-            return;
-        };
-        for (points, why) in parts {
-            if locked(&self.logged).refusals.is_due(&(sender.to_string(), why.reason)) {
-                let (answer, reason) = (shown(&why.message, ANSWER_SHOWN), why.reason.label());
-                tracing::warn!(
-                    sender,
-                    reason,
-                    points,
-                    "{points} points of a post of {sender} are refused: {answer}"
-                );
-            }
-        }
-    }
-
-    /// Whether the address of who has no name is one of those that are remembered.
-    fn is_known_stranger(&self, address: &str) -> bool {
-        let (mut logged, address) = (locked(&self.logged), address.to_string());
-        let strangers = &mut logged.strangers;
-        strangers.get_mut(&address).is_some() || (!strangers.is_full() && strangers.is_due(&address))
-    }
-
-    fn may_tell_more(&self, sender: &str) -> bool {
-        if self.options.log_foreign == 0 {
-            return false;
-        }
-        let (mut logged, sender) = (locked(&self.logged), sender.to_string());
-        logged.foreign.is_due(&sender);
-        let of = logged.foreign.get_mut(&sender);
-        of.is_some_and(|of| of.reasons.len() < self.options.log_foreign && of.read < MOST_READ)
-    }
-
-    /// Nobody who posts waits while a body is read: one at a time is.
-    fn tell_reasons(&self, sender: &str, body: &Bytes) {
-        let sender = sender.to_string();
-        let known = |logged: &mut Logged| logged.foreign.get_mut(&sender).map(|of| of.reasons.clone());
-        let mut reasons = known(&mut locked(&self.logged)).unwrap_or_default();
-        foreign_points(body, self.options.profile, |point| {
-            let is_expected = |cause| self.options.expected.contains(&cause);
-            if point.cause.is_some_and(is_expected) || (self.pass.is_some() && point.is_passed()) {
-                return false;
-            }
-            let (told, reason) = (reason(&point), point.cause.map(Reason::label));
-            if reasons.insert(told.clone()) {
-                tracing::warn!(sender, reason, "points of {sender} are not taken: {told}");
-            }
-            reasons.len() >= self.options.log_foreign
-        });
-        if let Some(of) = locked(&self.logged).foreign.get_mut(&sender) {
-            of.read += 1;
-            of.reasons = reasons;
-        }
-    }
-
-    fn tell_owner(&self, sender: &str, series: SeriesKey, owner: &Owner) {
-        if locked(&self.logged).series.get_mut(&series).is_some() {
-            return;
-        }
-        let Some(owner) = owner(&series) else {
-            return;
-        };
-        if locked(&self.logged).series.is_due(&series) {
-            let line = other_writer(sender, &owner, &series);
-            tracing::warn!(sender, owner, series = shown(&series.0, SERIES_SHOWN), "{line}");
-        }
     }
 }
 

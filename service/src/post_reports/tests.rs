@@ -1,8 +1,13 @@
 //! What is told of foreign points and of owners.
 
+use super::logged::*;
+use super::texts::*;
 use super::*;
 use crate::core::Refused;
 use crate::otlp::{Clock, OffClock};
+use crate::work::locked;
+use bytes::Bytes;
+use std::collections::HashSet;
 use std::time::Duration;
 
 /// Answers as it was told.
@@ -187,7 +192,8 @@ async fn who_posts_to_another_s_series_is_told_which_it_is() {
     let second = reported(other_writer_at(1), None, ReportOptions::default());
     assert_eq!(
         answered(&second, &metric).await,
-        "other writer: point 1: `m` {route=/} is another sender's: give each process its own service.instance.id"
+        "other writer: point 1: `m` {route=/} is another sender's, so 1970-01-01T00:00:00.000000Z to 1970-01-01T00:00:00.000000Z is \
+         not counted: give each process its own service.instance.id"
     );
     let none = reported(other_writer_at(2), None, ReportOptions::default());
     assert_eq!(answered(&none, &metric).await, "other writer: point 2");
@@ -208,8 +214,8 @@ async fn a_post_with_a_series_twice_over_one_time_is_told_so() {
     assert_eq!(
         said,
         format!(
-            "{twice}: the post has `m` {{route=/}} twice over one time: give each process its own service.instance.id, each \
-             instrument its own name"
+            "{twice}: the post has `m` {{route=/}} twice over one time, so 1970-01-01T00:00:00.000000Z to \
+             1970-01-01T00:00:00.000000Z is not counted: give each process its own service.instance.id, each instrument its own name"
         )
     );
     // The first one, or where another post has come further.

@@ -10,6 +10,9 @@ pub(crate) const SERIES_SHOWN: usize = 2000;
 /// The same of a point's attributes in an answer.
 const ATTRIBUTES_SHOWN: usize = 300;
 
+/// The start and the end of a point, in nanoseconds since 1970.
+pub(crate) type Interval = (u64, u64);
+
 /// Why a point is foreign: one short line, whatever its sender wrote.
 pub(super) fn reason(point: &Explained) -> String {
     let name = cut(&point.metric, NAME_SHOWN);
@@ -35,36 +38,51 @@ pub(super) fn metric(point: &Explained) -> String {
 /// What the answer says beside the place of a late point: its series, when that was, and what to do.
 pub(super) fn of_late(body: &[u8], profile: Profile, (place, frontier): (u64, u64)) -> String {
     let point = point_at(body, profile, place);
-    late(&point.map_or_else(|| "the point".to_string(), |(point, _)| named(&point)), frontier)
+    let (named, interval) =
+        point.map_or_else(|| ("the point".into(), (0, 0)), |(point, _)| (named(&point), point.interval));
+    late(&named, interval, frontier)
 }
 
-/// The same where the post itself has its series up to there: nothing of it was taken, nor will be.
+/// The same if the post itself has its series up to there: nothing of it was taken, nor will be.
 pub(crate) fn of_twice(body: &[u8], profile: Profile, (place, frontier): (u64, u64)) -> Option<String> {
-    Some(twice(&named(&second_at(body, profile, place, frontier)?)))
+    let second = second_at(body, profile, place, frontier)?;
+    Some(twice(&named(&second), second.interval))
 }
 
 /// What the answer to a post to another's series says beside the place: that series and what to do.
 pub(super) fn of_other_writer(body: &[u8], profile: Profile, place: u64) -> Option<String> {
-    Some(of_another(&named(&point_at(body, profile, place)?.0)))
+    let (point, _) = point_at(body, profile, place)?;
+    Some(of_another(&named(&point), point.interval))
 }
 
-/// Of a series that is named so.
-pub(crate) fn late(named: &str, frontier: u64) -> String {
-    let time = of_nanoseconds(frontier);
+/// Of a point of a series that is named so.
+pub(crate) fn late(named: &str, interval: Interval, frontier: u64) -> String {
+    let (time, not_counted) = (of_nanoseconds(frontier), not_counted(interval));
     format!(
-        ": {named} begins before {time}, up to where it was taken, and is no repeat of the last two posts: set the sender's clock, or \
-         give each process its own service.instance.id"
+        ": {named} begins before {time}, up to where it was taken, and is no repeat of the last two posts{not_counted}: set the sender's \
+         clock, or give each process its own service.instance.id"
     )
 }
 
-pub(crate) fn twice(named: &str) -> String {
+pub(crate) fn twice(named: &str, interval: Interval) -> String {
+    let not_counted = not_counted(interval);
     format!(
-        ": the post has {named} twice over one time: give each process its own service.instance.id, each instrument its own name"
+        ": the post has {named} twice over one time{not_counted}: give each process its own service.instance.id, each instrument its \
+         own name"
     )
 }
 
-pub(crate) fn of_another(named: &str) -> String {
-    format!(": {named} is another sender's: give each process its own service.instance.id")
+pub(crate) fn of_another(named: &str, interval: Interval) -> String {
+    let not_counted = not_counted(interval);
+    format!(": {named} is another sender's{not_counted}: give each process its own service.instance.id")
+}
+
+/// From when to when a point was that is left out; nothing if that is not known.
+fn not_counted((start, end): Interval) -> String {
+    match end {
+        0 => String::new(),
+        _ => format!(", so {} to {} is not counted", of_nanoseconds(start), of_nanoseconds(end)),
+    }
 }
 
 /// A point by its metric and its attributes.

@@ -78,6 +78,8 @@ pub struct Settings {
     /// Who gets points that are outside the profile.
     pub pass: Option<Arc<Pass>>,
     pub most_bytes: usize,
+    /// How long the files of late data may be together.
+    pub max_late: u64,
     pub most_connections: usize,
     /// How many serve senders.
     pub threads: usize,

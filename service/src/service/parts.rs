@@ -11,6 +11,7 @@ use super::{Ended, Settings};
 use crate::files::Folder;
 use crate::intake::connections::Limits;
 use crate::intake::{Budget, Intake, Threads};
+use crate::late::{self, LateData};
 use crate::operate::{self, Acts, Desk, Pulse, Totals};
 use crate::post_reports::{Reported, Reporter, SenderActivity};
 use crate::shares::Rules;
@@ -49,7 +50,7 @@ enum Of {
 impl Parts {
     /// Opens the files in place: nothing else runs yet.
     pub fn of_folder(folder: Arc<Folder>, settings: &Settings) -> Result<Parts, Ended> {
-        let (files, shared) = (Files::of_folder(&folder)?, shared(settings));
+        let (files, shared) = (Files::of_folder(&folder)?, shared(settings)?);
         let place = InFolder { folder, outbox: files.outbox.clone() };
         let opened = Opened::new(files, 1, settings, &shared)?;
         Parts::new(Of::Folder(Box::new(opened)), shared, Box::new(place), settings)
@@ -58,7 +59,7 @@ impl Parts {
     /// The slots of a store are opened once they are taken.
     pub fn of_store(joining: Joining, settings: &Settings) -> Result<Parts, Ended> {
         let place = InStore::open(joining.store.clone()).context("the store can't be used")?;
-        Parts::new(Of::Store(joining), shared(settings), Box::new(place), settings)
+        Parts::new(Of::Store(joining), shared(settings)?, Box::new(place), settings)
     }
 
     /// With the sink, as this place remembers it.
@@ -127,6 +128,7 @@ impl Parts {
             metrics,
             budget: self.budget,
             activity,
+            late: self.shared.late.clone(),
             listen: senders.shown(),
             operate: settings.operate.tcp.clone().unwrap_or_default(),
             is_local: operators.is_local(),
@@ -160,8 +162,11 @@ impl Parts {
     }
 }
 
-fn shared(settings: &Settings) -> Arc<Shared> {
-    Arc::new(Shared::new(settings.metrics.clone(), settings.clock))
+fn shared(settings: &Settings) -> Result<Arc<Shared>, Ended> {
+    let (folder, metrics) = (settings.data.join(late::FOLDER), settings.metrics.clone());
+    let late = LateData::begin(folder, settings.max_late, metrics.clone());
+    let late = late.context("no thread could be started for late data")?;
+    Ok(Arc::new(Shared::new(metrics, settings.clock).with_late(late)))
 }
 
 impl Of {

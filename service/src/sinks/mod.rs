@@ -152,9 +152,9 @@ pub trait Sink: Send + Sync {
         Box::pin(std::future::ready(false))
     }
 
-    /// Closes or opens a period, or corrects: wholly or not at all, between two requests.
+    /// Closes or opens a period, or adjusts: wholly or not at all, between two requests.
     fn settle<'a>(&'a self, _who: &'a str, _deed: &'a Deed) -> Answer<'a, Told> {
-        let why = "keeps no periods: only a SQLite or PostgreSQL sink can close, open and correct them";
+        let why = "keeps no periods: only a SQLite or PostgreSQL sink can close, open and adjust them";
         let told = Told::Refused(format!("the sink {} {why}", self.name()));
         Box::pin(std::future::ready(told))
     }

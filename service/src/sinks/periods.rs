@@ -1,7 +1,7 @@
-//! Periods of a sink: which are closed, what comes for them later, and what is corrected.
+//! Periods of a sink: which are closed, what comes for them later, and what is adjusted by hand.
 //!
 //! What a sink has of a closed hour does not change any more. What comes for it later counts in the first hour from now on
-//! that is open, beside a row that says to which hour it belongs. So do corrections: the sums of hours, days and months are
+//! that is open, beside a row that says to which hour it belongs. So do adjustments: the sums of hours, days and months are
 //! those of all accepted points. To open an hour moves nothing back, since it may have been billed where it was counted. All
 //! of it is in the sink, and is read in the transaction that takes a request: so a close and a delivery are one after the
 //! other, and a close is there or not.
@@ -11,23 +11,35 @@ mod period;
 pub use period::{hour_shown, seconds_of, Period};
 
 use crate::log::utc;
+use crate::sinks::sql::totals::SeriesTotal;
 
 /// What an operator does.
 #[derive(Clone, Debug, PartialEq, Eq)]
 pub enum Deed {
     Close(Period),
     Open(Period),
-    Correct(Correction),
+    Adjust(Adjustment),
 }
 
-/// What is added to what a series counted in an hour.
+/// What is added to what a series counted in an hour, also if it counted nothing there; of a histogram, to its sum.
 #[derive(Clone, Debug, PartialEq, Eq)]
-pub struct Correction {
-    /// Its number in the sink.
-    pub series: i64,
+pub struct Adjustment {
+    pub series: Which,
     pub hour: Period,
     pub value: i64,
     pub reason: String,
+    /// The key of late data that is booked by it, once; empty if there is none.
+    pub late_key: String,
+    /// It is only said what would be done.
+    pub is_dry: bool,
+}
+
+/// A series of a sink.
+#[derive(Clone, Debug, PartialEq, Eq)]
+pub enum Which {
+    /// Its number in the sink.
+    Number(i64),
+    Identified(Box<SeriesTotal>),
 }
 
 /// So many bytes of a reason.
@@ -159,68 +171,92 @@ pub(super) fn deleted(period: &Period, from: i64) -> String {
     )
 }
 
-/// Of corrections together, without their signs: so sums of any of them fit 64 bits.
-const MOST_CORRECTED: i64 = 1 << 62;
+/// Of adjustments together, without their signs: so sums of any of them fit 64 bits.
+const MAX_ADJUSTED: i64 = 1 << 62;
 
-/// What a sink has where a correction is asked for.
-pub(super) struct Corrected {
-    /// Whether the series has something in its hour.
-    pub(super) is_there: bool,
-    /// What all corrections come to, without their signs.
+/// What a sink has of adjustments.
+pub(super) struct Adjusted {
+    /// What all come to, without their signs.
     pub(super) so_far: i64,
     /// The first hour that is not deleted.
     pub(super) hours_from: i64,
 }
 
-impl Correction {
+impl Which {
+    fn shown(&self) -> String {
+        match self {
+            Which::Number(number) => format!("series {number}"),
+            Which::Identified(series) => format!("a series {}", series.name),
+        }
+    }
+}
+
+impl Adjustment {
     /// Whether it is one.
     pub fn check(&self) -> Result<(), String> {
-        let Correction { hour, value, reason, .. } = self;
+        let Adjustment { hour, value, reason, .. } = self;
         if hour.to - hour.from > 1 {
             return Err(format!("{hour} is more than an hour: write one as 2026-11-05T13"));
         }
         if *value == 0 {
-            return Err("a correction of 0 corrects nothing".into());
+            return Err("an adjustment of 0 changes nothing".into());
         }
         let is_reason =
             !reason.is_empty() && reason.len() <= MOST_REASON && !reason.contains(char::is_control);
         match is_reason {
             true => Ok(()),
-            false => Err(format!("a correction has a reason, in one line of up to {MOST_REASON} bytes")),
+            false => Err(format!("an adjustment has a reason, in one line of up to {MOST_REASON} bytes")),
         }
     }
 
+    /// The sink has no such series.
+    pub(super) fn has_no_series(&self) -> Told {
+        let series = self.series.shown();
+        Told::Refused(format!(
+            "the sink has nothing of {series} yet: the column `series` of its views has their numbers, and `totxegun totals` their names"
+        ))
+    }
+
     /// In which hour it counts, else why it can't be made: also not into an hour that is deleted, since no view would have it.
-    pub(super) fn counted_in(&self, known: &Corrected, closed: &Closed) -> Result<i64, Told> {
-        let Correction { series, hour, value, .. } = self;
+    pub(super) fn counted_in(&self, adjusted: &Adjusted, closed: &Closed) -> Result<i64, Told> {
+        let Adjustment { hour, value, .. } = self;
         let counted_in = closed.counted_in(hour.from);
-        if !known.is_there || counted_in < known.hours_from {
+        if hour.from > closed.now {
+            let now = hour_shown(closed.now);
+            return Err(Told::Refused(format!("{hour} has not begun: it is {now}")));
+        }
+        if counted_in < adjusted.hours_from {
+            let from = hour_shown(adjusted.hours_from);
             return Err(Told::Refused(format!(
-                "series {series} has nothing in {hour}: its number is the column `series` of by_hour, which has its hours"
+                "hours before {from} were deleted (--keep-hours), so no view would have it in {hour}: name a later one"
             )));
         }
-        if value.unsigned_abs() > (MOST_CORRECTED - known.so_far).unsigned_abs() {
-            let why = format!("corrections may come to {MOST_CORRECTED} together, without their signs");
+        if value.unsigned_abs() > (MAX_ADJUSTED - adjusted.so_far).unsigned_abs() {
+            let why = format!("adjustments may come to {MAX_ADJUSTED} together, without their signs");
             return Err(Told::Refused(why));
         }
         Ok(counted_in)
     }
 
-    pub(super) fn made(&self, counted_in: i64) -> Told {
-        let Correction { series, hour, value, .. } = self;
+    pub(super) fn made(&self, series: i64, counted_in: i64) -> Told {
+        let Adjustment { hour, value, is_dry, .. } = self;
         let where_to = match counted_in == hour.from {
             true => String::new(),
             false => format!(", counted in {}, since its own hour is closed", hour_shown(counted_in)),
         };
-        Told::Done(format!("series {series} has {value:+} in {hour}{where_to}"))
+        let has = if *is_dry { "nothing is done; it would be: series" } else { "series" };
+        Told::Done(format!("{has} {series} has {value:+} in {hour}{where_to}"))
     }
 
     /// It was made by an earlier call, whose answer may have been lost.
     pub(super) fn was_there(&self, who: &str, at: i64) -> Told {
         let at = utc(at.unsigned_abs());
-        Told::Done(format!(
-            "this correction is there already, by {who} at {at}: another one of the same value needs another reason"
-        ))
+        Told::Done(match self.late_key.as_str() {
+            "" => format!(
+                "this adjustment is there already, by {who} at {at}: another one of the same value needs another reason"
+            ),
+            key => format!("late data {key} is booked already, by {who} at {at}"),
+        })
     }
 }
 

@@ -42,6 +42,7 @@ impl Slot {
     /// The book has refused it so.
     fn try_apart(&self, posted: &mut Posted, refused: Refused) -> Result<Result<Put, Refused>, Reason> {
         if posted.read.is_of_body() && !self.put_in_order(posted) {
+            self.late.count_lost(posted.read.points());
             return Ok(Err(refused));
         }
         let Some(_reserved) = self.free_space.reserve(posted.read.bytes()) else {
@@ -112,12 +113,14 @@ impl Slot {
             return Err(Refused::NoSuch);
         };
         let (whole, names): (Points, _) = (whole.clone(), names.clone());
-        let refused = RefusedPoints::of(&whole, fates);
+        let mut refused = RefusedPoints::of(&whole, fates);
+        let sender = posted.read.post.sender.clone();
         let count = |wanted| fates.iter().filter(|fate| **fate == wanted).count() as u64;
         let (taken, duplicates) = (count(Fate::Taken), count(Fate::Duplicate));
         let put = match (taken, refused.first()) {
             (0, Some(first)) if duplicates == 0 => {
                 drop(book);
+                refused.keep(self, &sender, &names);
                 return Err(first);
             }
             (0, _) => {
@@ -139,6 +142,7 @@ impl Slot {
                 Put { duplicates, ..put? }
             }
         };
+        refused.keep(self, &sender, &names);
         let named = refused.named(&names, |point| posted.left_out.place_of(point));
         Ok(Put { journalled: put.journalled.without_refused(named), ..put })
     }

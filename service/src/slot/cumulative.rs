@@ -69,7 +69,6 @@ struct LeftPoint {
     /// Among those that were tried, and in the request.
     at: u32,
     place: u64,
-    number: u64,
     fate: Fate,
 }
 
@@ -96,10 +95,13 @@ impl Making {
 
     fn part(&mut self, apart: Apart) {
         self.frontiers.extend(apart.beyond);
-        for LeftPoint { place, number, fate, .. } in &apart.left {
-            match fate {
-                Fate::Refused(refusal) => self.refused.add(*place, *number, *refusal),
-                Fate::Duplicate | Fate::Taken => self.duplicates += 1,
+        for LeftPoint { at, place, fate } in &apart.left {
+            match (fate, self.by.points.point(*at)) {
+                (Fate::Refused(refusal), Some(point)) => {
+                    let is_cumulative = self.by.cumulative.binary_search(at).is_ok();
+                    self.refused.add(*place, point, *refusal, is_cumulative);
+                }
+                _ => self.duplicates += 1,
             }
         }
         let left: HashSet<u32> = apart.left.iter().map(|left| left.at).collect();
@@ -128,6 +130,10 @@ impl Slot {
                         claim.keep(put.points + put.duplicates, all);
                     }
                     self.count_put(&making.sender, &put);
+                    let Making { refused, sender, by, .. } = &mut making;
+                    if put.journalled.is_for_good() {
+                        refused.keep(self, sender, &by.names);
+                    }
                     return Ok(put.journalled);
                 }
                 None => landed.await,
@@ -260,18 +266,12 @@ impl Slot {
             (fates, beyond)
         };
         let left = (0..).zip(fates).filter(|(_, fate)| *fate != Fate::Taken);
-        let left = left.filter_map(|(at, fate)| self.left(making, draft, draft.place(at)?, fate));
+        let left = left.filter_map(|(at, fate)| Some(left_point(making, draft, draft.place(at)?, fate)));
         let apart = Apart { left: left.collect(), beyond };
         match apart.left.is_empty() && apart.beyond.is_empty() {
             true => Err(refused), // the book has come to say otherwise
             false => Ok(apart),
         }
-    }
-
-    fn left(&self, making: &Making, draft: &Draft<'_>, at: u32, fate: Fate) -> Option<LeftPoint> {
-        let place = draft.placed(at, |place| making.left_out.place_of(place));
-        let number = making.by.points.point(at)?[0];
-        Some(LeftPoint { at, place, number, fate })
     }
 
     /// Points that add nothing, and whose series are another sender's: these are no repeats.
@@ -283,7 +283,7 @@ impl Slot {
         };
         let late = draft.late.iter().filter(|(_, series)| is_of_another(*series));
         let refused = Fate::Refused(PointRefusal::OtherWriter);
-        late.filter_map(|(at, _)| self.left(making, draft, *at, refused)).collect()
+        late.map(|(at, _)| left_point(making, draft, *at, refused)).collect()
     }
 
     /// None where the library finds another number of them foreign.
@@ -326,4 +326,9 @@ impl Slot {
             );
         }
     }
+}
+
+fn left_point(making: &Making, draft: &Draft<'_>, at: u32, fate: Fate) -> LeftPoint {
+    let place = draft.placed(at, |place| making.left_out.place_of(place));
+    LeftPoint { at, place, fate }
 }

@@ -24,6 +24,7 @@ pub use slots::{Elsewhere, Slots, Way};
 
 use crate::core::Core;
 use crate::files::{FreeSpace, Journal, Outbox};
+use crate::late::LateData;
 use crate::log::OnceAnHour;
 use crate::metrics::Metrics;
 use crate::otlp::{Clock, Outcome, Reading, Reason};
@@ -69,6 +70,7 @@ pub struct Slot {
     pub(crate) shares: Arc<Shares>,
     /// Of whose duplicates the log has a line.
     duplicates: Arc<Mutex<OnceAnHour<String>>>,
+    late: Arc<LateData>,
     /// None where it reads as all others here, and keeps nothing of that.
     reading: Option<Arc<Reading>>,
     /// Who has the outbox know what was read.
@@ -81,6 +83,8 @@ pub struct Shared {
     /// How far from it points may end.
     pub clock: Clock,
     pub shares: Arc<Shares>,
+    /// Keeps points that their series refuse.
+    pub late: Arc<LateData>,
     readers: Arc<Readers>,
     numbers: Arc<numbers::Numbers>,
     duplicates: Arc<Mutex<OnceAnHour<String>>>,
@@ -89,6 +93,7 @@ pub struct Shared {
 impl Shared {
     pub fn new(metrics: Arc<Metrics>, clock: Clock) -> Shared {
         Shared {
+            late: LateData::nowhere(metrics.clone()),
             metrics,
             clock,
             shares: Arc::default(),
@@ -96,6 +101,11 @@ impl Shared {
             numbers: Arc::default(),
             duplicates: Arc::new(Mutex::new(OnceAnHour::new(REMEMBERED))),
         }
+    }
+
+    /// The same, which keeps what series refuse.
+    pub fn with_late(self, late: Arc<LateData>) -> Shared {
+        Shared { late, ..self }
     }
 
     #[cfg(test)]
@@ -145,6 +155,7 @@ impl Slot {
             noted_runs: cumulative::NotedRuns::new(),
             shares: shared.shares.clone(),
             duplicates: shared.duplicates.clone(),
+            late: shared.late.clone(),
             keeping: Arc::default(),
         })
     }

@@ -1,21 +1,30 @@
-//! Points that their series refuse, as their sender is told: by reason how many, and the first one with its series.
+//! Points that their series refuse: their sender is told by reason how many, and of the first one its series and interval; all are kept
+//! as late data.
 
 use super::duplicates::Fate;
+use super::Slot;
 use crate::core::{Names, PointRefusal, Refused};
 use crate::files::{Names as _, Points};
+use crate::late::Refusals;
 use crate::otlp::{point_at, Outcome, Profile, Rejection};
-use crate::post_reports::{late, named, of_another, twice};
-use std::mem::discriminant;
+use crate::post_reports::{late, named, of_another, twice, Interval};
+use std::mem::{discriminant, take};
+use std::sync::Arc;
 
-/// By reason.
 #[derive(Default)]
-pub(super) struct RefusedPoints(Vec<OfReason>);
+pub(super) struct RefusedPoints {
+    by_reason: Vec<OfReason>,
+    points: Points,
+    /// Of each point why, and whether it is cumulative.
+    why: Vec<(PointRefusal, bool)>,
+}
 
-/// So many for one reason, and the first of them: its place, and the number of its series.
+/// So many for one reason, and the first of them: its place, the number of its series, and its interval.
 struct OfReason {
     count: u64,
     place: u64,
     number: u64,
+    interval: Interval,
     refusal: PointRefusal,
 }
 
@@ -28,12 +37,12 @@ impl PointRefusal {
         }
     }
 
-    /// What the sender's owner needs to know of the series that this names.
-    fn advice(self, named: &str) -> String {
+    /// What the sender's owner needs to know of a point of this interval, whose series this names.
+    fn advice(self, named: &str, interval: Interval) -> String {
         match self {
-            PointRefusal::OtherWriter => of_another(named),
-            PointRefusal::OutOfOrder { is_by_post: true, .. } => twice(named),
-            PointRefusal::OutOfOrder { frontier, .. } => late(named, frontier),
+            PointRefusal::OtherWriter => of_another(named, interval),
+            PointRefusal::OutOfOrder { is_by_post: true, .. } => twice(named, interval),
+            PointRefusal::OutOfOrder { frontier, .. } => late(named, interval, frontier),
         }
     }
 }
@@ -42,29 +51,45 @@ impl RefusedPoints {
     /// Those of these points that are refused.
     pub fn of(points: &Points, fates: &[Fate]) -> RefusedPoints {
         let mut all = RefusedPoints::default();
-        for ((place, number), fate) in (0..).zip(points.numbers()).zip(fates) {
+        for ((place, point), fate) in (0..).zip(points.each()).zip(fates) {
             if let Fate::Refused(refusal) = fate {
-                all.add(place, number, *refusal);
+                all.add(place, point, *refusal, false);
             }
         }
         all
     }
 
-    pub fn add(&mut self, place: u64, number: u64, refusal: PointRefusal) {
+    /// Adds a point of these words, which has this place among all.
+    pub fn add(&mut self, place: u64, point: &[u64], refusal: PointRefusal, is_cumulative: bool) {
+        let [number, start, end, ..] = *point else { return }; // each point has these
+        self.points.push_words(number, &point[1..]);
+        self.why.push((refusal, is_cumulative));
         let is_same = |other: &&mut OfReason| discriminant(&other.refusal) == discriminant(&refusal);
-        let Some(same) = self.0.iter_mut().find(is_same) else {
-            self.0.push(OfReason { count: 1, place, number, refusal });
+        let found = OfReason { count: 1, place, number, interval: (start, end), refusal };
+        let Some(same) = self.by_reason.iter_mut().find(is_same) else {
+            self.by_reason.push(found);
             return;
         };
-        same.count += 1;
+        let count = same.count + 1;
         if place < same.place {
-            (same.place, same.number, same.refusal) = (place, number, refusal);
+            *same = found;
+        }
+        same.count = count;
+    }
+
+    /// Keeps them, once nothing more comes of their post: if it were repeated, one of them might be taken. The last room of a disk is
+    /// not for them.
+    pub fn keep(&mut self, slot: &Slot, sender: &str, names: &Arc<Names>) {
+        let (points, why) = (take(&mut self.points), take(&mut self.why));
+        match slot.free_space.is_left() {
+            true => slot.late.keep(Refusals::new(sender, names, points, why, &slot.outbox)),
+            false => slot.late.count_lost(points.count() as u64),
         }
     }
 
     /// The first of all, as the book says it of a post that it refuses whole.
     pub fn first(&self) -> Option<Refused> {
-        let first = self.0.iter().min_by_key(|of| of.place);
+        let first = self.by_reason.iter().min_by_key(|of| of.place);
         first.map(|of| of.refusal.of(of.place))
     }
 
@@ -76,8 +101,8 @@ impl RefusedPoints {
             };
             let point = point_at(&names.text(of.number), Profile::Deltas, 0);
             let series = point.map_or_else(String::new, |(point, _)| named(&point));
-            Some((of.count, rejection.and(&of.refusal.advice(&series))))
+            Some((of.count, rejection.and(&of.refusal.advice(&series, of.interval))))
         };
-        self.0.iter().filter_map(told).collect()
+        self.by_reason.iter().filter_map(told).collect()
     }
 }

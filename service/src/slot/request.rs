@@ -158,6 +158,9 @@ impl Slot {
                     apart = Some(refused);
                 }
                 Err(refused) => {
+                    if refused.is_of_series() && apart.is_none() {
+                        self.late.count_lost(all); // it has no numbers
+                    }
                     let refused = refused.placed(|point| posted.left_out.place_of(point));
                     let outcome = self.refusal(&posted.read, refused);
                     return Ok(Journalled::behind_all(outcome, &self.journal));

@@ -44,6 +44,11 @@ impl Journalled {
         self
     }
 
+    /// Whether its sender has no reason to repeat the post.
+    pub fn is_for_good(&self) -> bool {
+        matches!(self.outcome.status(), 200 | 400 | 413)
+    }
+
     /// Waits until it may be said.
     pub async fn durable(self, journal: &Journal) -> Outcome {
         match journal.durable(self.ticket).await {

@@ -1,5 +1,6 @@
-//! Periods that are closed, late points and corrections, in both sinks, beside a plain list of what was done.
+//! Periods that are closed, late points and adjustments, in both sinks, beside a plain list of what was done.
 
+use crate::adjust::{adjust, by_hand};
 use crate::kept::until;
 use crate::model::{both, Counted, Database, Model, NAMES, PLACES};
 use crate::points::{body, value, Point, Random, Value, HOUR};
@@ -8,10 +9,10 @@ use crate::{open, open_with, refused, request, taken};
 use std::collections::BTreeSet;
 use std::sync::Arc;
 use std::time::Duration;
-use totxegun::sinks::periods::{hour_shown, Correction, Deed, Period, Told};
+use totxegun::sinks::periods::{hour_shown, Deed, Period, Told, Which};
 use totxegun::sinks::{Fate, Retention, Sink};
 
-fn now() -> u64 {
+pub fn now() -> u64 {
     let since = std::time::SystemTime::now().duration_since(std::time::UNIX_EPOCH);
     since.unwrap().as_secs() / 3600
 }
@@ -29,7 +30,7 @@ pub async fn done(sink: &dyn Sink, deed: Deed) -> String {
     }
 }
 
-async fn not_done(sink: &dyn Sink, deed: Deed, part: &str) {
+pub async fn not_done(sink: &dyn Sink, deed: Deed, part: &str) {
     match sink.settle("alice", &deed).await {
         Told::Refused(why) => assert!(why.contains(part), "{why}"),
         other => panic!("{deed:?}: {other:?}"),
@@ -92,7 +93,7 @@ async fn step(model: &mut Model, sink: &dyn Sink, database: &Database<'_>, rando
                 model.closed.remove(&(from, to));
             }
         }
-        _ => correct(model, sink, database, random, now).await,
+        _ => adjust(model, sink, database, random, now).await,
     }
 }
 
@@ -106,27 +107,6 @@ async fn overlap(model: &mut Model, sink: &dyn Sink, random: &mut Random) {
     let half = Point { end: whole.start + HOUR / PLACES / 2, ..whole };
     model.refused += 1;
     refused(sink, (1 << 40) + model.refused, body(&[half]), "is not added").await;
-}
-
-async fn correct(model: &mut Model, sink: &dyn Sink, database: &Database<'_>, random: &mut Random, now: u64) {
-    let all: Vec<_> = model.taken.iter().copied().collect();
-    let Some((name, place)) = all.get(random.below(60) as usize).copied() else {
-        return;
-    };
-    let series = database.ask(&format!("select id from t.series where name = '{name}'"));
-    let (hour, value) = (place / PLACES, random.below(2001) as i64 - 1000);
-    model.corrected += 1;
-    let correction = Correction {
-        series: series.parse().unwrap(),
-        hour: period(hour, 1),
-        value: if value == 0 { 1 } else { value },
-        reason: format!("reason {}", model.corrected),
-    };
-    let counted = Counted { corrections: correction.value, ..Counted::default() };
-    model.add(name, hour, now, &counted);
-    for _ in 0..1 + random.below(2) {
-        done(sink, Deed::Correct(correction.clone())).await;
-    }
 }
 
 /// Whether all of it was done within one hour.
@@ -158,7 +138,7 @@ async fn tried(database: &Database<'_>, seed: u64) -> bool {
 }
 
 #[tokio::test(flavor = "multi_thread")]
-async fn what_counts_where_is_right_over_closes_late_points_and_corrections() {
+async fn what_counts_where_is_right_over_closes_late_points_and_adjustments() {
     let server = Server::start();
     for seed in 1..4 {
         let lite = || Database::Lite(tempfile::tempdir().unwrap());
@@ -221,14 +201,14 @@ async fn what_can_t_be_done_is_named_and_changes_nothing() {
             assert!(told.contains("1970-01-05"), "{told}");
         }
         not_done(&*sink, Deed::Open(period(old, 1)), "1970-01-05, closed by alice").await;
-        let correction = |series, hour, value, reason: &str| {
-            Deed::Correct(Correction { series, hour: period(hour, 1), value, reason: reason.into() })
+        let adjustment = |series, hour, value, reason: &str| {
+            Deed::Adjust(by_hand(Which::Number(series), hour, value, reason))
         };
-        not_done(&*sink, correction(1, old + 1, 1, "x"), "has nothing in 1970-01-05 05:00").await;
-        not_done(&*sink, correction(2, old, 1, "x"), "series 2 has nothing").await;
-        done(&*sink, correction(1, old, i64::MAX / 2, "x")).await;
-        not_done(&*sink, correction(1, old, i64::MIN, "y"), "may come to").await;
-        let told = done(&*sink, correction(1, old, i64::MAX / 2, "x")).await;
+        not_done(&*sink, adjustment(1, now + 1, 1, "x"), "has not begun").await;
+        not_done(&*sink, adjustment(2, old, 1, "x"), "the sink has nothing of series 2 yet").await;
+        done(&*sink, adjustment(1, old, i64::MAX / 2, "x")).await;
+        not_done(&*sink, adjustment(1, old, i64::MIN, "y"), "may come to").await;
+        let told = done(&*sink, adjustment(1, old, i64::MAX / 2, "x")).await;
         assert!(told.contains("is there already, by alice"), "{told}");
         assert_eq!(database.ask("select count(*) from t.corrections"), "1");
         let half = i64::MAX / 2;
@@ -243,7 +223,7 @@ async fn what_can_t_be_done_is_named_and_changes_nothing() {
 
 /// Else it is said to be done, and is on no bill.
 #[tokio::test(flavor = "multi_thread")]
-async fn an_hour_that_is_deleted_is_corrected_only_while_it_is_closed() {
+async fn an_hour_that_is_deleted_is_adjusted_only_while_it_is_closed() {
     let Some(server) = Server::start() else { return };
     let address = server.by_socket("postgres");
     let before = open(&address);
@@ -258,15 +238,12 @@ async fn an_hour_that_is_deleted_is_corrected_only_while_it_is_closed() {
     let sink = open_with(&address, Retention { hours: two_days, ..Retention::default() });
     let billed = "select sum(total), sum(corrections) from totxegun.by_hour";
     until(&server, billed, "2|0").await;
-    let correct = || {
-        let reason = "by hand".into();
-        Deed::Correct(Correction { series: 1, hour: period(hour, 1), value: -1, reason })
-    };
-    not_done(&*sink, correct(), "series 1 has nothing in").await;
+    let adjust = || Deed::Adjust(by_hand(Which::Number(1), hour, -1, "by hand"));
+    not_done(&*sink, adjust(), "were deleted (--keep-hours)").await;
     assert_eq!(server.ask(billed), "2|0");
-    // What is closed is corrected where that counts.
+    // What is closed is adjusted where that counts.
     done(&*sink, Deed::Close(period(hour, 1))).await;
-    done(&*sink, correct()).await;
+    done(&*sink, adjust()).await;
     assert_eq!(server.ask(billed), "2|-1");
 }
 
@@ -346,12 +323,7 @@ async fn deeds_and_late_points_over_cut_connections() {
     for round in 0..12u64 {
         let deed = match round % 3 {
             0 => Deed::Close(period(hour, 1)),
-            1 => Deed::Correct(Correction {
-                series: 1,
-                hour: period(hour, 1),
-                value: 1,
-                reason: format!("{round}"),
-            }),
+            1 => Deed::Adjust(by_hand(Which::Number(1), hour, 1, &format!("{round}"))),
             _ => Deed::Open(period(hour, 1)),
         };
         let mut tries = 0;

@@ -5,6 +5,7 @@ mod amend;
 mod another;
 mod held;
 mod instance;
+mod late;
 mod letters;
 mod load;
 mod log;
@@ -52,7 +53,8 @@ fn owners_and_frontiers_outlive_kills_and_other_numbers_of_books() {
             assert_eq!(taken, (200, "{}".into()), "{sender}");
             let other = service.post("other", &points(&[sender], end + 10, 1)).unwrap();
             let wanted = format!(
-                "other writer: point 0: `{sender}` {{}} is another sender's: give each process its own service.instance.id"
+                "other writer: point 0: `{sender}` {{}} is another sender's, so 1970-01-01T00:00:00.000000Z to \
+                 1970-01-01T00:00:00.000000Z is not counted: give each process its own service.instance.id"
             );
             assert_eq!(other, refused(&wanted));
         }

@@ -99,7 +99,7 @@ impl Desk {
         }
         told + match (&self.totals, sought.to) {
             (Some(_), Some(_)) => {
-                "\nwhat is posted from then on counts, beside what the sink has after it: `totxegun correct` takes out what is wrong"
+                "\nwhat is posted from then on counts, beside what the sink has after it: `totxegun adjust` takes out what is wrong"
             }
             (Some(_), None) => {
                 "\nwhat is posted again of that time is taken again; the sink adds nothing that begins before the series ends there (dead/)"

@@ -26,6 +26,7 @@ impl Desk {
             (&levels.dead_requests, status.dead as i64),
             (&levels.quarantined_senders, quarantined as i64),
             (&levels.held_posts, held.posts as i64),
+            (&levels.late_bytes, status.late.bytes as i64),
             (&levels.held_bytes, held.bytes as i64),
             (&levels.delivery_stuck, slots.iter().any(|slot| slot.stuck.is_some()).into()),
             (&levels.series, limits.series.used as i64),

@@ -94,7 +94,7 @@ impl Status {
     }
 
     fn add_one(&mut self, other: Status, shown: &mut InstanceStatus) {
-        let Status { dead, slots, shares: used, rounded, cumulative, cluster, .. } = other;
+        let Status { dead, slots, shares: used, rounded, cumulative, late, cluster, .. } = other;
         if let Some(own) = cluster.and_then(|cluster| cluster.instances.into_iter().next()) {
             shown.slots = own.slots;
             shown.trouble = own.trouble.or(shown.trouble.take());
@@ -109,6 +109,9 @@ impl Status {
         }
         self.cumulative.series += cumulative.series;
         self.cumulative.noted += cumulative.noted;
+        self.late.bytes += late.bytes;
+        self.late.kept += late.kept;
+        self.late.not_kept += late.not_kept;
     }
 
     fn add_rounded(&mut self, other: RoundedStatus) {

@@ -77,6 +77,7 @@ impl Shown {
             cumulative(status),
             rounded(status),
             rounded_series(status),
+            late(status),
             dead(status),
         ]);
         sections.retain(|section| !section.is_empty());
@@ -330,6 +331,25 @@ fn rounded_series(status: &Status) -> Section {
     });
     let heads = &["rounded by at most#", "values#", "metric", "attributes", "resource"];
     Section::new("Series that were rounded by most", heads, rows.collect())
+}
+
+fn late(status: &Status) -> Section {
+    let of = &status.late;
+    let lost = match of.not_kept {
+        0 => String::new(),
+        lost => format!(
+            "; {} are not kept, since the disk had no room, or they were too many at once",
+            counted(lost, "point")
+        ),
+    };
+    let note = format!(
+        "{} that their series refused since the start are kept, with earlier ones in {}{lost}: `totxegun late` shows them, \
+         `totxegun adjust --late KEY` books one",
+        counted(of.kept, "point"),
+        bytes_shown(of.bytes)
+    );
+    let has_some = of.bytes + of.kept + of.not_kept > 0;
+    Section::new("Late data", &[], Vec::new()).noting(has_some.then_some(note))
 }
 
 fn dead(status: &Status) -> Section {

@@ -18,6 +18,7 @@ use crate::sinks::sql::totals::{Filter, SeriesTotal};
 use crate::sinks::{sqlite, Address};
 use crate::work::blocking;
 use hyper::{Body, Response};
+use std::collections::HashSet;
 use std::fmt::Display;
 use std::path::PathBuf;
 use std::sync::Arc;
@@ -63,6 +64,15 @@ impl Totals {
                 blocking(move || sqlite::by_hour::read(&path, &series, from)).await.map_err(said)
             }
             Source::Postgres(server) => postgres::by_hour::read(&server, &series, from).await.map_err(said),
+        }
+    }
+
+    /// The keys of late data that the sink has booked.
+    pub(super) async fn booked(&self) -> Result<HashSet<String>, String> {
+        let _turn = self.turn.clone().acquire_owned().await;
+        match self.source.clone() {
+            Source::Sqlite(path) => blocking(move || sqlite::periods::booked(&path)).await.map_err(said),
+            Source::Postgres(server) => postgres::periods::booked(&server).await.map_err(said),
         }
     }
 

@@ -8,7 +8,7 @@ mod epochs;
 pub mod export;
 mod fault;
 mod fence;
-mod periods;
+pub mod periods;
 mod point_rows;
 mod schema;
 mod series;

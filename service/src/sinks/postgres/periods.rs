@@ -1,14 +1,16 @@
-//! Periods that are closed, and corrections: by a connection of its own, between two requests of any service.
+//! Periods that are closed, and adjustments: by a connection of its own, between two requests of any service.
 
 use super::fault::Fault;
 use super::schema;
 use super::session;
 use super::statements;
 use super::store::commit;
+use super::totals::parts_of;
 use super::Server;
-use crate::sinks::periods::{Closed, Corrected, Correction, Deed, Period, Row, Told};
+use crate::sinks::periods::{Adjusted, Adjustment, Closed, Deed, Period, Row, Told, Which};
 use crate::sinks::sql;
 use crate::sinks::Memory;
+use std::collections::HashSet;
 use std::time::Duration;
 use tokio_postgres::{Error, Row as DatabaseRow, Transaction};
 
@@ -20,18 +22,23 @@ const PATIENCE: Duration = Duration::from_secs(30);
 
 const ALONE: &str = "select pg_advisory_xact_lock($1::int8)";
 
-const OF_CORRECTION: &str = "select who, extract(epoch from made_at)::int8 from totxegun.corrections
-    where series = $1::int8 and of_hour = $2::int4 and value = $3::int8 and reason = $4::text";
+const MADE_BEFORE: &str = "select who, extract(epoch from made_at)::int8 from totxegun.corrections
+    where late_key = $5::text and (late_key <> ''
+        or (series = $1::int8 and of_hour = $2::int4 and value = $3::int8 and reason = $4::text))";
 
-/// Whether the series has something in that hour; what all corrections come to; and from when hours are there.
-const IS_THERE: &str = "select
-        exists (select from totxegun.hour where series = $1::int8 and hour = $2::int4)
-        or exists (select from totxegun.late_hour where series = $1::int8 and of_hour = $2::int4),
-        (select coalesce(sum(abs(value::numeric)), 0)::int8 from totxegun.corrections), hours_from
+/// Those that have points, of a name, which has U+FFFD for what no text of the server holds.
+const NAMED: &str =
+    "select id, identity from totxegun.series join totxegun.series_total on series_total.series = series.id
+    where name = $1::text";
+const HAS_POINTS: &str = "select series from totxegun.series_total where series = $1::int8";
+
+/// What all adjustments come to; and from when hours are there.
+const ADJUSTED: &str =
+    "select (select coalesce(sum(abs(value::numeric)), 0)::int8 from totxegun.corrections), hours_from
     from totxegun.horizon";
 
-const CORRECT: &str = "insert into totxegun.corrections (series, of_hour, hour, value, reason, who)
-    values ($1::int8, $2::int4, $3::int4, $4::int8, $5::text, $6::text)";
+const ADJUST: &str = "insert into totxegun.corrections (series, of_hour, hour, value, reason, late_key, who)
+    values ($1::int8, $2::int4, $3::int4, $4::int8, $5::text, $6::text, $7::text)";
 
 /// Where its hour is later than the last one of the series, that one is over.
 const LAST_HOUR: &str = "select hour from totxegun.series_total where series = $1::int8 for no key update";
@@ -88,6 +95,20 @@ async fn settled(server: &Server, memory: &dyn Memory, who: &str, deed: &Deed) -
     commit(periods.0, &connection.warnings).await.map(|()| told)
 }
 
+/// The keys of late data that is booked; none while there is no schema.
+pub async fn booked(server: &Server) -> anyhow::Result<HashSet<String>> {
+    let keys = async {
+        let (client, _connection) = session::connect_to_read(server).await?;
+        if !schema::check(&client).await? {
+            return Ok(HashSet::new());
+        }
+        let rows =
+            client.query("select late_key from totxegun.corrections where late_key <> ''", &[]).await?;
+        Ok::<HashSet<String>, Fault>(rows.iter().map(|row| row.get(0)).collect())
+    };
+    session::within(PATIENCE, keys).await.map_err(|fault| fault.at(server))
+}
+
 struct Changing<'a>(Transaction<'a>);
 
 impl sql::Periods for Changing<'_> {
@@ -109,23 +130,47 @@ impl sql::Periods for Changing<'_> {
         self.0.execute(row, &[&(period.from as i32), &(period.to as i32)]).await.map(drop)
     }
 
-    async fn made_before(&mut self, correction: &Correction) -> Result<Option<(String, i64)>, Error> {
-        let Correction { series, hour, value, reason } = correction;
-        let row = self.0.query_opt(OF_CORRECTION, &[series, &(hour.from as i32), value, reason]).await?;
+    async fn number(&mut self, series: &Which) -> Result<Option<i64>, Error> {
+        let named = match series {
+            Which::Number(number) => {
+                let row = self.0.query_opt(HAS_POINTS, &[number]).await?;
+                return Ok(row.map(|row| row.get(0)));
+            }
+            Which::Identified(series) => series,
+        };
+        let rows = self.0.query(NAMED, &[&named.name.replace('\0', "\u{fffd}")]).await?;
+        let is_it = |row: &&DatabaseRow| parts_of(row.get(1)).is_ok_and(|found| found.is_of_series(named));
+        Ok(rows.iter().find(is_it).map(|row| row.get(0)))
+    }
+
+    async fn made_before(
+        &mut self,
+        series: i64,
+        adjustment: &Adjustment,
+    ) -> Result<Option<(String, i64)>, Error> {
+        let Adjustment { hour, value, reason, late_key, .. } = adjustment;
+        let hour = hour.from as i32;
+        let row = self.0.query_opt(MADE_BEFORE, &[&series, &hour, value, reason, late_key]).await?;
         Ok(row.map(|row| (row.get(0), row.get(1))))
     }
 
-    async fn corrected(&mut self, correction: &Correction) -> Result<Corrected, Error> {
-        let row = self.0.query_one(IS_THERE, &[&correction.series, &(correction.hour.from as i32)]).await?;
-        let hours_from: i32 = row.get(2);
-        Ok(Corrected { is_there: row.get(0), so_far: row.get(1), hours_from: hours_from.into() })
+    async fn adjusted(&mut self) -> Result<Adjusted, Error> {
+        let row = self.0.query_one(ADJUSTED, &[]).await?;
+        let hours_from: i32 = row.get(1);
+        Ok(Adjusted { so_far: row.get(0), hours_from: hours_from.into() })
     }
 
-    async fn correct(&mut self, who: &str, correction: &Correction, hour: i64) -> Result<(), Error> {
-        let Correction { series, hour: of_hour, value, reason } = correction;
+    async fn adjust(
+        &mut self,
+        who: &str,
+        series: i64,
+        adjustment: &Adjustment,
+        hour: i64,
+    ) -> Result<(), Error> {
+        let Adjustment { hour: of_hour, value, reason, late_key, .. } = adjustment;
         let (of_hour, hour) = (of_hour.from as i32, hour as i32);
-        self.0.execute(CORRECT, &[series, &of_hour, &hour, value, reason, &who]).await?;
-        add(&self.0, *series, hour, *value).await
+        self.0.execute(ADJUST, &[&series, &of_hour, &hour, value, reason, late_key, &who]).await?;
+        add(&self.0, series, hour, *value).await
     }
 }
 

@@ -8,8 +8,8 @@ use tokio_postgres::{Client, Error, GenericClient};
 
 const SCHEMA: &str = include_str!("schema.sql");
 
-/// The version that this program reads and writes. Schemas of 1 to 10 have other tables.
-pub(super) const KNOWN: i32 = 11;
+/// The version that this program reads and writes. Schemas of 1 to 11 have other tables.
+pub(super) const KNOWN: i32 = 12;
 
 /// `totxegun`, as the number of an advisory lock: one of several services makes the schema, the others wait.
 pub(super) const LOCK: i64 = 0x746f_7478_6567_756e;

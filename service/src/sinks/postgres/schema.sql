@@ -1,4 +1,4 @@
--- The schema of version 11. Whole numbers of 64 bits without sign, and totals that no 64 bits hold, are numeric: exact at any
+-- The schema of version 12. Whole numbers of 64 bits without sign, and totals that no 64 bits hold, are numeric: exact at any
 -- size. Times are nanoseconds since 1970.
 
 create schema if not exists totxegun;
@@ -7,7 +7,7 @@ create table totxegun.version (
     program text not null,
     version integer not null
 );
-insert into totxegun.version values ('totxegun', 11);
+insert into totxegun.version values ('totxegun', 12);
 comment on table totxegun.version is 'One row: whose schema this is, and which one';
 comment on column totxegun.version.program is 'totxegun';
 comment on column totxegun.version.version is 'Of the schema';
@@ -378,17 +378,20 @@ create table totxegun.corrections (
     hour integer not null,
     value bigint not null,
     reason text not null,
+    late_key text not null,
     who text not null,
     made_at timestamptz not null default clock_timestamp(),
-    unique (series, of_hour, value, reason)
+    unique (series, of_hour, value, reason, late_key)
 );
-comment on table totxegun.corrections is 'A row for each correction: nothing that was counted is changed by it';
+create unique index correction_of_late_data on totxegun.corrections (late_key) where late_key <> '';
+comment on table totxegun.corrections is 'A row for each adjustment by hand: nothing that was counted is changed by it';
 comment on column totxegun.corrections.id is 'In the order in which they were made';
 comment on column totxegun.corrections.series is 'Whose it is';
 comment on column totxegun.corrections.of_hour is 'To which hour it belongs, in hours since 1970';
 comment on column totxegun.corrections.hour is 'In which it counts: a later one where its own was closed';
 comment on column totxegun.corrections.value is 'What is added; it may be below zero';
 comment on column totxegun.corrections.reason is 'As it was given';
+comment on column totxegun.corrections.late_key is 'Of late data that is booked by it, the key, and else empty';
 comment on column totxegun.corrections.who is 'Who made it';
 comment on column totxegun.corrections.made_at is 'When';
 

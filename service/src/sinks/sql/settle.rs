@@ -1,6 +1,6 @@
-//! Closes and opens periods of a database, and corrects what it has.
+//! Closes and opens periods of a database, and adjusts what it has.
 
-use crate::sinks::periods::{closed, Closed, Corrected, Correction, Deed, Period, Told};
+use crate::sinks::periods::{closed, Adjusted, Adjustment, Closed, Deed, Period, Told, Which};
 
 /// A transaction while periods are changed: no request is taken meanwhile.
 pub(in crate::sinks) trait Periods {
@@ -9,12 +9,23 @@ pub(in crate::sinks) trait Periods {
     async fn closed(&mut self) -> Result<Closed, Self::Fault>;
     async fn close(&mut self, who: &str, period: &Period) -> Result<(), Self::Fault>;
     async fn open(&mut self, period: &Period) -> Result<(), Self::Fault>;
-    /// Who has made the same correction before, and when, in seconds since 1970.
-    async fn made_before(&mut self, correction: &Correction) -> Result<Option<(String, i64)>, Self::Fault>;
-    /// What there is where a correction is asked for.
-    async fn corrected(&mut self, correction: &Correction) -> Result<Corrected, Self::Fault>;
-    /// Adds a correction, which counts in this hour.
-    async fn correct(&mut self, who: &str, correction: &Correction, hour: i64) -> Result<(), Self::Fault>;
+    /// The number of a series, if the sink has something of it.
+    async fn number(&mut self, series: &Which) -> Result<Option<i64>, Self::Fault>;
+    /// Who has made the same adjustment of this series before, and when, in seconds since 1970.
+    async fn made_before(
+        &mut self,
+        series: i64,
+        adjustment: &Adjustment,
+    ) -> Result<Option<(String, i64)>, Self::Fault>;
+    async fn adjusted(&mut self) -> Result<Adjusted, Self::Fault>;
+    /// Adds an adjustment of this series, which counts in this hour.
+    async fn adjust(
+        &mut self,
+        who: &str,
+        series: i64,
+        adjustment: &Adjustment,
+        hour: i64,
+    ) -> Result<(), Self::Fault>;
 }
 
 /// Carries a deed out, or leaves all as it was.
@@ -33,23 +44,28 @@ pub(in crate::sinks) async fn settle<P: Periods>(
             Err(told) => Ok(told),
             Ok(()) => periods.open(period).await.map(|()| Told::Done(all.opened(period))),
         },
-        Deed::Correct(correction) => correct(periods, &all, who, correction).await,
+        Deed::Adjust(adjustment) => adjust(periods, &all, who, adjustment).await,
     }
 }
 
-async fn correct<P: Periods>(
+async fn adjust<P: Periods>(
     periods: &mut P,
     all: &Closed,
     who: &str,
-    correction: &Correction,
+    adjustment: &Adjustment,
 ) -> Result<Told, P::Fault> {
-    if let Some((who, at)) = periods.made_before(correction).await? {
-        return Ok(correction.was_there(&who, at));
+    let Some(series) = periods.number(&adjustment.series).await? else {
+        return Ok(adjustment.has_no_series());
+    };
+    if let Some((who, at)) = periods.made_before(series, adjustment).await? {
+        return Ok(adjustment.was_there(&who, at));
     }
-    let counted_in = match correction.counted_in(&periods.corrected(correction).await?, all) {
+    let counted_in = match adjustment.counted_in(&periods.adjusted().await?, all) {
         Ok(hour) => hour,
         Err(told) => return Ok(told),
     };
-    periods.correct(who, correction, counted_in).await?;
-    Ok(correction.made(counted_in))
+    if !adjustment.is_dry {
+        periods.adjust(who, series, adjustment, counted_in).await?;
+    }
+    Ok(adjustment.made(series, counted_in))
 }

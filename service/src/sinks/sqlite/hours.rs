@@ -15,7 +15,7 @@ use std::sync::LazyLock;
 struct Table {
     buckets: String,
     add: String,
-    correct: String,
+    adjust: String,
     /// How a time is written.
     name: String,
 }
@@ -25,7 +25,7 @@ impl Table {
         Table {
             buckets: format!("select buckets from {time} where {time} = ?1 and metric = ?2 and series = ?3"),
             add: add(time, &[time, "metric", "series"]),
-            correct: correct_in(time, time, ", series, without_sum", ", series.id, 0"),
+            adjust: adjust_in(time, time, ", series, without_sum", ", series.id, 0"),
             name: format!("insert or ignore into utc_{time} values (?1, {written})"),
         }
     }
@@ -53,8 +53,8 @@ fn add(table: &str, key: &[&str]) -> String {
     )
 }
 
-/// Adds a correction (?3) of a series (?2), to a row that is made where nothing was counted.
-fn correct_in(table: &str, time: &str, more: &str, values: &str) -> String {
+/// Adds an adjustment (?3) of a series (?2), to a row that is made where nothing was counted.
+fn adjust_in(table: &str, time: &str, more: &str, values: &str) -> String {
     format!(
         "insert into {table} as old ({time}, metric, points, total_high, total_low, count_high, count_low{more}, corrections)
          select ?1, metric.id, 0, 0, 0, 0, 0{values}, ?3 from series join metric
@@ -173,14 +173,14 @@ fn add_found(transaction: &Transaction, found: &str, key: [i64; 3], sums: &mut S
     Ok(())
 }
 
-/// Adds a correction to an hour, its day and its month, whose rows are made where nothing was counted.
-pub(super) fn correct(transaction: &Transaction, series: i64, hour: i64, value: i64) -> rusqlite::Result<()> {
+/// Adds an adjustment to an hour, its day and its month, whose rows are made where nothing was counted.
+pub(super) fn adjust(transaction: &Transaction, series: i64, hour: i64, value: i64) -> rusqlite::Result<()> {
     let day = day_of(hour);
     for (table, time) in [(&HOUR, hour), (&DAY, day), (&MONTH, month_of(day))] {
-        transaction.execute(&table.correct, [time, series, value])?;
+        transaction.execute(&table.adjust, [time, series, value])?;
         transaction.execute(&table.name, [time])?;
     }
-    let of_metric = correct_in("metric_hour", "hour", "", "");
+    let of_metric = adjust_in("metric_hour", "hour", "", "");
     transaction.execute(&of_metric, [hour, series, value]).map(drop)
 }
 

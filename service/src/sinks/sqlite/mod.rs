@@ -9,7 +9,7 @@ pub mod export;
 mod fault;
 mod horizon;
 mod hours;
-mod periods;
+pub mod periods;
 mod schema;
 mod series_row;
 mod store;

@@ -1,10 +1,16 @@
-//! Periods that are closed, and corrections.
+//! Periods that are closed, and adjustments.
 
 use super::cached;
+use super::fault::Fault;
 use super::hours;
-use crate::sinks::periods::{Closed, Corrected, Correction, Period, Row};
+use super::schema;
+use super::series_row::SeriesRow;
+use super::totals::open;
+use crate::sinks::periods::{Adjusted, Adjustment, Closed, Period, Row, Which};
 use crate::sinks::sql;
 use rusqlite::{params, Error, Result, Transaction};
+use std::collections::HashSet;
+use std::path::Path;
 
 /// What is closed, as a transaction sees it.
 pub(super) fn read(transaction: &Transaction) -> Result<Closed> {
@@ -27,6 +33,23 @@ pub(super) fn read(transaction: &Transaction) -> Result<Closed> {
     Ok(Closed { rows, now: now / 3600 })
 }
 
+/// The keys of late data that is booked; none while there is no file.
+pub fn booked(path: &Path) -> anyhow::Result<HashSet<String>> {
+    if !path.exists() {
+        return Ok(HashSet::new());
+    }
+    let keys = || -> std::result::Result<_, Fault> {
+        let connection = open(path)?;
+        if !schema::check(&connection)? {
+            return Ok(HashSet::new());
+        }
+        let mut query = connection.prepare("select late_key from corrections where late_key <> ''")?;
+        let keys = query.query_map([], |row| row.get(0))?;
+        Ok(keys.collect::<Result<_>>()?)
+    };
+    keys().map_err(|fault| fault.at(path))
+}
+
 pub(super) struct Periods<'a>(pub(super) Transaction<'a>);
 
 impl sql::Periods for Periods<'_> {
@@ -47,27 +70,33 @@ impl sql::Periods for Periods<'_> {
         self.0.execute("delete from closed where from_hour = ?1 and to_hour = ?2", row).map(drop)
     }
 
-    async fn made_before(&mut self, correction: &Correction) -> Result<Option<(String, i64)>> {
-        let Correction { series, hour, value, reason } = correction;
-        let query = "select who, made_at from corrections where series = ?1 and of_hour = ?2 and value = ?3 and reason = ?4";
-        let row = params![series, hour.from, value, reason];
+    async fn number(&mut self, series: &Which) -> Result<Option<i64>> {
+        let number = match series {
+            Which::Number(number) => Some(*number),
+            Which::Identified(series) => SeriesRow::of(series).find(&self.0)?,
+        };
+        let has_points = "select series from series_total where series = ?1";
+        cached::find(&self.0, has_points, [number], |row| row.get(0))
+    }
+
+    async fn made_before(&mut self, series: i64, adjustment: &Adjustment) -> Result<Option<(String, i64)>> {
+        let Adjustment { hour, value, reason, late_key, .. } = adjustment;
+        let query = "select who, made_at from corrections where late_key = ?5 and (late_key <> ''
+            or (series = ?1 and of_hour = ?2 and value = ?3 and reason = ?4))";
+        let row = params![series, hour.from, value, reason, late_key];
         cached::find(&self.0, query, row, |row| Ok((row.get(0)?, row.get(1)?)))
     }
 
-    async fn corrected(&mut self, correction: &Correction) -> Result<Corrected> {
-        let query = "select exists (select 1 from metric cross join hour on hour.metric = metric.id where hour.hour = ?2 and series = ?1)
-                or exists (select 1 from late_hour where series = ?1 and of_hour = ?2),
-            (select coalesce(sum(abs(value)), 0) from corrections), hours_from from horizon";
-        cached::one(&self.0, query, [correction.series, correction.hour.from], |row| {
-            Ok(Corrected { is_there: row.get(0)?, so_far: row.get(1)?, hours_from: row.get(2)? })
-        })
+    async fn adjusted(&mut self) -> Result<Adjusted> {
+        let query = "select (select coalesce(sum(abs(value)), 0) from corrections), hours_from from horizon";
+        cached::one(&self.0, query, [], |row| Ok(Adjusted { so_far: row.get(0)?, hours_from: row.get(1)? }))
     }
 
-    async fn correct(&mut self, who: &str, correction: &Correction, hour: i64) -> Result<()> {
-        let insert = "insert into corrections (series, of_hour, hour, value, reason, who, made_at)
-            values (?1, ?2, ?3, ?4, ?5, ?6, cast(strftime('%s', 'now') as integer))";
-        let Correction { series, hour: of_hour, value, reason } = correction;
-        self.0.execute(insert, params![series, of_hour.from, hour, value, reason, who])?;
-        hours::correct(&self.0, *series, hour, *value)
+    async fn adjust(&mut self, who: &str, series: i64, adjustment: &Adjustment, hour: i64) -> Result<()> {
+        let insert = "insert into corrections (series, of_hour, hour, value, reason, late_key, who, made_at)
+            values (?1, ?2, ?3, ?4, ?5, ?6, ?7, cast(strftime('%s', 'now') as integer))";
+        let Adjustment { hour: of_hour, value, reason, late_key, .. } = adjustment;
+        self.0.execute(insert, params![series, of_hour.from, hour, value, reason, late_key, who])?;
+        hours::adjust(&self.0, series, hour, *value)
     }
 }

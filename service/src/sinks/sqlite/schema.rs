@@ -7,7 +7,7 @@ use rusqlite::{Connection, TransactionBehavior};
 const APPLICATION: i64 = 0x746f_7478;
 
 /// The version that this program reads and writes. Files of 1 to 5 have other tables.
-pub(super) const KNOWN: i64 = 10;
+pub(super) const KNOWN: i64 = 12;
 
 /// Makes the tables and views of an empty file.
 pub(super) fn make(connection: &mut Connection) -> Result<(), Fault> {

@@ -1,4 +1,4 @@
--- The schema of version 10. Whole numbers that an integer of SQLite holds are integers. Larger ones (times and counts from 2^63 on)
+-- The schema of version 12. Whole numbers that an integer of SQLite holds are integers. Larger ones (times and counts from 2^63 on)
 -- are texts of 20 digits, which SQLite sorts behind all integers. So columns of them have no type. Totals may be larger still:
 -- they are two integers, total = high * 1000000000000 + low, with 0 <= low < 1000000000000.
 --
@@ -364,14 +364,17 @@ create table corrections (
     hour integer not null,
     value integer not null,
     reason text not null,
+    late_key text not null,
     who text not null,
     made_at integer not null,
-    unique (series, of_hour, value, reason)
+    unique (series, of_hour, value, reason, late_key)
 );
+create unique index correction_of_late_data on corrections (late_key) where late_key <> '';
 insert into about values
-    ('corrections', '', 'A row for each correction: nothing that was counted is changed by it'),
+    ('corrections', '', 'A row for each adjustment by hand: nothing that was counted is changed by it'),
     ('corrections', 'hour', 'In which it counts: a later one where its own was closed'),
     ('corrections', 'id', 'In the order in which they were made'),
+    ('corrections', 'late_key', 'Of late data that is booked by it, the key, and else empty'),
     ('corrections', 'made_at', 'When, in seconds since 1970'),
     ('corrections', 'of_hour', 'To which hour it belongs, in hours since 1970'),
     ('corrections', 'reason', 'As it was given'),

@@ -1,5 +1,7 @@
 //! Posts with points that are late, another sender's or were taken before, in each place, beside a model that goes point by point.
 
+mod kept;
+
 use super::*;
 use crate::core::Core;
 use crate::files::test_random::TestRandom;
@@ -297,8 +299,9 @@ async fn the_journal_has_what_was_taken_alone() {
     let points = [(10, 5), (11, 6), (3, 7)];
     let points = points.map(|(start, value)| Point { series: ('A', 0), start, end: start + 1, value });
     let outcome = slot.post("A".into(), body(&points).into()).await;
-    let why = "1 point is refused: out of order: point 2, frontier 12: the post has `A0` {} twice over one time: give each \
-               process its own service.instance.id, each instrument its own name";
+    let why = "1 point is refused: out of order: point 2, frontier 12: the post has `A0` {} twice over one time, so \
+               1970-01-01T00:00:00.000000Z to 1970-01-01T00:00:00.000000Z is not counted: give each process its own \
+               service.instance.id, each instrument its own name";
     assert_eq!((outcome.status(), outcome.message().as_deref()), (200, Some(why)));
     let mut found = Vec::new();
     slot.journal.write_all().unwrap();
@@ -332,11 +335,12 @@ async fn each_reason_is_told_with_its_first_point() {
     ];
     let outcome = posted(&slot, 'A', body(&points), false).await;
     let Outcome::Taken { rejected, .. } = &outcome else { panic!("{outcome:?}") };
-    let why = "2 points are refused: other writer: point 1: `B1` {} is another sender's: give each process its own \
-               service.instance.id; 2 points are refused: out of order: point 2, frontier 11: `A1` {} begins before \
-               1970-01-01T00:00:00.000000Z, up to where it was taken, and is no repeat of the last two posts: set the sender's clock, or \
-               give each process its own service.instance.id";
-    assert_eq!((*rejected, outcome.message().as_deref()), (4, Some(why)));
+    let why = "2 points are refused: other writer: point 1: `B1` {} is another sender's, so BEGIN to BEGIN is not counted: give each \
+               process its own service.instance.id; 2 points are refused: out of order: point 2, frontier 11: `A1` {} begins before \
+               BEGIN, up to where it was taken, and is no repeat of the last two posts, so BEGIN to BEGIN is not counted: set the \
+               sender's clock, or give each process its own service.instance.id";
+    let why = why.replace("BEGIN", "1970-01-01T00:00:00.000000Z");
+    assert_eq!((*rejected, outcome.message()), (4, Some(why)));
 }
 
 type Shape = (u16, u64, Vec<(u64, Reason, Option<RejectedPoint>)>);

@@ -2,7 +2,7 @@
 //! `service/tests/postgres/periods.rs`.
 
 use super::*;
-use crate::sinks::periods::Correction;
+use crate::sinks::periods::{Adjustment, Which};
 
 const HOUR: u64 = 3_600_000_000_000;
 /// 2024-02-29 22:00.
@@ -17,6 +17,17 @@ impl Trial {
     }
 }
 
+fn by_hand(series: i64, hour: &str, value: i64) -> Adjustment {
+    Adjustment {
+        series: Which::Number(series),
+        hour: hour.parse().expect("an hour"),
+        value,
+        reason: "by hand".into(),
+        late_key: String::new(),
+        is_dry: false,
+    }
+}
+
 fn now() -> u64 {
     let since = SystemTime::now().duration_since(UNIX_EPOCH);
     since.expect("a clock").as_secs() / 3600
@@ -28,16 +39,9 @@ fn steps(trial: &mut Trial) {
     trial.done(Deed::Close(leap_day()));
     trial.taken(2, sum("a", OLD + HOUR, OLD + 2 * HOUR, 7));
     trial.taken(3, sum("a", OLD + 2 * HOUR, OLD + 3 * HOUR, 11));
-    let correction = |hour: &str, value| {
-        Deed::Correct(Correction {
-            series: 1,
-            hour: hour.parse().expect("an hour"),
-            value,
-            reason: "by hand".into(),
-        })
-    };
-    trial.done(correction("2024-02-29T22", -2));
-    trial.done(correction("2024-03-01T00", 3));
+    let adjustment = |hour: &str, value| Deed::Adjust(by_hand(1, hour, value));
+    trial.done(adjustment("2024-02-29T22", -2));
+    trial.done(adjustment("2024-03-01T00", 3));
     trial.taken(6, histogram("h", OLD, OLD + 9, Some(5), [1, 2, 3]));
     trial.done(Deed::Open(leap_day()));
     // As one that was put aside.
@@ -118,7 +122,7 @@ fn what_came_late_is_in_one_hour_and_says_whose_it_is() {
 
 /// Else it is said to be done, and is on no bill: that hour is in no view for long, nor is its month.
 #[test]
-fn an_hour_that_is_deleted_is_corrected_only_while_it_is_closed() {
+fn an_hour_that_is_deleted_is_adjusted_only_while_it_is_closed() {
     let mut trial = Trial::new();
     let day = || "2024-02-29".parse().expect("a day");
     trial.taken(1, sum("a", OLD, OLD + 9, 5));
@@ -128,20 +132,17 @@ fn an_hour_that_is_deleted_is_corrected_only_while_it_is_closed() {
     trial.taken(3, sum("b", now() * HOUR - 1, now() * HOUR, 0));
     trial.keep(A_DAY);
     trial.keep_up(now() * HOUR);
-    let correct = || {
-        let hour = "2024-02-29T23".parse().expect("an hour");
-        Deed::Correct(Correction { series: 1, hour, value: -2, reason: "by hand".into() })
-    };
-    let told = trial.writer.settle("alice", &correct());
-    let part = "has nothing in 2024-02-29 23:00";
+    let adjust = || Deed::Adjust(by_hand(1, "2024-02-29T23", -2));
+    let told = trial.writer.settle("alice", &adjust());
+    let part = "were deleted (--keep-hours), so no view would have it in 2024-02-29 23:00";
     assert!(matches!(&told, Told::Refused(why) if why.contains(part)), "{told:?}");
     let billed = "select count(distinct name), sum(total), sum(corrections) from by_";
     for view in ["hour", "day", "month"] {
         assert_eq!(trial.ask(&format!("{billed}{view}")), "2|7|0", "{view}");
     }
-    // What is closed is corrected where that counts.
+    // What is closed is adjusted where that counts.
     trial.done(Deed::Close(day()));
-    trial.done(correct());
+    trial.done(adjust());
     for view in ["hour", "day", "month"] {
         assert_eq!(trial.ask(&format!("{billed}{view}")), "2|7|-2", "{view}");
     }
@@ -191,13 +192,8 @@ fn what_is_billed_is_exact() {
     for (number, value) in [(1, i64::MAX), (2, i64::MAX), (3, i64::MIN)] {
         trial.taken(number, sum(&format!("m{number}"), OLD, OLD + 1, value));
         trial.taken(10 + number, sum(&format!("m{number}"), OLD + 1, OLD + 2, value));
-        let correction = Correction {
-            series: number as i64,
-            hour: "2024-02-29T22".parse().expect("an hour"),
-            value: [1, -(1 << 60), -7_000_000_000_001][number as usize - 1],
-            reason: "x".into(),
-        };
-        trial.done(Deed::Correct(correction));
+        let value = [1, -(1 << 60), -7_000_000_000_001][number as usize - 1];
+        trial.done(Deed::Adjust(by_hand(number as i64, "2024-02-29T22", value)));
     }
     let wanted = [
         2 * i128::from(i64::MAX) + 1,

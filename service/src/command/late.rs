@@ -1,0 +1,136 @@
+//! `totxegun late`: points that their series refused.
+
+use super::ask::{sender, Shown};
+use super::{amend, client, table::Table, values::counted, with_end};
+use crate::operate::Status;
+use anyhow::{Context, Result};
+use clap::Args;
+use hyper::Method;
+use percent_encoding::{utf8_percent_encode, NON_ALPHANUMERIC};
+use serde_json::{Map, Value};
+
+#[derive(Args)]
+pub struct Options {
+    /// Of series that are named so: NAME, NAME{key=value,..} or NAME{"key":"value",..}
+    #[arg(long, value_name = "SERIES", value_parser = amend::series)]
+    series: Option<String>,
+    /// Of this sender
+    #[arg(long, value_name = "NAME", value_parser = sender)]
+    sender: Option<String>,
+    /// For this reason: out_of_order, of a point that begins before its series ends, or other_writer
+    #[arg(long, value_name = "REASON")]
+    reason: Option<String>,
+    /// That ended after then, of UTC: 2026-11-05T13:30:15
+    #[arg(long, value_name = "TIME", value_parser = amend::time)]
+    since: Option<String>,
+    /// That began before then
+    #[arg(long, value_name = "TIME", value_parser = amend::time)]
+    until: Option<String>,
+    /// The last N
+    #[arg(long, value_name = "N", default_value_t = 1000, value_parser = clap::value_parser!(u32).range(1..=100_000))]
+    limit: u32,
+    #[command(flatten)]
+    shown: Shown,
+}
+
+impl Options {
+    pub fn run(self) -> Result<Vec<u8>> {
+        let mut path = format!("/late?limit={}", self.limit);
+        let Options { series, sender, reason, since, until, .. } = &self;
+        for (name, value) in
+            [("series", series), ("sender", sender), ("reason", reason), ("since", since), ("until", until)]
+        {
+            if let Some(value) = value {
+                path += &format!("&{name}={}", utf8_percent_encode(value, NON_ALPHANUMERIC));
+            }
+        }
+        let body = client::ask(&self.shown.at, Method::GET, &path)?;
+        if let Ok(status) = client::status(&self.shown.at) {
+            tell_of_others(&status);
+        }
+        match self.shown.form.json {
+            true => Ok(with_end(body)),
+            false => Ok(table(&serde_json::from_slice(&body).context(client::OTHER_VERSION)?).into()),
+        }
+    }
+}
+
+/// Each instance has what it refused itself.
+fn tell_of_others(status: &Status) {
+    let cluster = status.cluster.iter();
+    let others = cluster.flat_map(|of| of.instances.iter().filter(|one| one.name != of.instance));
+    let others: Vec<&str> = others.map(|one| one.name.as_str()).collect();
+    if !others.is_empty() {
+        crate::complain(format_args!(
+            "these are what this instance refused: ask {} too, by --operate",
+            others.join(", ")
+        ));
+    }
+}
+
+fn table(late: &Value) -> String {
+    let points = late["points"].as_array().map(Vec::as_slice).unwrap_or_default();
+    if points.is_empty() {
+        return "no point that a series refused is kept\n".into();
+    }
+    let mut table = Table::new(&[
+        "key",
+        "refused",
+        "sender",
+        "reason",
+        "series",
+        "from",
+        "to",
+        "value",
+        "the series has",
+    ]);
+    for point in points {
+        let text = |name: &str| point[name].as_str().unwrap_or_default().to_string();
+        table.row(&[
+            text("key"),
+            text("refused_at"),
+            text("sender"),
+            text("reason"),
+            named(point),
+            text("start"),
+            text("end"),
+            value(point),
+            what_the_series_has(point),
+        ]);
+    }
+    let more = late["more"].as_u64().filter(|more| *more > 0);
+    let more = more.map_or_else(String::new, |more| {
+        format!("and {} before these: --limit, --since and --until have them\n", counted(more, "point"))
+    });
+    format!("{table}{more}")
+}
+
+fn named(point: &Value) -> String {
+    let parts = ["resource", "attributes"].into_iter().filter_map(|part| point[part].as_object());
+    let both: Map<String, Value> = parts.flatten().map(|(key, value)| (key.clone(), value.clone())).collect();
+    let name = point["name"].as_str().unwrap_or_default();
+    match both.is_empty() {
+        true => name.to_string(),
+        false => format!("{name}{}", Value::Object(both)),
+    }
+}
+
+fn value(point: &Value) -> String {
+    let value = match &point["value"] {
+        Value::Null if point["sum"].is_null() => format!("{} values", point["count"]),
+        Value::Null => format!("{} in {} values", point["sum"], point["count"]),
+        value => value.to_string(),
+    };
+    match point["temporality"].as_str() {
+        Some("cumulative") => format!("{value} since its start"),
+        _ => value,
+    }
+}
+
+fn what_the_series_has(point: &Value) -> String {
+    match (point["series_end"].as_str(), point["series_sender"].as_str()) {
+        (Some(end), _) => format!("all until {end}"),
+        (None, Some(sender)) => format!("is {sender}'s"),
+        (None, None) => "is another's".into(),
+    }
+}

@@ -1,0 +1,164 @@
+//! The files of late data: lines of JSON in segments, of which the oldest goes when all together are too long. One that ends within
+//! a line, as after a kill or on a full disk, gets an end of line before the next one.
+
+use super::LatePoint;
+use std::collections::VecDeque;
+use std::fs::{File, OpenOptions};
+use std::io::{BufRead, BufReader, Error, ErrorKind, Read, Result, Seek, SeekFrom, Write};
+use std::os::unix::fs::{DirBuilderExt, OpenOptionsExt};
+use std::path::{Path, PathBuf};
+
+/// So many segments have all that is kept: with the oldest so much of it goes.
+const SEGMENTS: u64 = 8;
+const SUFFIX: &str = ".jsonl";
+
+/// A segment, by its number, and how long it is.
+type Segment = (u64, u64);
+
+pub(super) struct Segments {
+    folder: PathBuf,
+    max_bytes: u64,
+    /// The oldest first; lines go to the last one.
+    all: VecDeque<Segment>,
+    /// The last one.
+    file: Option<File>,
+}
+
+impl Segments {
+    pub fn new(folder: PathBuf, max_bytes: u64) -> Segments {
+        let all = listed(&folder).unwrap_or_default();
+        Segments { folder, max_bytes, all, file: None }
+    }
+
+    pub fn folder(&self) -> &Path {
+        &self.folder
+    }
+
+    pub fn bytes(&self) -> u64 {
+        self.all.iter().map(|(_, bytes)| bytes).sum()
+    }
+
+    /// Puts these lines behind the others, each with its end of line. After an error some of them may be there.
+    pub fn append(&mut self, lines: &[Vec<u8>]) -> Result<()> {
+        let mut left = lines;
+        while let Some(first) = left.first() {
+            let room = self.room(first.len() as u64)?;
+            let (mut part, mut count) = (Vec::new(), 0);
+            while let Some(line) =
+                left.get(count).filter(|line| count == 0 || (part.len() + line.len()) as u64 <= room)
+            {
+                part.extend_from_slice(line);
+                count += 1;
+            }
+            self.write(&part)?;
+            left = &left[count..];
+        }
+        Ok(())
+    }
+
+    /// How many bytes the last segment still takes; a new one is begun if that is less than these.
+    fn room(&mut self, bytes: u64) -> Result<u64> {
+        let of_one = self.max_bytes / SEGMENTS;
+        if bytes > of_one {
+            return Err(Error::other("a point is longer than an eighth of --max-late"));
+        }
+        let last = self.all.back().copied().filter(|(_, length)| length + bytes <= of_one);
+        if let Some((_, length)) = last {
+            return Ok(of_one - length);
+        }
+        self.file = None;
+        let number = self.all.back().map_or(1, |(number, _)| number + 1);
+        self.all.push_back((number, 0));
+        while self.bytes() + of_one > self.max_bytes && self.all.len() > 1 {
+            let (oldest, _) = self.all[0];
+            match std::fs::remove_file(path(&self.folder, oldest)) {
+                Err(error) if error.kind() != ErrorKind::NotFound => {
+                    self.all.pop_back();
+                    return Err(error);
+                }
+                _ => drop(self.all.pop_front()),
+            }
+        }
+        Ok(of_one)
+    }
+
+    fn write(&mut self, part: &[u8]) -> Result<()> {
+        let written = self.try_write(part);
+        if written.is_err() {
+            self.file = None; // which may end within a line
+        }
+        written
+    }
+
+    fn try_write(&mut self, part: &[u8]) -> Result<()> {
+        let Some((number, length)) = self.all.back_mut() else { return Ok(()) };
+        let file = match &mut self.file {
+            Some(file) => file,
+            none => none.insert(open(&self.folder, *number)?),
+        };
+        let written = file.write_all(part);
+        *length = file.metadata()?.len();
+        written
+    }
+}
+
+/// Opens a segment, whose last line has its end.
+fn open(folder: &Path, number: u64) -> Result<File> {
+    std::fs::DirBuilder::new().recursive(true).mode(0o700).create(folder)?;
+    let mut options = OpenOptions::new();
+    let mut file = options.read(true).append(true).create(true).mode(0o600).open(path(folder, number))?;
+    if file.metadata()?.len() > 0 {
+        let mut last = [0];
+        file.seek(SeekFrom::End(-1))?;
+        file.read_exact(&mut last)?;
+        if last != *b"\n" {
+            file.write_all(b"\n")?;
+        }
+    }
+    Ok(file)
+}
+
+fn path(folder: &Path, number: u64) -> PathBuf {
+    folder.join(format!("{number:010}{SUFFIX}"))
+}
+
+/// The segments of a folder, the oldest first.
+fn listed(folder: &Path) -> Result<VecDeque<Segment>> {
+    let mut all = Vec::new();
+    for entry in std::fs::read_dir(folder)? {
+        let entry = entry?;
+        let name = entry.file_name();
+        let number = name.to_str().and_then(|name| name.strip_suffix(SUFFIX)?.parse().ok());
+        if let Some(number) = number {
+            all.push((number, entry.metadata()?.len()));
+        }
+    }
+    all.sort_unstable();
+    Ok(all.into())
+}
+
+/// Shows each point, the oldest first. What is no such line is passed over, and a segment that has gone meanwhile.
+pub(super) fn read(
+    folder: &Path,
+    may_be: impl Fn(&[u8]) -> bool,
+    mut each: impl FnMut(LatePoint),
+) -> Result<()> {
+    let all = match listed(folder) {
+        Err(error) if error.kind() == ErrorKind::NotFound => return Ok(()),
+        all => all?,
+    };
+    for (number, _) in all {
+        let file = match File::open(path(folder, number)) {
+            Err(error) if error.kind() == ErrorKind::NotFound => continue,
+            file => file?,
+        };
+        let (mut file, mut line) = (BufReader::new(file), Vec::new());
+        while file.read_until(b'\n', &mut line)? > 0 {
+            if may_be(&line) {
+                serde_json::from_slice(&line).into_iter().for_each(&mut each);
+            }
+            line.clear();
+        }
+    }
+    Ok(())
+}
