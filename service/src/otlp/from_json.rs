@@ -39,10 +39,11 @@ impl Writer<'_> {
         let inside = self.out.text.len();
         let mut found: u32 = 0;
         for (name, member) in value.members().into_iter().flatten() {
-            let place = of.fields.iter().position(|field| field.name == name || field.proto_name == name);
-            let Some(place) = place else {
-                not_lost(of, &name, member)?;
-                continue;
+            let Some(place) = of.fields.iter().position(|field| field.is_named(&name)) else {
+                match of.lost_in_json(&name, member) {
+                    Some(lost) => return Err(refused(of, format_args!("{name} {}", lost.why))),
+                    None => continue, // another unknown name says nothing
+                }
             };
             let field = &of.fields[place];
             if found & (1 << place) != 0 {
@@ -184,22 +185,5 @@ fn temporality(value: Value<'_>) -> Option<i128> {
         Some("AGGREGATION_TEMPORALITY_CUMULATIVE") => Some(2),
         Some(_) => None,
         None => mapped_whole(value),
-    }
-}
-
-/// Whether a member of a name that no field has is passed over.
-pub fn says_nothing(of: &'static Message, name: &str, member: Value<'_>) -> bool {
-    not_lost(of, name, member).is_ok()
-}
-
-/// Refuses what a member of an unknown name has to say about points. Other unknown names are passed over.
-fn not_lost(of: &'static Message, name: &str, member: Value<'_>) -> Result<(), Refused> {
-    let is_empty = match member.elements() {
-        Some(mut elements) => elements.next().is_none(),
-        None => member.is_null(),
-    };
-    match of.refused.iter().find(|lost| lost.names.contains(&name)) {
-        Some(lost) if !is_empty => Err(refused(of, format_args!("{name} {}", lost.why))),
-        _ => Ok(()),
     }
 }

@@ -46,7 +46,7 @@ fn refused(message: &Message, what: impl std::fmt::Display) -> Refused {
 
 /// A part of a message that is there several times. To other readers of protobuf it is a message by itself, so a field
 /// that is cut at its end does not go on in the next part.
-pub(super) fn part<'a>(of: &Message, bytes: &'a [u8]) -> Result<&'a [u8], Refused> {
+fn part<'a>(of: &Message, bytes: &'a [u8]) -> Result<&'a [u8], Refused> {
     let mut fields = Fields::of(bytes);
     let whole = fields.try_for_each(|field| field.map(drop));
     whole.map_err(|malformed| refused(of, malformed))?;
@@ -161,8 +161,10 @@ impl<'a, 'r> Writer<'a, 'r> {
             let Some(next) = fields.next() else { return Ok(()) };
             let (number, payload) = next.map_err(|malformed| refused(of, malformed))?;
             let Some(place) = of.fields.iter().position(|field| u32::from(field.number) == number) else {
-                not_lost(of, number)?;
-                continue;
+                match of.lost(number) {
+                    Some(lost) => return Err(refused(of, format_args!("{} {}", lost.names[0], lost.why))),
+                    None => continue, // another unknown field says nothing
+                }
             };
             let field = &of.fields[place];
             if !is_payload_of(field.kind, payload) {
@@ -371,12 +373,4 @@ impl<'a, 'r> Writer<'a, 'r> {
 fn signed(bits: u64) -> i32 {
     let bits = bits as u32; // of more a reader keeps these
     (bits >> 1) as i32 ^ -((bits & 1) as i32)
-}
-
-/// Refuses a field that is not in the table and would be lost in silence.
-fn not_lost(of: &'static Message, number: u32) -> Result<(), Refused> {
-    match of.refused.iter().find(|lost| lost.number == number) {
-        Some(lost) => Err(refused(of, format_args!("{} {}", lost.names[0], lost.why))),
-        None => Ok(()),
-    }
 }

@@ -1,12 +1,12 @@
 //! Requests and answers of OTLP, in protobuf and in JSON, and the series that a body has.
 //!
-//! `prepare` writes a request of either encoding as the book reads it: `from_protobuf` and `from_json` go
-//! by the tables of `schema`, over the readers `wire` and `json`; `json_fast_path` sees at once most JSON, which goes on as
-//! it came, and `plain_protobuf` most protobuf that the book's reader reads; `numbered` reads nearly all other protobuf without
-//! that, by the numbers of series that are known;
-//! `finer_units` takes fractions as whole numbers of a finer unit, `exponential` exponential histograms in given buckets. `series`
-//! reads bodies as the book does, and what it forwards. `sender` finds a request's sender in it, `sender_attributes` puts a sender's
-//! name into its resources.
+//! `schema` has OTLP's structure for both encodings, `wire` and `json` read them. `prepare` writes a request of either encoding as the
+//! book reads it (`from_protobuf`, `from_json`); `json_fast_path` sees at once most JSON, which goes on as it came; `plain_protobuf`
+//! most protobuf that the book's reader reads; `numbered` reads nearly all other protobuf without that, by the numbers of series that are known; `finer_units` takes fractions as whole numbers of a
+//! finer unit, `exponential` exponential histograms in given buckets. `series` reads bodies as the book does, and what it forwards,
+//! which `encoded` writes in protobuf.
+//! `request` is for whoever looks for something in a request as it came, or changes it: `sender` finds a request's sender in it,
+//! `sender_attributes` puts a sender's name into its resources.
 //! `outside` is what of a request is handed on to another receiver, `clock` which points end too far from the service's clock.
 //! `reason` has why something is not taken, `outcome` what became of a request, `answers` how that is written. `resources` says
 //! which slot a resource has and takes requests apart, `combined_outcome` is one answer of several.
@@ -16,6 +16,7 @@ mod causes;
 mod clock;
 mod combined_outcome;
 mod decimal;
+mod encoded;
 mod explain;
 mod exponential;
 mod finer_units;
@@ -31,6 +32,7 @@ mod output;
 mod outside;
 mod plain_protobuf;
 mod reason;
+mod request;
 mod resources;
 mod schema;
 mod sender;
@@ -117,6 +119,14 @@ impl Refused {
             Refused::NoSender(_) => Reason::NoSender,
             Refused::Unreadable(_) => Reason::Unreadable,
         }
+    }
+}
+
+/// Why who reads a request refuses it; none if it is read.
+fn refusal(encoding: Encoding, body: &[u8], reading: &Reading) -> Option<Refused> {
+    match encoding {
+        Encoding::Json => from_json::written(body, reading).err(),
+        Encoding::Protobuf => from_protobuf::written(body, reading).err(),
     }
 }
 

@@ -1,17 +1,18 @@
 //! What of a request is handed on to another receiver: the request as it came, with those points alone that are outside the
 //! profile and have nothing wrong. Resources, scopes and metrics keep whatever else they have, byte for byte.
 //!
-//! `visit` says of each point of the request in the book's form whether it is one; `protobuf` and `json` take these out of the
-//! request as it came, which has the same points in the same order.
-
-pub(super) mod json;
-pub(super) mod protobuf;
+//! `visit` says of each point of the request in the book's form whether it is one; these are taken out of the request as it
+//! came, which has the same points in the same order.
 
 use super::causes::Causes;
-use super::schema::{Field, METRIC};
+use super::request::{Edit, Node, Request};
+use super::schema::{
+    Field, Kind, Message, EXPONENTIAL_OF, GAUGE_OF, HISTOGRAM_OF, METRIC, REQUEST, SUMMARY_OF, SUM_OF,
+};
 use super::series::{visit_body, Profile};
 use super::{Encoding, Reason};
 use bytes::Bytes;
+use std::collections::VecDeque;
 
 /// A request as it came, unpacked.
 #[derive(Clone, Debug)]
@@ -29,16 +30,10 @@ pub struct Outside {
 }
 
 /// The kinds of data that have points, in the order in which a metric's are visited. The first are of no series.
-const KINDS: [&str; 5] = ["gauge", "exponentialHistogram", "summary", "sum", "histogram"];
+static KINDS: [&Field; 5] = [GAUGE_OF, EXPONENTIAL_OF, SUMMARY_OF, SUM_OF, HISTOGRAM_OF];
 const OF_NO_SERIES: usize = 3;
 /// Of these some may be taken: `--exponential`.
 const EXPONENTIAL: usize = 1;
-
-/// The place among these of a metric's field.
-fn kind_of(is_it: impl Fn(&Field) -> bool) -> Option<usize> {
-    let field = METRIC.fields.iter().find(|field| is_it(field))?;
-    KINDS.iter().position(|kind| *kind == field.name)
-}
 
 /// Says of each point in turn whether it is handed on, by the place of its kind.
 type Choose<'c> = dyn FnMut(usize) -> bool + 'c;
@@ -92,10 +87,11 @@ impl Original {
             points += u64::from(is_chosen);
             is_chosen
         };
-        let body = match self.encoding {
-            Encoding::Protobuf => protobuf::with(&self.body, &mut counted),
-            Encoding::Json => json::with(&self.body, &mut counted),
-        };
+        let body = Request::of(self.encoding, &self.body).ok().and_then(|request| {
+            let mut out = Vec::new();
+            let is_any = matches!(put(request.root(), &REQUEST, &mut out, &mut counted), Edit::Written);
+            is_any.then_some(out)
+        });
         (body, points)
     }
 
@@ -105,9 +101,68 @@ impl Original {
     }
 }
 
+/// Writes a message with the points that are chosen: left out if none is, or if it can't be read.
+fn put<'a>(message: Node<'a>, of: &'static Message, out: &mut Vec<u8>, choose: &mut Choose<'_>) -> Edit {
+    if std::ptr::eq(of, &METRIC) {
+        return put_metric(message, out, choose).unwrap_or(Edit::LeftOut);
+    }
+    let mut is_any = false;
+    let written = message.edited(of, out, &mut |field, inner, out| {
+        let edit = match field.kind {
+            Kind::Messages(inner_of) => put(inner, inner_of, out, choose),
+            _ => return Some(Edit::AsItCame),
+        };
+        is_any |= matches!(edit, Edit::Written);
+        Some(edit)
+    });
+    if written.is_some() && is_any {
+        Edit::Written
+    } else {
+        Edit::LeftOut
+    }
+}
+
+/// Its points are chosen in the order in which they are visited, and its kinds of data stay in theirs. None if it can't be read.
+fn put_metric<'a>(metric: Node<'a>, out: &mut Vec<u8>, choose: &mut Choose<'_>) -> Option<Edit> {
+    // Of each kind its parts, and what becomes of them, in order.
+    let mut parts: [Vec<Node<'a>>; KINDS.len()] = Default::default();
+    let place_of = |field| KINDS.iter().position(|kind| std::ptr::eq(*kind, field));
+    metric.edited(&METRIC, &mut Vec::new(), &mut |field, data, _| {
+        parts[place_of(field)?].push(data);
+        Some(Edit::LeftOut)
+    })?;
+    let mut chosen: [VecDeque<Option<Vec<u8>>>; KINDS.len()] = Default::default();
+    for (place, parts) in parts.into_iter().enumerate() {
+        chosen[place] =
+            parts.into_iter().map(|data| chosen_of(data, KINDS[place], &mut || choose(place))).collect();
+    }
+    chosen.iter().flatten().flatten().next()?;
+    metric.edited(&METRIC, out, &mut |field, _, out| {
+        Some(match chosen[place_of(field)?].pop_front().flatten() {
+            Some(data) => {
+                out.extend_from_slice(&data);
+                Edit::Written
+            }
+            None => Edit::LeftOut,
+        })
+    })?;
+    Some(Edit::Written)
+}
+
+/// A metric's data with the points that are chosen; nothing if none is.
+fn chosen_of(data: Node<'_>, kind: &Field, choose: &mut dyn FnMut() -> bool) -> Option<Vec<u8>> {
+    let (mut out, mut is_any) = (Vec::new(), false);
+    data.edited(kind.message()?, &mut out, &mut |_, _, _| {
+        let is_chosen = choose();
+        is_any |= is_chosen;
+        Some(if is_chosen { Edit::AsItCame } else { Edit::LeftOut })
+    })?;
+    is_any.then_some(out)
+}
+
 /// Whether a point is handed on, by the kind of its metric's data, and by why it is foreign.
 pub fn is_passed(kind: &str, cause: Option<Reason>) -> bool {
-    let is_of_no_series = KINDS[..OF_NO_SERIES].contains(&kind);
+    let is_of_no_series = KINDS[..OF_NO_SERIES].iter().any(|other| other.name == kind);
     is_of_no_series || cause.is_some_and(Reason::is_passed)
 }
 

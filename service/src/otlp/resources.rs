@@ -4,17 +4,15 @@
 //! their resource was written, and whoever sends them. What can't be read as a resource is slot 0's, which refuses it; so is
 //! a request that can't be taken apart.
 
-use super::from_json;
-use super::json::{Document, Value};
-use super::schema::REQUEST;
+use super::json::Document;
+use super::request::{request_of, Node, Request};
+use super::schema::{REQUEST, RESOURCES, RESOURCE_OF};
 use super::series::{self, SeriesKey};
-use super::wire::{field, fields, Payload};
 use super::{prepare, Encoding, Reading};
 use ahash::RandomState;
 use bytes::Bytes;
 use sha2::{Digest, Sha256};
 use std::collections::HashMap;
-use std::ops::Range;
 use std::sync::{Arc, PoisonError, RwLock};
 
 /// Whose is what can't be read.
@@ -79,8 +77,8 @@ struct Slots {
     bytes: usize,
 }
 
-/// A resource of a request: its slot, and where it is.
-type PlacedResource = (u16, Range<usize>);
+/// A resource of a request, with its metrics, and its slot.
+type PlacedResource<'b> = (u16, Node<'b>);
 
 impl Resources {
     pub fn new(slots: u16, reading: Arc<Reading>) -> Resources {
@@ -94,95 +92,51 @@ impl Resources {
 
     /// Takes a request apart.
     pub fn split(&self, encoding: Encoding, body: &Bytes) -> Split {
-        let found = match encoding {
-            Encoding::Protobuf => self.in_protobuf(body),
-            Encoding::Json => self.in_json(body),
-        };
-        let Some(found) = found else {
+        let request = Request::of(encoding, body).ok();
+        let Some(found) = request.as_ref().and_then(|request| self.found(encoding, request.root())) else {
             return Split::Whole(UNREAD);
         };
         let first = found.first().map_or(UNREAD, |(slot, _)| *slot);
         match found.iter().all(|(slot, _)| *slot == first) {
             true => Split::Whole(first),
-            false => Split::Parts(parts(encoding, body, &found)),
+            false => Split::Parts(parts(encoding, &found)),
         }
     }
 
     /// None of what is refused whole.
-    fn in_protobuf(&self, body: &[u8]) -> Option<Vec<PlacedResource>> {
-        let (mut found, mut at) = (Vec::new(), 0);
-        for (number, payload, raw) in fields(body)? {
-            let end = at + raw.len();
-            match payload {
-                Payload::Bytes(message) if number == 1 => found.push((self.of_message(message), at..end)),
-                _ if REQUEST.says_nothing(number) => {}
-                _ => return None,
-            }
-            at = end;
-        }
-        Some(found)
+    fn found<'b>(&self, encoding: Encoding, root: Node<'b>) -> Option<Vec<PlacedResource<'b>>> {
+        let elements = root.loses_nothing(&REQUEST).then(|| root.all(RESOURCES)).flatten()?;
+        elements.map(|element| Some((self.of_element(encoding, element)?, element))).collect()
     }
 
-    /// The slot of a message of a resource and its scopes.
-    fn of_message(&self, message: &[u8]) -> u16 {
-        let Some(all) = fields(message) else { return UNREAD };
-        let (mut resource, mut parts, mut times) = (&[][..], Vec::new(), 0);
-        for (_, payload, raw) in all.filter(|(number, ..)| *number == 1) {
-            let Payload::Bytes(bytes) = payload else { return UNREAD };
-            parts.extend_from_slice(raw);
-            (resource, times) = (bytes, times + 1);
-        }
-        let hashed = || self.hashed(Encoding::Protobuf, field(1, &parts).into());
-        match times {
-            0 | 1 => self.known[0].of(resource, hashed),
-            _ => hashed(), // it is there in parts
-        }
-    }
-
-    fn in_json(&self, body: &[u8]) -> Option<Vec<PlacedResource>> {
-        let document = Document::parse(body).ok()?;
-        let mut list = None;
-        for (name, value) in document.root().members()? {
-            match &*name {
-                "resourceMetrics" | "resource_metrics" if list.is_none() => list = Some(value),
-                "resourceMetrics" | "resource_metrics" => return None,
-                name => from_json::says_nothing(&REQUEST, name, value).then_some(())?,
-            }
-        }
-        let elements = match list {
-            Some(list) if !list.is_null() => list.elements()?,
-            _ => return Some(Vec::new()),
+    /// The slot of a resource with its metrics; none if that can be no message.
+    fn of_element(&self, encoding: Encoding, element: Node<'_>) -> Option<u16> {
+        let Some(mut parts) = element.all(RESOURCE_OF) else {
+            return element.may_be_message().then_some(UNREAD);
         };
-        let found = elements.map(|element| {
-            drop(element.members()?);
-            Some((self.of_element(element), element.range()))
-        });
-        found.collect()
-    }
-
-    fn of_element(&self, element: Value<'_>) -> u16 {
-        let members = element.members().into_iter().flatten();
-        let mut own = members.filter(|(name, _)| name == "resource");
-        let resource = own.next().map_or("{}", |(_, resource)| resource.raw());
-        if own.next().is_some() {
-            return UNREAD; // it is there twice
-        }
-        let request = || format!(r#"{{"resourceMetrics":[{{"resource":{resource}}}]}}"#);
-        let hashed = || self.hashed(Encoding::Json, request().into());
-        self.known[1].of(resource.as_bytes(), hashed)
+        let (first, second) = (parts.next(), parts.next());
+        let hashed = || {
+            let own = std::iter::once(element.only(RESOURCE_OF));
+            self.hashed(encoding, request_of(encoding, RESOURCES, own))
+        };
+        let known = &self.known[usize::from(encoding == Encoding::Json)];
+        Some(match second {
+            None => known.of(first.map_or(&[], Node::raw), hashed),
+            Some(_) => hashed(), // it is there in parts
+        })
     }
 
     /// The slot of the one resource of a request.
-    fn hashed(&self, encoding: Encoding, request: Bytes) -> u16 {
+    fn hashed(&self, encoding: Encoding, request: Vec<u8>) -> u16 {
         let identity = || {
-            let prepared = prepare(encoding, request, &self.reading).ok()?;
+            let prepared = prepare(encoding, request.into(), &self.reading).ok()?;
             series::first_resource(&Document::parse(&prepared.body).ok()?)
         };
         identity().map_or(UNREAD, |resource| slot_of(&resource, self.slots))
     }
 }
 
-fn parts(encoding: Encoding, body: &Bytes, found: &[PlacedResource]) -> Vec<Part> {
+fn parts(encoding: Encoding, found: &[PlacedResource<'_>]) -> Vec<Part> {
     let mut parts: Vec<(u16, Vec<u32>)> = Vec::new();
     for (place, (slot, _)) in (0..).zip(found) {
         match parts.iter_mut().find(|(of, _)| of == slot) {
@@ -191,15 +145,8 @@ fn parts(encoding: Encoding, body: &Bytes, found: &[PlacedResource]) -> Vec<Part
         }
     }
     let made = parts.into_iter().map(|(slot, resources)| {
-        let raw = resources.iter().map(|place| &body[found[*place as usize].1.clone()]);
-        let body = match encoding {
-            Encoding::Protobuf => raw.collect::<Vec<&[u8]>>().concat(),
-            Encoding::Json => {
-                let elements = raw.collect::<Vec<&[u8]>>().join(&b',');
-                [br#"{"resourceMetrics":["#, &elements[..], b"]}"].concat()
-            }
-        };
-        Part { slot, body: body.into(), resources }
+        let own = resources.iter().map(|place| found[*place as usize].1.raw());
+        Part { slot, body: request_of(encoding, RESOURCES, own).into(), resources }
     });
     made.collect()
 }

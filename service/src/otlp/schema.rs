@@ -5,7 +5,10 @@
 //! here, or are only looked through. Fields of older versions that carried points or their identity are here
 //! to be refused.
 
+mod fields;
+
 use super::Reading;
+pub use fields::*;
 
 /// A line of a table.
 macro_rules! field {
@@ -31,15 +34,6 @@ pub struct Message {
     /// not here, since points of the others would be lost in silence: they are all written, and foreign.
     pub one_of: &'static [u8],
     pub refused: &'static [RefusedField],
-}
-
-impl Message {
-    /// Whether a field of this number is passed over in protobuf, whatever it is.
-    pub fn says_nothing(&self, number: u32) -> bool {
-        let of_table = self.fields.iter().map(|field| u32::from(field.number));
-        let mut own = of_table.chain(self.refused.iter().map(|lost| lost.number));
-        !own.any(|own| own == number)
-    }
 }
 
 pub struct Field {
@@ -165,7 +159,7 @@ pub static SCOPE_METRICS: Message = Message {
     ..PLAIN
 };
 
-static SCOPE: Message = Message {
+pub static SCOPE: Message = Message {
     name: "InstrumentationScope",
     fields: &[
         field!("name", "name", 1, Kind::Text),

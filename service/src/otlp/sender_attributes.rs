@@ -6,11 +6,12 @@
 //! - `--instance-from-sender`: the name that it posts under as `service.instance.id` of a resource that has none, so two processes
 //!   of one program that don't name themselves have series of their own.
 
-mod json;
-mod protobuf;
-
-use super::{from_json, from_protobuf, Encoding, Reading, Refused, NO_NAME};
+use super::request::{Edit, Node, Request};
+use super::schema::{ATTRIBUTES, KEY, REQUEST, RESOURCE, RESOURCE_METRICS, RESOURCE_OF, VALUE};
+use super::wire::field;
+use super::{refusal, Encoding, Reading, Refused, NO_NAME};
 use bytes::Bytes;
+use serde_json::json;
 
 pub const INSTANCE: &str = "service.instance.id";
 
@@ -73,45 +74,120 @@ pub fn with_sender_attributes(
 impl Attribute<'_> {
     /// The request with the attribute, and how many resources have got it.
     fn put(&self, encoding: Encoding, body: Bytes, reading: &Reading) -> Result<(Bytes, usize), Refused> {
-        let put = match encoding {
-            Encoding::Json => json::with(&body, self),
-            Encoding::Protobuf => protobuf::with(&body, self),
-        };
+        let mut putting =
+            Putting { attribute: self, encoding, written: self.written(encoding), places: 0, resources: 0 };
+        let put =
+            Request::of(encoding, &body).ok().and_then(|request| putting.request(request.root(), body.len()));
         match put {
-            Some((_, resources)) if resources > self.most() => Err(self.too_many()),
-            Some((put, resources)) if resources > 0 => Ok((put.into(), resources)),
+            _ if putting.places > self.most() => Err(self.too_many()),
+            Some(put) if putting.resources > 0 => Ok((put.into(), putting.resources)),
             None if self.own == Own::Replaced => Err(self.unreadable(encoding, &body, reading)),
             // Whoever reads it next says why it can't be read.
             _ => Ok((body, 0)),
         }
     }
 
-    /// How many resources may get it. After them none does.
+    fn written(&self, encoding: Encoding) -> Vec<u8> {
+        match encoding {
+            Encoding::Json => {
+                json!({"key": self.key, "value": {"stringValue": self.value}}).to_string().into()
+            }
+            Encoding::Protobuf => {
+                let value = field(1, self.value.as_bytes());
+                [field(KEY.number.into(), self.key.as_bytes()), field(VALUE.number.into(), &value)].concat()
+            }
+        }
+    }
+
+    /// In how many places it may be put. After them it is put nowhere.
     fn most(&self) -> usize {
         const AROUND: usize = 61;
         MOST_MORE / (self.key.len() + self.value.len() + AROUND)
     }
 
     fn too_many(&self) -> Refused {
+        let (most, key) = (self.most(), self.key);
         let which = match self.own {
-            Own::Kept => "without a",
-            Own::Replaced => "to give the sender's",
+            Own::Kept => format!("without a {key}"),
+            Own::Replaced => format!("to give the sender's {key}, or attributes of this key"),
         };
-        Refused::Unreadable(format!(
-            "over {} resources {which} {}: post fewer of them at a time",
-            self.most(),
-            self.key
-        ))
+        Refused::Unreadable(format!("over {most} resources {which}: post fewer of them at a time"))
     }
 
     /// As whoever reads the request would refuse it.
     fn unreadable(&self, encoding: Encoding, body: &[u8], reading: &Reading) -> Refused {
-        let refused = match encoding {
-            Encoding::Json => from_json::written(body, reading).err(),
-            Encoding::Protobuf => from_protobuf::written(body, reading).err(),
-        };
         let why =
             || format!("a resource's attributes can't be read, so it can't get the sender's {}", self.key);
-        refused.unwrap_or_else(|| Refused::Unreadable(why()))
+        refusal(encoding, body, reading).unwrap_or_else(|| Refused::Unreadable(why()))
+    }
+}
+
+/// Puts an attribute into a request.
+struct Putting<'p> {
+    attribute: &'p Attribute<'p>,
+    encoding: Encoding,
+    /// The attribute, as it stands in a list.
+    written: Vec<u8>,
+    /// Into how many places it was put: a resource may have its key many times, in some bytes each.
+    places: usize,
+    resources: usize,
+}
+
+impl Putting<'_> {
+    fn request(&mut self, root: Node<'_>, length: usize) -> Option<Vec<u8>> {
+        let mut out = Vec::with_capacity(length + 2 * self.written.len());
+        root.edited(&REQUEST, &mut out, &mut |_, element, out| match self.element(element, out) {
+            None if self.attribute.own == Own::Kept => Some(Edit::AsItCame),
+            edit => edit,
+        })?;
+        Some(out)
+    }
+
+    /// A resource with its metrics; none if it can't be read.
+    fn element(&mut self, element: Node<'_>, out: &mut Vec<u8>) -> Option<Edit> {
+        if self.places > self.attribute.most() {
+            return Some(Edit::AsItCame);
+        }
+        let mut has_own = false;
+        for resource in element.all(RESOURCE_OF)? {
+            for attribute in resource.all(ATTRIBUTES)? {
+                has_own |= self.is_own(attribute)?;
+            }
+        }
+        match (has_own, self.attribute.own) {
+            (true, Own::Kept) => return Some(Edit::AsItCame),
+            (true, Own::Replaced) => {
+                element.edited(&RESOURCE_METRICS, out, &mut |field, resource, out| {
+                    match std::ptr::eq(field, RESOURCE_OF) {
+                        true => {
+                            resource.edited(&RESOURCE, out, &mut |_, own, out| self.replaced(own, out))?
+                        }
+                        false => return Some(Edit::AsItCame),
+                    }
+                    Some(Edit::Written)
+                })?
+            }
+            (false, _) => {
+                self.places += 1;
+                let path = [RESOURCE_OF, ATTRIBUTES];
+                Node::with_first(Some(element), self.encoding, &path, &self.written, out)?;
+            }
+        }
+        self.resources += 1;
+        Some(Edit::Written)
+    }
+
+    fn replaced(&mut self, own: Node<'_>, out: &mut Vec<u8>) -> Option<Edit> {
+        if !self.is_own(own)? || self.places > self.attribute.most() {
+            return Some(Edit::AsItCame);
+        }
+        self.places += 1;
+        out.extend_from_slice(&self.written);
+        Some(Edit::Written)
+    }
+
+    /// Whether this is the attribute.
+    fn is_own(&self, attribute: Node<'_>) -> Option<bool> {
+        Some(attribute.bytes(KEY)? == self.attribute.key.as_bytes())
     }
 }

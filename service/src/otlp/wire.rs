@@ -101,6 +101,18 @@ pub fn put_field(out: &mut Vec<u8>, number: u32, bytes: &[u8]) {
     out.extend_from_slice(bytes);
 }
 
+/// A field that has a number of any length.
+pub fn put_varint(out: &mut Vec<u8>, number: u32, value: u64) {
+    prost::encoding::encode_key(number, prost::encoding::WireType::Varint, out);
+    prost::encoding::encode_varint(value, out);
+}
+
+/// A field of 8 bytes.
+pub fn put_fixed64(out: &mut Vec<u8>, number: u32, bits: u64) {
+    prost::encoding::encode_key(number, prost::encoding::WireType::SixtyFourBit, out);
+    out.extend_from_slice(&bits.to_le_bytes());
+}
+
 #[derive(Clone, Copy)]
 pub struct Fields<'a> {
     rest: &'a [u8],

@@ -3,20 +3,22 @@
 use super::levels::FOREIGN;
 use super::walk::Slow;
 use crate::otlp::number::whole_double;
+use crate::otlp::schema::{of_histogram, of_sum};
 use crate::otlp::wire::Fields;
 
 /// Passes a point's times, which are 0 where they are not there.
 #[inline]
 pub fn span(fields: &mut Fields<'_>) -> (u64, u64) {
-    let start = fields.fixed64(2).unwrap_or(0);
-    (start, fields.fixed64(3).unwrap_or(0))
+    let start = fields.fixed64(of_sum::START).unwrap_or(0);
+    (start, fields.fixed64(of_sum::END).unwrap_or(0))
 }
 
 /// Passes the least and the largest value, which say nothing.
 #[inline(always)]
 pub fn pass_extremes(fields: &mut Fields<'_>) {
-    let _ = fields.fixed64(11);
-    let _ = fields.fixed64(12);
+    for number in of_histogram::EXTREMES {
+        let _ = fields.fixed64(number);
+    }
 }
 
 /// That a histogram's point has a sum, as a word, and the sum; none of one that is not taken.
@@ -35,8 +37,8 @@ pub enum Number {
 /// Passes the value of a sum's point, if it is next.
 #[inline]
 pub fn number(fields: &mut Fields<'_>) -> Option<Number> {
-    let value = fields.fixed64(6).map(Number::Whole);
-    value.or_else(|| fields.fixed64(4).map(|bits| Number::Double(f64::from_bits(bits))))
+    let value = fields.fixed64(of_sum::INT).map(Number::Whole);
+    value.or_else(|| fields.fixed64(of_sum::DOUBLE).map(|bits| Number::Double(f64::from_bits(bits))))
 }
 
 /// Whether a point has a span.

@@ -6,6 +6,9 @@ use super::Learnt;
 use crate::otlp::finer_units::{rewritten, scale_of, shown_of, Scale, Scaled};
 use crate::otlp::from_protobuf;
 use crate::otlp::output::{self, Output};
+use crate::otlp::schema::{
+    of_histogram, of_sum, Field, METRICS, POINTS, RESOURCES, RESOURCE_OF, SCOPES, SCOPE_OF, TEMPORALITY,
+};
 use crate::otlp::wire::{field, Fields, Payload};
 use crate::otlp::{Profile, Reading};
 use bytes::Bytes;
@@ -63,7 +66,7 @@ impl Learner<'_> {
         own: Own<'_>,
         scale: Option<&Scale>,
     ) -> Result<u32, Slow> {
-        let written = self.written(path, &field(1, &point(own)))?;
+        let written = self.written(path, &field_of(POINTS, &point(own)))?;
         let text = match scale {
             Some(_) => self.in_finer(&written.text)?,
             None => written.text,
@@ -132,19 +135,24 @@ fn request(path: &Path<'_>, points: &[u8]) -> Vec<u8> {
             0 => Vec::new(),
             number => field(number, &[points, head.tail].concat()),
         };
-        field(2, &[head.before, &data].concat())
+        field_of(METRICS, &[head.before, &data].concat())
     });
-    let scope = path.scope.map_or_else(Vec::new, |scope| field(2, &[&field(1, scope), &metric[..]].concat()));
-    field(1, &[field(1, path.resource), scope].concat())
+    let scope = path
+        .scope
+        .map_or_else(Vec::new, |scope| field_of(SCOPES, &[&field_of(SCOPE_OF, scope), &metric[..]].concat()));
+    field_of(RESOURCES, &[field_of(RESOURCE_OF, path.resource), scope].concat())
+}
+
+fn field_of(of: &Field, bytes: &[u8]) -> Vec<u8> {
+    field(of.number.into(), bytes)
 }
 
 /// How a temporality is written; of several in a message the last counts.
-const DELTA: [u8; 2] = [TEMPORALITY << 3, 1];
-const TEMPORALITY: u8 = 2;
+const DELTA: [u8; 2] = [TEMPORALITY.number << 3, 1];
 
 fn temporality(tail: &[u8]) -> i128 {
     let own = |field| match field {
-        Ok((number, Payload::Varint(found))) if number == u32::from(TEMPORALITY) => Some(found as i32),
+        Ok((number, Payload::Varint(found))) if number == u32::from(TEMPORALITY.number) => Some(found as i32),
         _ => None,
     };
     Fields::of(tail).filter_map(own).last().unwrap_or(0).into()
@@ -160,12 +168,13 @@ fn as_delta(path: &Path<'_>, points: &[u8]) -> Vec<u8> {
 
 /// A point of a series that nothing is wrong with.
 fn point(own: Own<'_>) -> Vec<u8> {
-    let span = [fixed64(2, 1), fixed64(3, 2)].concat();
+    let span = [fixed64(of_sum::START, 1), fixed64(of_sum::END, 2)].concat();
     match own.bounds {
-        None => [&span, &fixed64(6, 0)[..], own.attributes].concat(),
+        None => [&span, &fixed64(of_sum::INT, 0)[..], own.attributes].concat(),
         Some(bounds) => {
             let buckets = vec![0; bounds.len() + 8];
-            [&span, &field(6, &buckets)[..], &field(7, bounds), own.attributes].concat()
+            let buckets = field(of_histogram::BUCKETS.into(), &buckets);
+            [&span, &buckets[..], &field(of_histogram::BOUNDS.into(), bounds), own.attributes].concat()
         }
     }
 }

@@ -9,19 +9,24 @@ use crate::files::Points;
 use crate::otlp::finer_units::{InFiner, RoundedPoint, Scale};
 use crate::otlp::from_protobuf::is_exemplar;
 use crate::otlp::output::LONGEST_LIST;
-use crate::otlp::schema::{Message, METRIC, REQUEST, RESOURCE_METRICS, SCOPE_METRICS};
+use crate::otlp::schema::{
+    of_histogram, of_sum, Field, Message, EXPONENTIAL_OF, GAUGE_OF, HISTOGRAM_OF, METRIC, METRICS, POINTS,
+    REQUEST, RESOURCES, RESOURCE_METRICS, RESOURCE_OF, SCOPES, SCOPE_METRICS, SCOPE_OF, SUMMARY_OF, SUM_OF,
+};
 use crate::otlp::wire::{is_sound, Fields, Payload};
 use crate::otlp::Rounded;
 use std::sync::atomic::Ordering::Relaxed;
 use std::sync::RwLockReadGuard;
 
 /// The fields of a metric that have points.
-const DATA: [u32; 5] = [5, SUM, HISTOGRAM, EXPONENTIAL, 11];
-const SUM: u32 = 7;
-const HISTOGRAM: u32 = 9;
-const EXPONENTIAL: u32 = 10;
-/// The field of points in each of them.
-const POINTS: u8 = 1;
+const DATA: [u32; 5] = [number_of(GAUGE_OF), SUM, HISTOGRAM, EXPONENTIAL, number_of(SUMMARY_OF)];
+const SUM: u32 = number_of(SUM_OF);
+const HISTOGRAM: u32 = number_of(HISTOGRAM_OF);
+const EXPONENTIAL: u32 = number_of(EXPONENTIAL_OF);
+
+const fn number_of(field: &Field) -> u32 {
+    field.number as u32
+}
 
 /// What most requests have more of for a word that is read of them, and for a point.
 const BYTES_OF_A_WORD: usize = 16;
@@ -134,7 +139,7 @@ impl<'b> Walk<'b> {
     }
 
     pub fn request(mut self, body: &'b [u8]) -> Result<Numbered, Slow> {
-        each(&REQUEST, 1, Fields::of(body), |resource| self.resource(resource))?;
+        each(&REQUEST, RESOURCES.number, Fields::of(body), |resource| self.resource(resource))?;
         let points = Points::new(self.words, self.ends).ok_or(Slow)?;
         Ok(Numbered {
             points,
@@ -146,20 +151,20 @@ impl<'b> Walk<'b> {
 
     fn resource(&mut self, message: &'b [u8]) -> Result<(), Slow> {
         let mut fields = Fields::of(message);
-        let resource = short(fields.bytes(1).unwrap_or_default())?;
+        let resource = short(fields.bytes(RESOURCE_OF.number).unwrap_or_default())?;
         self.path = Path { resource, ..Path::default() };
         let decides = self.learner.reading.finer_units.decides();
         let top = self.known_or(|levels| levels.top(decides), |learner, _| learner.top(decides))?;
         let level = self.level(top, resource)?;
-        each(&RESOURCE_METRICS, 2, fields, |scope| self.scope(level, scope))
+        each(&RESOURCE_METRICS, SCOPES.number, fields, |scope| self.scope(level, scope))
     }
 
     fn scope(&mut self, resource: Level, message: &'b [u8]) -> Result<(), Slow> {
         let mut fields = Fields::of(message);
-        let scope = short(fields.bytes(1).unwrap_or_default())?;
+        let scope = short(fields.bytes(SCOPE_OF.number).unwrap_or_default())?;
         (self.path.scope, self.path.head) = (Some(scope), None);
         let level = self.level(resource, scope)?;
-        each(&SCOPE_METRICS, 2, fields, |metric| self.metric(level, metric))
+        each(&SCOPE_METRICS, METRICS.number, fields, |metric| self.metric(level, metric))
     }
 
     fn metric(&mut self, scope: Level, metric: &'b [u8]) -> Result<(), Slow> {
@@ -182,9 +187,9 @@ impl<'b> Walk<'b> {
             return Err(Slow);
         }
         let mut behind = Fields::of(data);
-        let points = run(&mut behind, POINTS);
+        let points = run(&mut behind, POINTS.number);
         let tail = behind.rest();
-        if !behind.all(|field| matches!(field, Ok((number, _)) if number != u32::from(POINTS))) {
+        if !behind.all(|field| matches!(field, Ok((number, _)) if number != number_of(POINTS))) {
             return Err(Slow);
         }
         let head = Head { before: short(before)?, data: number, tail: short(tail)? };
@@ -235,7 +240,7 @@ impl<'b> Walk<'b> {
     fn points(&mut self, level: Level, data: u32, mut points: Fields<'b>) -> Result<(), Slow> {
         let scale = self.known.as_ref().and_then(|levels| levels.scale(level));
         let scale = scale.as_deref();
-        while let Some(point) = points.bytes(POINTS) {
+        while let Some(point) = points.bytes(POINTS.number) {
             match data {
                 SUM => self.sum(level, scale, point)?,
                 HISTOGRAM => self.histogram(level, scale, point)?,
@@ -252,10 +257,10 @@ impl<'b> Walk<'b> {
         let (start, end) = span(&mut fields);
         // Some encoders have it before the exemplars, some behind them, some last.
         let value = number(&mut fields);
-        self.exemplars(&mut fields, 5)?;
+        self.exemplars(&mut fields, of_sum::EXEMPLARS)?;
         let value = value.or_else(|| number(&mut fields));
-        let attributes = run(&mut fields, 7);
-        let flags = fields.number(8);
+        let attributes = run(&mut fields, of_sum::ATTRIBUTES);
+        let flags = fields.number(of_sum::FLAGS);
         let value = value.or_else(|| number(&mut fields));
         let own = Own { bounds: None, attributes };
         let number = self.series(level, own, scale, &fields)?;
@@ -280,16 +285,16 @@ impl<'b> Walk<'b> {
     fn histogram(&mut self, level: Level, scale: Option<&Scale>, point: &'b [u8]) -> Result<(), Slow> {
         let mut fields = Fields::of(point);
         let (start, end) = span(&mut fields);
-        let count = fields.fixed64(4).unwrap_or(0);
-        let sum = fields.fixed64(5).map(f64::from_bits);
+        let count = fields.fixed64(of_histogram::COUNT).unwrap_or(0);
+        let sum = fields.fixed64(of_histogram::SUM).map(f64::from_bits);
         // One kind of encoder has them here, another at the end.
         pass_extremes(&mut fields);
-        let buckets = eights(fields.bytes(6))?;
-        let bounds = fields.bytes(7).unwrap_or_default();
+        let buckets = eights(fields.bytes(of_histogram::BUCKETS))?;
+        let bounds = fields.bytes(of_histogram::BOUNDS).unwrap_or_default();
         let bound_count = eights(Some(bounds))?.len();
-        self.exemplars(&mut fields, 8)?;
-        let attributes = run(&mut fields, 9);
-        let flags = fields.number(10);
+        self.exemplars(&mut fields, of_histogram::EXEMPLARS)?;
+        let attributes = run(&mut fields, of_histogram::ATTRIBUTES);
+        let flags = fields.number(of_histogram::FLAGS);
         pass_extremes(&mut fields);
         let level = self.level_of_bounds(level, bounds)?;
         let own = Own { bounds: Some(bounds), attributes };

@@ -5,6 +5,7 @@ use crate::files::test_runs::runs;
 use crate::otlp::messages::*;
 use crate::otlp::tests::posted;
 use crate::otlp::tests::{Random, Spelling};
+use crate::otlp::wire::field;
 use prost::Message;
 use std::collections::BTreeMap;
 

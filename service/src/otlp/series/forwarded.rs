@@ -1,19 +1,12 @@
 //! Requests that the service forwards, read strictly: their bytes are the book's own (docs/FORMATS.md,
 //! "JSON that is written"), and parts of keys are copied from them.
 
-use super::identity::VALUES;
 use super::{ForwardedPoint, NotForwarded, SeriesKey, Value};
+use crate::otlp::encoded::put_message;
 use crate::otlp::json::{Document, Value as Json};
-use crate::otlp::messages::{
-    Any, AnyValue, ArrayValue, Data, ExportMetricsServiceRequest, Histogram, HistogramDataPoint,
-    InstrumentationScope, KeyValue, Metric, Number, NumberDataPoint, Resource, ResourceMetrics, ScopeMetrics,
-    Sum,
-};
 use crate::otlp::number::book_whole;
-use prost::Message;
+use crate::otlp::schema::REQUEST;
 use std::sync::Arc;
-
-const DELTA: i32 = 1;
 
 type ReadResult<T> = Result<T, NotForwarded>;
 
@@ -36,12 +29,9 @@ pub fn forwarded(body: &[u8]) -> ReadResult<Vec<ForwardedPoint>> {
 /// A forwarded request in protobuf.
 pub fn protobuf_of_forwarded(body: &[u8]) -> ReadResult<Vec<u8>> {
     let document = parsed(body)?;
-    let resource_metrics = all(document.root(), "resourceMetrics", |of_resource| {
-        let attributes = attributes(member(of_resource, "resource")?)?;
-        let scope_metrics = all(of_resource, "scopeMetrics", scope_message)?;
-        Ok(ResourceMetrics { resource: Some(Resource { attributes }), scope_metrics })
-    })?;
-    Ok(ExportMetricsServiceRequest { resource_metrics }.encode_to_vec())
+    let mut out = Vec::with_capacity(body.len() / 2);
+    put_message(&mut out, &REQUEST, document.root()).ok_or_else(|| missing("a field of a point"))?;
+    Ok(out)
 }
 
 fn missing(what: &str) -> NotForwarded {
@@ -82,11 +72,7 @@ fn number<T: TryFrom<i128>>(object: Json<'_>, name: &str) -> ReadResult<T> {
 }
 
 fn numbers<T: TryFrom<i128>>(object: Json<'_>, name: &str) -> ReadResult<Vec<T>> {
-    all(object, name, |element| whole(element, name))
-}
-
-fn text(object: Json<'_>, name: &str) -> ReadResult<String> {
-    member(object, name)?.text().map(String::from).ok_or_else(|| missing(name))
+    elements(object, name)?.map(|element| whole(element, name)).collect()
 }
 
 /// Whether a sum is monotonic.
@@ -115,92 +101,4 @@ fn add_points<'d>(points: &mut Vec<ForwardedPoint>, above: &str, metric: Json<'d
         let (count, buckets) = (number(point, "count")?, numbers(point, "bucketCounts")?);
         add(points, point, kind, Value::Histogram { count, sum, buckets })
     })
-}
-
-fn scope_message(of_scope: Json<'_>) -> ReadResult<ScopeMetrics> {
-    let scope = member(of_scope, "scope")?;
-    let metrics = all(of_scope, "metrics", metric_message)?;
-    let scope = InstrumentationScope {
-        name: text(scope, "name")?,
-        version: text(scope, "version")?,
-        attributes: attributes(scope)?,
-    };
-    Ok(ScopeMetrics { scope: Some(scope), metrics })
-}
-
-fn metric_message(metric: Json<'_>) -> ReadResult<Metric> {
-    let data = match optional(metric, "sum")? {
-        Some(sum) => Data::Sum(Sum {
-            data_points: all(sum, "dataPoints", sum_message)?,
-            aggregation_temporality: DELTA,
-            is_monotonic: is_monotonic(sum)?,
-        }),
-        None => Data::Histogram(Histogram {
-            data_points: all(member(metric, "histogram")?, "dataPoints", histogram_message)?,
-            aggregation_temporality: DELTA,
-        }),
-    };
-    Ok(Metric { name: text(metric, "name")?, unit: text(metric, "unit")?, data: Some(data) })
-}
-
-fn all<T>(object: Json<'_>, name: &str, one: impl Fn(Json<'_>) -> ReadResult<T>) -> ReadResult<Vec<T>> {
-    elements(object, name)?.map(one).collect()
-}
-
-fn sum_message(point: Json<'_>) -> ReadResult<NumberDataPoint> {
-    Ok(NumberDataPoint {
-        start_time_unix_nano: number(point, "startTimeUnixNano")?,
-        time_unix_nano: number(point, "timeUnixNano")?,
-        value: Some(Number::AsInt(number(point, "asInt")?)),
-        attributes: attributes(point)?,
-        flags: 0,
-    })
-}
-
-fn histogram_message(point: Json<'_>) -> ReadResult<HistogramDataPoint> {
-    // Bounds and sums are at most 2^53 in size, so each is a double as it is.
-    let double = |whole: i64| whole as f64;
-    let sum = optional(point, "sum")?.map(|sum| whole(sum, "sum")).transpose()?;
-    Ok(HistogramDataPoint {
-        start_time_unix_nano: number(point, "startTimeUnixNano")?,
-        time_unix_nano: number(point, "timeUnixNano")?,
-        count: number(point, "count")?,
-        sum: sum.map(double),
-        bucket_counts: numbers(point, "bucketCounts")?,
-        explicit_bounds: numbers(point, "explicitBounds")?.into_iter().map(double).collect(),
-        attributes: attributes(point)?,
-        flags: 0,
-    })
-}
-
-fn attributes(object: Json<'_>) -> ReadResult<Vec<KeyValue>> {
-    attributes_in(member(object, "attributes")?)
-}
-
-/// An attribute list in protobuf.
-pub(super) fn attributes_in(list: Json<'_>) -> ReadResult<Vec<KeyValue>> {
-    let pairs = list.elements().ok_or_else(|| missing("attributes"))?;
-    pairs
-        .map(|pair| Ok(KeyValue { key: text(pair, "key")?, value: Some(any(member(pair, "value")?)?) }))
-        .collect()
-}
-
-fn any(value: Json<'_>) -> ReadResult<AnyValue> {
-    let wrong = || missing("a single value");
-    let named = value.named(VALUES);
-    let value = match named.ok_or_else(wrong)? {
-        [None, None, None, None, None, None, None] => None,
-        [Some(text), None, None, None, None, None, None] => {
-            Some(Any::Text(text.text().ok_or_else(wrong)?.into()))
-        }
-        [None, Some(truth), None, None, None, None, None] => {
-            Some(Any::Bool(truth.truth().ok_or_else(wrong)?))
-        }
-        [None, None, Some(int), None, None, None, None] => Some(Any::Int(whole(int, "intValue")?)),
-        [None, None, None, Some(array), None, None, None] => {
-            Some(Any::Array(ArrayValue { values: all(array, "values", any)? }))
-        }
-        _ => return Err(wrong()),
-    };
-    Ok(AnyValue { value })
 }

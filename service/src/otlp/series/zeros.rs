@@ -1,26 +1,24 @@
 //! Points of value zero, which tell a fresh book whom each series belongs to and where its points begin: in protobuf, which the
 //! book reads sooner than JSON. One by itself, which names a series, is JSON.
 
-use super::forwarded::{attributes_in, parsed};
+use super::forwarded::parsed;
 use super::{kind_of, parts_in, Kind, NotForwarded, SeriesKey};
+use crate::otlp::encoded::{put_member, put_message};
 use crate::otlp::json::{Document, Value as Json};
-use crate::otlp::messages::{
-    Any, AnyValue, HistogramDataPoint, InstrumentationScope, KeyValue, Number, NumberDataPoint, Resource,
+use crate::otlp::schema::{
+    Field, Message, HISTOGRAM_OF, HISTOGRAM_POINT, METRIC, METRICS, NUMBER_POINT, POINTS, RESOURCE,
+    RESOURCES, RESOURCE_OF, SCOPE, SCOPES, SCOPE_OF, SUM_OF,
 };
-use crate::otlp::number::MAX_WHOLE_DOUBLE;
 use crate::otlp::wire::put_field;
-use prost::{encoding, Message};
 
 /// A body is not much longer, so that none takes long to read.
 const MOST: usize = 3 << 20;
 /// What the lengths of messages add, and their fields' numbers.
 const AROUND: usize = 64;
-/// As OTLP numbers temporalities.
-const DELTA: u64 = 1;
-/// The fields that resources have in a request, scopes in a resource, metrics in a scope; then a metric's data.
-const FIELDS: [u32; 3] = [1, 2, 2];
-const SUM: u32 = 7;
-const HISTOGRAM: u32 = 9;
+/// The lists of resources in a request, of scopes in a resource, of metrics in a scope.
+static LISTS: [&Field; 3] = [RESOURCES, SCOPES, METRICS];
+/// An attribute that no series may have: its value is of bytes.
+const FOREIGN: &[u8] = &[0x12, 2, 0x3a, 0];
 
 /// A point, with all that is above it.
 struct Zero<'d> {
@@ -37,7 +35,7 @@ struct Body {
     /// The request, and what its last resource, scope, metric and that one's data have so far.
     open: [Vec<u8>; 5],
     /// The field of that data.
-    data: u32,
+    data: Option<&'static Field>,
     /// What the last point's resource, scope and metric are, as a key says it.
     above: [String; 3],
 }
@@ -86,7 +84,7 @@ impl Body {
             self.begin(same, zero);
             self.above = above.map(String::from);
         }
-        put_field(&mut self.open[4], 1, point);
+        put_field(&mut self.open[4], POINTS.number.into(), point);
     }
 
     /// Ends the last metric, and what is above it, up to a level.
@@ -94,34 +92,27 @@ impl Body {
         if self.is_empty() {
             return;
         }
-        for level in (level..=FIELDS.len()).rev() {
+        for level in (level..=LISTS.len()).rev() {
             let ended = std::mem::take(&mut self.open[level + 1]);
-            let field = FIELDS.get(level).copied().unwrap_or(self.data);
-            put_field(&mut self.open[level], field, &ended);
+            if let Some(field) = LISTS.get(level).copied().or(self.data) {
+                put_field(&mut self.open[level], field.number.into(), &ended);
+            }
         }
     }
 
     /// Begins a metric, and what is above it, from a level on.
     fn begin(&mut self, level: usize, zero: &Zero) {
         let [_, resource, scope, metric, data] = &mut self.open;
-        let [of_resource, name, version, of_scope, of_metric, unit, ..] = zero.parts;
         if level == 0 {
-            encoding::message::encode(1, &Resource { attributes: attributes(of_resource) }, resource);
+            put_field(resource, RESOURCE_OF.number.into(), &said(&RESOURCE, "{}", Some(zero.parts[0])));
         }
         if level <= 1 {
-            let (name, version, attributes) = (text(name), text(version), attributes(of_scope));
-            encoding::message::encode(1, &InstrumentationScope { name, version, attributes }, scope);
+            put_field(scope, SCOPE_OF.number.into(), &said(&SCOPE, &zero.scope(), Some(zero.parts[3])));
         }
-        encoding::string::encode(1, &text(of_metric), metric);
-        encoding::string::encode(3, &text(unit), metric);
-        encoding::uint64::encode(2, &DELTA, data);
-        self.data = match zero.kind {
-            Kind::Histogram { .. } => HISTOGRAM,
-            _ => SUM,
-        };
-        if zero.kind == Kind::Monotonic {
-            encoding::bool::encode(3, &true, data);
-        }
+        let kind = zero.kind_of_data();
+        metric.extend(said(&METRIC, &zero.metric(), None));
+        data.extend(kind.message().map(|of| said(of, &zero.data(), None)).unwrap_or_default());
+        self.data = Some(kind);
     }
 
     fn finished(mut self) -> Vec<u8> {
@@ -151,76 +142,82 @@ impl<'d> Zero<'d> {
     }
 
     fn point(&self) -> Vec<u8> {
-        let (start_time_unix_nano, time_unix_nano, flags) = (self.start, self.end, 0);
-        let attributes = attributes(self.parts[7]);
-        match &self.kind {
-            Kind::Histogram { bounds } => HistogramDataPoint {
-                start_time_unix_nano,
-                time_unix_nano,
-                count: 0,
-                sum: Some(0.0),
-                bucket_counts: vec![0; bounds.len() + 1],
-                explicit_bounds: bounds.iter().map(|bound| double(*bound)).collect(),
-                attributes,
-                flags,
-            }
-            .encode_to_vec(),
-            Kind::Sum | Kind::Monotonic => NumberDataPoint {
-                start_time_unix_nano,
-                time_unix_nano,
-                value: Some(Number::AsInt(0)),
-                attributes,
-                flags,
-            }
-            .encode_to_vec(),
+        let of = if self.is_histogram() { &HISTOGRAM_POINT } else { &NUMBER_POINT };
+        said(of, &self.value(), Some(self.parts[7]))
+    }
+
+    fn is_histogram(&self) -> bool {
+        matches!(self.kind, Kind::Histogram { .. })
+    }
+
+    fn kind_of_data(&self) -> &'static Field {
+        if self.is_histogram() {
+            HISTOGRAM_OF
+        } else {
+            SUM_OF
         }
     }
 }
 
-/// In JSON.
+/// In JSON, without attributes.
 impl Zero<'_> {
-    fn request(&self) -> String {
-        let [resource, scope, version, of_scope, name, unit, bounds, attributes] = self.parts.map(Json::raw);
-        let (start, end) = (self.start, self.end);
-        let (data, says) = match &self.kind {
-            Kind::Histogram { bounds: all } => {
-                let buckets = vec!["\"0\""; all.len() + 1].join(",");
-                let zero = format!("\"count\":\"0\",\"sum\":0,\"bucketCounts\":[{buckets}]");
-                let head = "\"histogram\":{\"aggregationTemporality\":1".into();
-                (head, format!("{zero},\"explicitBounds\":{bounds}"))
-            }
+    fn scope(&self) -> String {
+        format!("{{\"name\":{},\"version\":{}}}", self.parts[1].raw(), self.parts[2].raw())
+    }
+
+    fn metric(&self) -> String {
+        format!("{{\"name\":{},\"unit\":{}}}", self.parts[4].raw(), self.parts[5].raw())
+    }
+
+    fn data(&self) -> String {
+        match &self.kind {
+            Kind::Histogram { .. } => "{\"aggregationTemporality\":1}".into(),
             sum => {
                 let is_monotonic = *sum == Kind::Monotonic;
-                let head = format!("\"sum\":{{\"aggregationTemporality\":1,\"isMonotonic\":{is_monotonic}");
-                (head, "\"asInt\":\"0\"".into())
+                format!("{{\"aggregationTemporality\":1,\"isMonotonic\":{is_monotonic}}}")
             }
+        }
+    }
+
+    fn value(&self) -> String {
+        let says = match &self.kind {
+            Kind::Histogram { bounds: all } => {
+                let buckets = vec!["\"0\""; all.len() + 1].join(",");
+                let bounds = self.parts[6].raw();
+                format!("\"count\":\"0\",\"sum\":0,\"bucketCounts\":[{buckets}],\"explicitBounds\":{bounds}")
+            }
+            _ => "\"asInt\":\"0\"".into(),
         };
-        let span = format!("\"startTimeUnixNano\":\"{start}\",\"timeUnixNano\":\"{end}\"");
-        let points = format!("[{{\"attributes\":{attributes},{span},{says}}}]");
-        let metrics = format!("[{{\"name\":{name},\"unit\":{unit},{data},\"dataPoints\":{points}}}}}]");
-        let scope = format!("{{\"name\":{scope},\"version\":{version},\"attributes\":{of_scope}}}");
-        let scopes = format!("[{{\"scope\":{scope},\"metrics\":{metrics}}}]");
-        let resource = format!("{{\"attributes\":{resource}}}");
-        format!("{{\"resourceMetrics\":[{{\"resource\":{resource},\"scopeMetrics\":{scopes}}}]}}")
+        format!("{{\"startTimeUnixNano\":\"{}\",\"timeUnixNano\":\"{}\",{says}}}", self.start, self.end)
+    }
+
+    /// A request of it alone.
+    fn request(&self) -> String {
+        let with = |object: String, member: &str, value: &str| match object.len() {
+            2 => format!("{{\"{member}\":{value}}}"),
+            length => format!("{},\"{member}\":{value}}}", &object[..length - 1]),
+        };
+        let with_list = |object, part: usize| with(object, "attributes", self.parts[part].raw());
+        let points = format!("[{}]", with_list(self.value(), 7));
+        let data = with(self.data(), POINTS.name, &points);
+        let metrics = format!("[{}]", with(self.metric(), self.kind_of_data().name, &data));
+        let scope = with("{}".into(), SCOPE_OF.name, &with_list(self.scope(), 3));
+        let resource = with("{}".into(), RESOURCE_OF.name, &with_list("{}".into(), 0));
+        let scopes = format!("[{}]", with(scope, LISTS[2].name, &metrics));
+        with("{}".into(), LISTS[0].name, &format!("[{}]", with(resource, LISTS[1].name, &scopes)))
     }
 }
 
-fn text(part: Json<'_>) -> String {
-    part.text().unwrap_or_default().into()
-}
-
-/// What no series may have is something else here that none may have.
-fn attributes(list: Json<'_>) -> Vec<KeyValue> {
-    let foreign = || {
-        let value = Some(AnyValue { value: Some(Any::Bytes(Vec::new())) });
-        vec![KeyValue { key: String::new(), value }]
-    };
-    attributes_in(list).unwrap_or_else(|_| foreign())
-}
-
-fn double(bound: i64) -> f64 {
-    match bound.unsigned_abs() <= MAX_WHOLE_DOUBLE {
-        true => bound as f64,
-        false => f64::NAN,
+/// A message in protobuf. What no series may have is something else here that none may have.
+fn said(of: &'static Message, text: &str, attributes: Option<Json<'_>>) -> Vec<u8> {
+    let mut out = Vec::new();
+    let _ = Document::parse(text.as_bytes()).map(|document| put_message(&mut out, of, document.root()));
+    if let (Some(list), Some(field)) = (attributes, of.named("attributes")) {
+        let before = out.len();
+        if put_member(&mut out, field, list).is_none() {
+            out.truncate(before);
+            put_field(&mut out, field.number.into(), FOREIGN);
+        }
     }
+    out
 }

@@ -168,6 +168,24 @@ fn a_request_of_very_many_resources_is_refused_by_name() {
     assert_eq!(named(Encoding::Protobuf, empty(10_000)).1, 10_000);
 }
 
+/// Else a few megabytes became nine times as many, which no budget has.
+#[test]
+fn a_resource_that_has_the_attribute_very_often_is_refused_by_name() {
+    let pairs = |count: usize| vec![r#"{"key":"posted.by"}"#; count].join(",");
+    let text =
+        |count| format!(r#"{{"resourceMetrics":[{{"resource":{{"attributes":[{}]}}}}]}}"#, pairs(count));
+    let binary = |count| bytes(1, &bytes(1, &bytes(1, &bytes(1, BY.as_bytes())).repeat(count)));
+    let both = |count| [(Encoding::Json, text(count).into_bytes()), (Encoding::Protobuf, binary(count))];
+    for (encoding, body) in both(100_000) {
+        let refused = proved(encoding, body).unwrap_err();
+        assert!(refused.contains("attributes of this key"), "{refused}");
+    }
+    for (encoding, body) in both(10_000) {
+        let length = body.len();
+        assert!(proved(encoding, body).unwrap().len() <= length + (1 << 20));
+    }
+}
+
 /// The same request as an honest sender would post it.
 fn honest(mut request: ExportMetricsServiceRequest) -> ExportMetricsServiceRequest {
     for one in &mut request.resource_metrics {
