@@ -16,6 +16,7 @@ mod protobuf;
 mod random;
 mod reasons;
 mod refused;
+mod request;
 mod sender_attributes;
 mod speed;
 
