@@ -193,7 +193,7 @@ fn another_schema_is_refused_by_name_and_left_alone() {
     trial.taken(1, sum("a", 10, 20, 1));
     trial.writer.store = None;
     // 1 to 5 had other tables, by the repository's history.
-    for another in [1, 5, 10, 12] {
+    for another in [1, 5, 10, 11, 13] {
         trial.ask(&format!("pragma user_version = {another}"));
         let error = SqliteSink::open(&trial.path(), Retention::default(), Arc::new(()))
             .err()
