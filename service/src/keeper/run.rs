@@ -198,6 +198,7 @@ pub(crate) fn settle(slot: &Slot) -> Result<(), Fault> {
     slot.journal.reach(first);
     // A commit may have come without the owners of its series.
     super::owners::find_owners_left(slot, first)?;
+    slot.outbox.owners_are_known();
     slot.journal.forget(first)
 }
 

@@ -41,7 +41,9 @@ fn unit_of(metric: &str, unit: &str) -> UnitOfMetric {
 
 fn open_on(disk: &Disk, path: &Path, epoch: &str, longest: u64) -> Result<Outbox, Fault> {
     let free_space = Arc::new(FreeSpace::new(Path::new("/"))?);
-    Outbox::read_with(disk, path, epoch, free_space, read_ends, longest)?.begun()
+    let outbox = Outbox::read_with(disk, path, epoch, free_space, read_ends, longest)?.begun()?;
+    outbox.owners_are_known(); // as the keeper says once it has begun
+    Ok(outbox)
 }
 
 fn open(path: &Path) -> Outbox {

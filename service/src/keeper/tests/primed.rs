@@ -30,6 +30,25 @@ async fn a_book_is_primed_once_all_owners_are_known() {
     run.end().await;
 }
 
+/// Else a database writes the request's series down without the name of who posts them.
+#[tokio::test(flavor = "multi_thread")]
+async fn what_a_kill_left_without_owners_is_delivered_once_these_are_known() {
+    let place = tempfile::tempdir().unwrap();
+    let folder = Folder::open(&place.path().join("data"), Durability::Process).unwrap();
+    committed_without_owners(&folder);
+    let (journal, outbox) = folder.slot().unwrap();
+    let metrics = Arc::new(Metrics::new().unwrap());
+    let slot = Slot::new(0, journal, Arc::new(outbox), metrics, Core::new(1).unwrap());
+    let mut keeper = Keeper::new(slot.clone(), settings()).0;
+    let first = async { tokio::time::timeout(Duration::from_millis(100), slot.outbox.first()).await };
+    assert!(first.await.is_err(), "it is delivered before its owner is known");
+    assert!(slot.outbox.behind_first(10, usize::MAX).await.is_empty());
+    keeper.begin().await.unwrap();
+    let (_, body) = slot.outbox.first().await.unwrap();
+    let series = forwarded(&body).unwrap().remove(0).series;
+    assert_eq!(slot.outbox.owner(&series.digest()).as_deref(), Some("A"));
+}
+
 /// It takes as long as many series need, and nobody waits for it then.
 #[tokio::test(flavor = "multi_thread")]
 #[allow(clippy::await_holding_lock)] // whoever waits for it is no task
