@@ -9,6 +9,8 @@ use super::series::points_by_resource;
 use super::{prepare, Causes, OffClock, Original, Outcome, Reading, Reason, Rejection};
 use std::cell::OnceCell;
 
+/// How many resources of refused parts are named.
+const NAMED: usize = 5;
 /// The status of what is too long for its memory.
 const TOO_LONG: u16 = 413;
 
@@ -102,7 +104,7 @@ impl Whole<'_> {
 
     fn taken(&self) -> Outcome {
         let (mut all, mut clocks, mut known) = (0, OffClock::default(), Causes::default());
-        let (mut not_fit, mut refused) = (None, Vec::<(u64, Rejection)>::new());
+        let (mut not_fit, mut refused) = (None, Vec::<RefusedParts>::new());
         for part in self.parts {
             match &part.outcome {
                 Outcome::Taken { rejected, off, causes, unfit, parts } => {
@@ -111,25 +113,54 @@ impl Whole<'_> {
                     known = known.and(causes);
                     not_fit = not_fit.or_else(|| unfit.clone());
                     for (points, rejection) in parts {
-                        add(&mut refused, (*points, self.placed(part, rejection)));
+                        add(&mut refused, *points, self.placed(part, rejection), &[]);
                     }
                 }
                 Outcome::Refused(rejection) => {
                     let (points, rejection) = (part.part.points(), self.placed(part, rejection));
+                    // Which part that is, its point says if it has one.
+                    let of_part = if rejection.point.is_some() { &[][..] } else { &part.resources };
                     all += points;
-                    add(&mut refused, (points, rejection));
+                    add(&mut refused, points, rejection, of_part);
                 }
             }
         }
-        Outcome::Taken { rejected: all, off: clocks, causes: known, unfit: not_fit, parts: refused }
+        let parts = refused.into_iter().map(RefusedParts::told).collect();
+        Outcome::Taken { rejected: all, off: clocks, causes: known, unfit: not_fit, parts }
+    }
+}
+
+/// What was refused for one reason: how many points, and the places of the resources of which nothing was taken.
+struct RefusedParts {
+    points: u64,
+    rejection: Rejection,
+    resources: Vec<u32>,
+}
+
+impl RefusedParts {
+    /// With these resources: a sender repeats them by themselves, or looks for who is meant.
+    fn told(mut self) -> (u64, Rejection) {
+        self.resources.sort_unstable();
+        let named: Vec<String> = self.resources.iter().take(NAMED).map(u32::to_string).collect();
+        let more = self.resources.len() - named.len();
+        let resources = match (&named[..], more) {
+            ([], _) => return (self.points, self.rejection),
+            ([one], _) => format!(": resource {one} of the request"),
+            (_, 0) => format!(": resources {} of the request", named.join(", ")),
+            _ => format!(": resources {} and {more} more of the request", named.join(", ")),
+        };
+        (self.points, self.rejection.and(&resources))
     }
 }
 
 /// Those of one reason are told together, by the first of them.
-fn add(all: &mut Vec<(u64, Rejection)>, (points, rejection): (u64, Rejection)) {
-    match all.iter_mut().find(|(_, known)| *known == rejection) {
-        Some((of_it, _)) => *of_it += points,
-        None => all.push((points, rejection)),
+fn add(all: &mut Vec<RefusedParts>, points: u64, rejection: Rejection, resources: &[u32]) {
+    match all.iter_mut().find(|known| known.rejection == rejection) {
+        Some(known) => {
+            known.points += points;
+            known.resources.extend(resources);
+        }
+        None => all.push(RefusedParts { points, rejection, resources: resources.into() }),
     }
 }
 

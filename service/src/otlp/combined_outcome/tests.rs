@@ -77,7 +77,20 @@ fn what_is_taken_in_part_is_taken() {
     assert_eq!(said(&parts), (200, 7, wanted.into()));
     let quarantined = refused(Refused::Quarantined);
     let one = [part(Outcome::taken(0), &[(0, 2)]), part(quarantined, &[(1, 1)])];
-    assert_eq!(said(&one), (200, 1, "1 point is refused: quarantined".into()));
+    assert_eq!(said(&one), (200, 1, "1 point is refused: quarantined: resource 1 of the request".into()));
+}
+
+/// Else who quarantined a sender while its posts went on could not tell whose points are missing.
+#[test]
+fn which_resources_were_refused_whole_is_said() {
+    let mut parts = vec![part(Outcome::taken(0), &[(3, 2)])];
+    parts.push(part(refused(Refused::Quarantined), &[(2, 1), (7, 1)]));
+    parts.push(part(refused(Refused::Quarantined), &[(0, 1)]));
+    let wanted = "3 points are refused: quarantined: resources 0, 2, 7 of the request";
+    assert_eq!(said(&parts), (200, 3, wanted.into()));
+    parts.push(part(refused(Refused::Quarantined), &[(8, 1), (9, 1), (10, 1), (11, 1)]));
+    let wanted = "7 points are refused: quarantined: resources 0, 2, 7, 8, 9 and 2 more of the request";
+    assert_eq!(said(&parts), (200, 7, wanted.into()));
 }
 
 #[test]
@@ -98,7 +111,7 @@ fn reasons_are_named_together() {
     ];
     let wanted =
         "points outside the profile: 4 gauges, 2 doubles, 1 point ahead of time: its clock is 7s ahead: see \
-                  docs/OPERATING.md, \"Senders\"; 5 points are refused: quarantined";
+                  docs/OPERATING.md, \"Senders\"; 5 points are refused: quarantined: resources 1, 4 of the request";
     assert_eq!(said(&parts), (200, 12, wanted.into()));
     let many: Vec<OfPart> = (0..30)
         .map(|place| {
@@ -107,7 +120,10 @@ fn reasons_are_named_together() {
         })
         .collect();
     let (_, points, text) = said(&many);
-    assert!(points == 29 && text.ends_with("reason 5; and 24 more reasons"), "{text}");
+    assert!(
+        points == 29 && text.ends_with("reason 5: resource 5 of the request; and 24 more reasons"),
+        "{text}"
+    );
 }
 
 /// By its place among the points of the profile, as where one slot has all.
