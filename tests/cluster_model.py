@@ -168,7 +168,7 @@ COPIES = {
     # A repeat writes in two ways: it raises the link, and locks the slot's row. The copy is without the second.
     "a_repeat_is_a_write": ("sync_of_nothing_is_no_write",),
     "a_late_copy_changes_nothing": ("late_write_of_an_own_connection_counts", "numbers_of_an_earlier_owner_are_used_again"),
-    "a_commit_waits_for_the_standby": ("commit_without_its_standby_is_answered",),
+    "a_commit_waits_for_the_standby": ("commit_without_its_standby_is_answered", "commit_on_one_server_is_believed"),
     "who_is_lost_answers_nothing": ("who_has_lost_the_slot_answers",),
     "an_answer_waits_for_its_sync": ("answer_comes_before_its_post_is_durable", "sync_joins_one_that_began_before"),
     "a_refusal_waits_for_a_sync": ("refusal_comes_before_the_journal_is_durable", "refusal_of_a_lost_slot_is_given"),

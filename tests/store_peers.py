@@ -5,7 +5,8 @@
 
 They speak TLS with each other, and let nobody else in; a start waits for the store; without it posts are turned away at
 once; a slot that one can't open goes to another; what `--whole auto` has decided stays where the slot goes; the sink is the
-one that the store knows. Skipped without PostgreSQL or openssl.
+one that the store knows; one whose clock is wrong has no slots; of two processes of one name the later one ends. Skipped without
+PostgreSQL, openssl or gcc.
 
 Each line is one check; the last line counts those that passed and failed, and the status is 0 where none failed.
 """
@@ -23,6 +24,7 @@ from typing import Any
 ROOT = os.path.dirname(os.path.dirname(os.path.abspath(__file__)))
 sys.path.insert(1, f"{ROOT}/demo")
 
+from clock_jumps import Clock  # noqa: E402
 from testing.checks import Checks  # noqa: E402
 from testing.loopback import free_port  # noqa: E402
 from testing.database import initdb  # noqa: E402
@@ -247,7 +249,7 @@ def nobody_opens(checks: Checks, what: str, store: Store, slot: int, one: Instan
     """All but this slot are served, and why is shown."""
     for instance in (one, other):
         instance.start()
-    refused = "select count(*) from totxegun_store.instance where refused like '%" + f'"{slot}":' + "%'"
+    refused = "select count(*) from totxegun_store.instance where told like '%" + f'"{slot}":' + "%'"
     checks.true(f"{what}: both refuse a slot that nobody can open", wait_until(lambda: store.ask(refused) == "2", IN_THE_END),
                 [store.ask("select * from totxegun_store.instance"), one.last_lines(), other.last_lines()])
     checks.true(f"{what}: the others are served", wait_until(lambda: store.owners().count("") == 1
@@ -345,12 +347,59 @@ def try_sink(checks: Checks, program: str, folder: str, store: Store, sink: Otlp
         second.close()
 
 
+def try_clock(checks: Checks, program: str, folder: str, store: Store, sink: OtlpSink) -> None:
+    """Of two one's clock is set ahead by more than a tenth of --most-ahead, and right again."""
+    os.mkdir(f"{folder}/clock")
+    clock = Clock(f"{folder}/clock")
+    one, other = (Instance(program, folder, name, store, sink.address, "--most-ahead", "100s") for name in "ab")
+    one.start()
+    other.start(clock.environment())
+    checks.true("two have their slots", settled(store, "a", "b"), [one.last_lines(), other.last_lines()])
+    clock.set(23 * SECOND // 2)
+    checks.true("one whose clock is wrong hands all over", settled(store, "a"), [store.owners(), other.last_lines()])
+    ready = other.asked("GET", "/ready")
+    checks.true("it is not ready, and says why", ready[0] == 503 and b"the clock of this instance is wrong" in ready[1], ready)
+    wrong = "this instance's clock is 11 s ahead of those of the others and the store"
+    checks.true("the log says by how much", wrong in other.last_lines(50), other.last_lines())
+    trouble = {one["name"]: one["trouble"] or "" for one in (other.status() or {"cluster": {"instances": []}})["cluster"]["instances"]}
+    checks.true("so does the status", trouble.get("b", "").startswith(wrong) and not trouble.get("a"), trouble)
+    page = other.asked("GET", "/metrics")[1]
+    checks.true("and a metric", any(line.startswith(b"totxegun_clock_off_seconds 1") for line in page.splitlines()), page[-500:])
+    answers = [other.posted(request(f"r{number}", 1)) for number in range(20)]
+    checks.same("what is posted there is brought to the other, which takes it", {(200, "{}")}, set(answers))
+    clock.set(0)
+    checks.true("it has slots again once its clock is right", settled(store, "a", "b") and other.wait_ready(), other.last_lines())
+    ended(checks, "clocks", one, other)
+
+
+def try_namesake(checks: Checks, program: str, folder: str, store: Store, sink: OtlpSink) -> None:
+    """A second process is started under the name of one that runs, on another machine."""
+    one = Instance(program, folder, "a", store, sink.address)
+    one.start()
+    checks.true("one has all", settled(store, "a") and one.wait_ready(), one.last_lines())
+    terms = store.ask("select sum(term) from totxegun_store.slot")
+    os.mkdir(f"{folder}/other")
+    later = Instance(program, f"{folder}/other", "a", store, sink.address)
+    later.start()
+    checks.true("the later one ends", wait_until(lambda: not later.is_running(), IN_THE_END), later.last_lines())
+    checks.true("by a status, and a line", later.process.returncode == 1 and "the name a was there before" in later.last_lines(),
+                [later.process.returncode, later.last_lines()])
+    checks.same("no slot was taken", terms, store.ask("select sum(term) from totxegun_store.slot"))
+    checks.true("the other goes on", one.is_ready() and one.posted(request("r3", 1))[0] == 200, one.last_lines())
+    one.kill()
+    one.start()
+    checks.true("one that starts again after a kill is no later one", settled(store, "a") and one.wait_ready(), one.last_lines())
+    time.sleep(3)
+    ended(checks, "after a namesake", one)
+
+
 def main(words: list[str]) -> int:
     if len(words) != 1:
         sys.exit(__doc__.split("\n\n")[1].strip())
     program = os.path.abspath(words[0])
     checks = Checks()
-    missing = [name for name, there in (("postgresql", initdb()), ("openssl", shutil.which("openssl"))) if not there]
+    needed = (("postgresql", initdb()), ("openssl", shutil.which("openssl")), ("gcc", shutil.which("gcc")))
+    missing = [name for name, there in needed if not there]
     if not checks.has("a store", *missing):
         return checks.end()
     store, sink = Store(), OtlpSink(1)
@@ -360,7 +409,7 @@ def main(words: list[str]) -> int:
             try_refused(checks, program, folder, store, sink)
             done = subprocess.run([program, "store", "init", store.address, "--slots", str(SLOTS)], check=False)
             checks.same("a store is made", 0, done.returncode)
-            for part in (try_tls, try_no_store, try_broken_slot, try_units, try_sink):
+            for part in (try_tls, try_no_store, try_broken_slot, try_units, try_clock, try_namesake, try_sink):
                 part(checks, program, folder, store, sink)
         finally:
             sink.close()

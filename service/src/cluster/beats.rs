@@ -2,6 +2,7 @@
 
 use super::local_view::{Cluster, STALL};
 use super::owners::{Act, Step};
+use super::status::shown_off;
 use super::terms::{Silence, Terms, Units, Unopened};
 use crate::latch::Latch;
 use crate::log::RateLimit;
@@ -22,7 +23,13 @@ pub const LEAVES_WITHIN: Duration = Duration::from_secs(60);
 const FOLLOWING: usize = 16;
 
 static SILENT: RateLimit = RateLimit::every(Duration::from_secs(10));
+static FEW: RateLimit = RateLimit::every(Duration::from_secs(10));
 static NAMESAKE: RateLimit = RateLimit::every(Duration::from_secs(10));
+
+/// Another process has this one's name, and had it before.
+#[derive(Debug, thiserror::Error)]
+#[error("another process of the name {0} was there before this one, and goes on: give each instance its own --instance")]
+pub struct CameLater(String);
 
 pub struct Beats<T, U> {
     work: Arc<Work<T, U>>,
@@ -56,19 +63,22 @@ impl<T: Terms + 'static, U: Units + 'static> Beats<T, U> {
     }
 
     /// Beats until `stop` is on, and then until all slots are handed over, or a minute has passed.
-    pub async fn run(mut self, mut stop: watch::Receiver<bool>) {
+    pub async fn run(mut self, mut stop: watch::Receiver<bool>) -> Result<(), CameLater> {
         let stopped = stop.clone();
         let late = async {
             stop.wait_true().await;
             sleep(LEAVES_WITHIN).await;
         };
         tokio::select! {
-            _ = self.beats(stopped) => {}
-            _ = late => tracing::warn!("this instance ends with slots that it could not hand over: others take them"),
+            ended = self.beats(stopped) => ended,
+            _ = late => {
+                tracing::warn!("this instance ends with slots that it could not hand over: others take them");
+                Ok(())
+            }
         }
     }
 
-    async fn beats(&mut self, mut stop: watch::Receiver<bool>) {
+    async fn beats(&mut self, mut stop: watch::Receiver<bool>) -> Result<(), CameLater> {
         let mut ticks = tokio::time::interval(self.between);
         // Each beat is half a second behind the last one, whatever came between: others count their own by these.
         ticks.set_missed_tick_behavior(MissedTickBehavior::Delay);
@@ -79,7 +89,7 @@ impl<T: Terms + 'static, U: Units + 'static> Beats<T, U> {
                     leaves = true;
                     work.cluster.owners().leave();
                 }
-                _ = ticks.tick() => self.beat().await,
+                _ = ticks.tick() => self.beat().await?,
                 Some(step) = self.following.recv() => self.begin(step),
                 _ = work.cluster.wants_look.notified() => self.look().await,
             }
@@ -87,6 +97,7 @@ impl<T: Terms + 'static, U: Units + 'static> Beats<T, U> {
         if let Err(silence) = work.terms.leave().await {
             tell(&silence);
         }
+        Ok(())
     }
 
     fn is_done(&self) -> bool {
@@ -94,28 +105,36 @@ impl<T: Terms + 'static, U: Units + 'static> Beats<T, U> {
         owners.is_rid_of_all() && self.last.values().all(JoinHandle::is_finished)
     }
 
-    async fn beat(&mut self) {
+    async fn beat(&mut self) -> Result<(), CameLater> {
         let (work, began) = (self.work.clone(), Instant::now());
         let cluster = &work.cluster;
-        let (stay, refused) = cluster.owners().told();
-        let seen = match work.terms.beat(stay, refused).await {
+        let (stay, told) = cluster.owners().told();
+        let seen = match work.terms.beat(stay, told).await {
             Ok(seen) => seen,
             Err(silence) => {
                 cluster.owners().unanswered();
-                return tell(&silence);
+                cluster.has_few_copies(&silence);
+                tell(&silence);
+                return Ok(());
             }
         };
         if began.elapsed() > STALL {
             cluster.owners().late();
         }
+        let off_before = cluster.owners().clock_off();
         let steps = cluster.owners().beat(seen);
         cluster.has_beaten(began);
+        tell_clock(off_before, cluster.owners().clock_off());
+        if cluster.owners().came_later() {
+            return Err(CameLater(cluster.owners().name().into()));
+        }
         if cluster.owners().has_namesake() && NAMESAKE.is_due() {
             tracing::error!("another process beats under this instance's name: give each its own --instance");
         }
         steps.into_iter().for_each(|step| self.begin(step));
         self.work.publish();
         self.forget();
+        Ok(())
     }
 
     /// Takes a row away of one that has not come back. No beat waits for that.
@@ -154,10 +173,27 @@ impl<T: Terms + 'static, U: Units + 'static> Beats<T, U> {
     }
 }
 
+fn tell_clock(before: Option<i64>, now: Option<i64>) {
+    match (before, now) {
+        (None, Some(ahead)) => {
+            let seconds = ahead as f64 / 1e6;
+            tracing::error!(
+                seconds,
+                "{}: this instance takes no slots, and hands over what it has, until that is set right, by NTP",
+                shown_off(ahead)
+            );
+        }
+        (Some(_), None) => tracing::info!("this instance's clock is right again: it takes slots"),
+        _ => {}
+    }
+}
+
 fn tell(silence: &Silence) {
-    if SILENT.is_due() {
-        let reason = silence.to_string();
-        tracing::warn!(reason, "{reason}");
+    let reason = silence.to_string();
+    match silence {
+        Silence::Unanswered(_) if SILENT.is_due() => tracing::warn!(reason, "{reason}"),
+        Silence::FewCopies(_) if FEW.is_due() => tracing::error!(reason, "{reason}"),
+        _ => {}
     }
 }
 

@@ -122,8 +122,8 @@ impl<H: Here> Forward<H> {
     /// Has its slot's owner take a part of a request: that owner's answer, or 503. Nobody is asked, or looked for, while the
     /// store does not answer.
     pub async fn post(&self, slot: u16, sender: &str, part: Original) -> Outcome {
-        if self.cluster.is_stalled() {
-            return Reason::StoreSilent.into();
+        if let Some(why) = self.cluster.unavailable() {
+            return why.into();
         }
         let (began, mut asked, mut pause) = (Instant::now(), 0, SHORTEST);
         let mut places = self.cluster.places();
@@ -219,7 +219,7 @@ impl<H: Here> Forward<H> {
 
 impl<H: Here> Elsewhere for Forward<H> {
     fn unavailable(&self) -> Option<Reason> {
-        self.cluster.is_stalled().then_some(Reason::StoreSilent)
+        self.cluster.unavailable()
     }
 
     fn post<'a>(&'a self, slot: u16, sender: &'a str, part: Original) -> Doing<'a, Outcome> {

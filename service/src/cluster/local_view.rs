@@ -2,7 +2,9 @@
 
 use super::owners::{Owners, Whose};
 use super::status::{Counted, Status, Unserved};
+use super::terms::Silence;
 use crate::log::shown;
+use crate::otlp::Reason;
 use crate::work::locked;
 use std::collections::{BTreeMap, BTreeSet};
 use std::sync::{Arc, Mutex, MutexGuard};
@@ -24,18 +26,21 @@ pub struct Cluster {
     pub(super) wants_look: Notify,
     /// When the last own beat that is committed was sent; none before the first.
     beaten: Mutex<Option<Instant>>,
+    /// Why the store has too few copies, as the last own beat has found that had an answer.
+    few_copies: Mutex<Option<String>>,
     unserved: Mutex<Unserved>,
     counted: Mutex<Counted>,
 }
 
 impl Cluster {
-    /// Of an instance whose name no other has.
-    pub fn new(name: &str) -> Arc<Cluster> {
+    /// Of an instance whose name no other has, and whose clock may be so far off, if it matters.
+    pub fn new(name: &str, clock: Option<Duration>) -> Arc<Cluster> {
         Arc::new(Cluster {
-            owners: Mutex::new(Owners::new(name)),
+            owners: Mutex::new(Owners::new(name, clock)),
             places: watch::channel(Places::default()).0,
             wants_look: Notify::new(),
             beaten: Mutex::default(),
+            few_copies: Mutex::default(),
             unserved: Mutex::default(),
             counted: Mutex::default(),
         })
@@ -80,6 +85,11 @@ impl Cluster {
         self.owners().leaves()
     }
 
+    /// Whether its clock is so far off that it may have no slots.
+    pub fn is_off_clock(&self) -> bool {
+        self.owners().clock_off().is_some()
+    }
+
     /// Has the slots looked at again.
     pub fn look(&self) {
         self.wants_look.notify_one();
@@ -88,6 +98,27 @@ impl Cluster {
     /// Whether the store has taken no beat for so long that posts are turned away.
     pub fn is_stalled(&self) -> bool {
         self.beat_age().is_none_or(|age| age > STALL)
+    }
+
+    /// Why posts are turned away, whatever slot they are for.
+    pub fn unavailable(&self) -> Option<Reason> {
+        match self.is_stalled() {
+            _ if self.few_copies().is_some() => Some(Reason::FewCopies),
+            true => Some(Reason::StoreSilent),
+            false => None,
+        }
+    }
+
+    /// Why what the store says is done is on fewer servers than it has to be.
+    pub fn few_copies(&self) -> Option<String> {
+        locked(&self.few_copies).clone()
+    }
+
+    /// What an own beat was answered: without an answer it is as it was.
+    pub(super) fn has_few_copies(&self, silence: &Silence) {
+        if let Silence::FewCopies(why) = silence {
+            *locked(&self.few_copies) = Some(why.clone());
+        }
     }
 
     /// A slot could not be opened here, or has ended by a fault.
@@ -121,6 +152,8 @@ impl Cluster {
             longest_without_owner: longest.unwrap_or_default(),
             terms: owners.terms(),
             beat_age: self.beat_age(),
+            few_copies: self.few_copies(),
+            clock_off: owners.clock_off(),
             has_namesake: owners.has_namesake(),
             refused: owners.all_refused(),
             counted: *self.counted(),
@@ -171,6 +204,9 @@ impl Cluster {
     /// An own beat that was sent then is committed.
     pub(super) fn has_beaten(&self, sent: Instant) {
         *locked(&self.beaten) = Some(sent);
+        if locked(&self.few_copies).take().is_some() {
+            tracing::info!("the store has enough copies again: posts are taken");
+        }
     }
 
     fn beat_age(&self) -> Option<Duration> {

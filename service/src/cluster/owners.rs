@@ -4,6 +4,7 @@
 //! What is decided here is never a matter of safety: a slot's term in the store is, and two that decide for the same slot find
 //! that one of them was first.
 
+mod clock;
 mod namesake;
 mod others;
 mod refused;
@@ -14,11 +15,13 @@ pub use refused::Refusal;
 pub use step::{Act, Step, Whose};
 
 use super::places::places;
-use super::terms::{Refused, Row, Seen, Stay};
+use super::terms::{Refused, Row, Seen, Stay, Told};
+use clock::OwnClock;
 use namesake::Namesake;
 use others::Others;
 use refused::Refusals;
 use std::collections::BTreeMap;
+use std::time::Duration;
 
 /// So many own beats are committed while another's stands still, until that one counts as gone.
 pub const GONE: u32 = 6;
@@ -60,7 +63,9 @@ struct Handed {
 
 pub struct Owners {
     me: String,
-    stay: Stay,
+    /// It ends, and hands over what it has.
+    ends: bool,
+    clock: OwnClock,
     others: Others,
     /// Those that may have slots, but for these of each; and where each slot belongs.
     living: BTreeMap<String, Refused>,
@@ -75,10 +80,12 @@ pub struct Owners {
 }
 
 impl Owners {
-    pub fn new(me: &str) -> Owners {
+    /// Of an instance whose clock may be so far off, if it matters.
+    pub fn new(me: &str, clock: Option<Duration>) -> Owners {
         Owners {
             me: me.into(),
-            stay: Stay::Here,
+            ends: false,
+            clock: OwnClock::of(clock),
             others: Others::of(me),
             living: BTreeMap::new(),
             places: BTreeMap::new(),
@@ -93,16 +100,30 @@ impl Owners {
 
     /// From now on each slot has its place elsewhere.
     pub fn leave(&mut self) {
-        self.stay = Stay::Leaves;
+        self.ends = true;
     }
 
     pub fn leaves(&self) -> bool {
-        self.stay == Stay::Leaves
+        self.ends
+    }
+
+    /// By how many microseconds this instance's clock is ahead, if it is so far off that it may have no slots; late, if that is less
+    /// than 0.
+    pub fn clock_off(&self) -> Option<i64> {
+        self.clock.off()
+    }
+
+    /// Whether it is a place for slots.
+    fn stay(&self) -> Stay {
+        match self.ends || self.clock.off().is_some() {
+            true => Stay::Leaves,
+            false => Stay::Here,
+        }
     }
 
     /// What the others are told with a beat.
-    pub fn told(&self) -> (Stay, Refused) {
-        (self.stay, self.refusals.told())
+    pub fn told(&self) -> (Stay, Told) {
+        (self.stay(), Told { refused: self.refusals.told(), clock: self.clock.now() })
     }
 
     /// Whether this instance has nothing more to do for any slot.
@@ -113,6 +134,11 @@ impl Owners {
     /// Another process beats under this instance's name.
     pub fn has_namesake(&self) -> bool {
         self.namesake.is_there()
+    }
+
+    /// That one was there before, so this one ends.
+    pub fn came_later(&self) -> bool {
+        self.namesake.came_later()
     }
 
     /// Who has not come back for so long that its row goes, and its last beat. Where a slot has its name it stays: its status
@@ -168,9 +194,10 @@ impl Owners {
     /// An own beat is committed, and this was read behind it: what is to be done now.
     pub fn beat(&mut self, seen: Seen) -> Vec<Step> {
         if let Some(own) = seen.instances.iter().find(|one| one.name == self.me) {
-            self.namesake.note(own.beat);
+            self.namesake.note(own, seen.life);
         }
         self.others.note(&seen);
+        self.clock.note(seen.clock, self.others.clocks());
         self.rows = seen.slots;
         self.note_living();
         let mut steps = self.drop_lost();
@@ -188,7 +215,7 @@ impl Owners {
             others.map(|(name, refused)| (name.into(), refused.clone())).collect();
         let may_another = |slot| living.values().any(|refused| !refused.contains_key(&slot));
         self.refusals.beat(may_another);
-        if self.stay == Stay::Here {
+        if self.stay() == Stay::Here {
             living.insert(self.me.clone(), self.refusals.told());
         }
         if living == self.living && self.places.len() == self.rows.len() {
@@ -224,10 +251,11 @@ impl Owners {
 
     /// What was handed over is another's, or nobody takes it.
     fn note_handed(&mut self) {
+        let leaves = self.stay() == Stay::Leaves;
         let Some(handed) = &mut self.handed else { return };
         handed.beats += 1;
         let is_taken = |row: &Row| row.slot == handed.slot && row.term > handed.term;
-        let waits_no_more = handed.beats > SETTLED || self.stay == Stay::Leaves;
+        let waits_no_more = handed.beats > SETTLED || leaves;
         if handed.is_released && (waits_no_more || self.rows.iter().any(is_taken)) {
             self.handed = None;
         }
@@ -238,7 +266,7 @@ impl Owners {
         if self.handed.is_some() {
             return None;
         }
-        let patience = if self.stay == Stay::Leaves { 1 } else { SETTLED };
+        let patience = if self.stay() == Stay::Leaves { 1 } else { SETTLED };
         let is_due = |mine: &Mine| mine.phase == Phase::Serving && mine.elsewhere >= patience;
         let (slot, mine) = self.mine.iter_mut().find(|(_, mine)| is_due(mine))?;
         mine.phase = Phase::Closing;
@@ -287,12 +315,13 @@ impl Owners {
 
     /// A slot of this name that is not open here: an earlier process', or one whose taking got no answer, or that failed.
     fn is_left_alone_enough(&mut self, row: &Row) -> bool {
+        let leaves = self.stay() == Stay::Leaves;
         let (term, beats) = self.left_alone.entry(row.slot).or_insert((row.term, RESTARTED));
         if *term != row.term {
             (*term, *beats) = (row.term, RESTARTED);
         }
         *beats = beats.saturating_sub(1);
-        *beats == 0 || self.stay == Stay::Leaves
+        *beats == 0 || leaves
     }
 
     // ----------------------------------------------------------------------------------------------------------------
@@ -347,7 +376,7 @@ impl Owners {
         if let Some(handed) = self.handed.as_mut().filter(|handed| handed.slot == slot) {
             handed.is_released = true;
         }
-        if self.stay == Stay::Here {
+        if self.stay() == Stay::Here {
             return None;
         }
         self.note_handed();

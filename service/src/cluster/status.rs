@@ -1,6 +1,7 @@
 //! What is shown of an instance among others.
 
 use super::owners::Refusal;
+use crate::command::values::seconds_shown;
 use std::collections::{BTreeMap, BTreeSet};
 use std::time::Duration;
 use tokio::time::Instant;
@@ -21,6 +22,10 @@ pub struct Status {
     pub terms: BTreeMap<u16, u64>,
     /// Since the last own beat that is committed was sent; none before the first.
     pub beat_age: Option<Duration>,
+    /// Why what the store says is done is on fewer servers than it has to be.
+    pub few_copies: Option<String>,
+    /// By how many microseconds its clock is ahead, if it is so far off that it may have no slots; late, if that is less than 0.
+    pub clock_off: Option<i64>,
     /// Another process beats under this name.
     pub has_namesake: bool,
     /// Slots that instances could not open: another has them, or nobody.
@@ -33,6 +38,13 @@ impl Status {
     pub fn instances(&self) -> usize {
         1 + self.others.iter().filter(|other| !other.is_gone).count()
     }
+}
+
+/// A clock that is off by so many microseconds, in words.
+pub fn shown_off(ahead: i64) -> String {
+    let way = if ahead < 0 { "behind" } else { "ahead of" };
+    let time = seconds_shown(ahead.unsigned_abs() / 1_000_000);
+    format!("this instance's clock is {time} {way} those of the others and the store")
 }
 
 /// Another instance, as this one's beats have seen it.

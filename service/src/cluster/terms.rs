@@ -1,5 +1,6 @@
 //! What the cluster asks of the store, and of the slots of this process.
 
+use serde::{Deserialize, Serialize};
 use std::collections::{BTreeMap, BTreeSet};
 use std::future::Future;
 use std::pin::Pin;
@@ -20,7 +21,21 @@ pub struct Instance {
     /// Of its program.
     pub version: String,
     pub beat: u64,
+    /// How many processes have begun under this name.
+    pub life: u64,
+    /// How often another than the last of these has beaten since that began.
+    pub earlier: u64,
+    pub told: Told,
+}
+
+/// What an instance tells the others of itself with each beat.
+#[derive(Clone, Debug, Default, PartialEq, Eq, Serialize, Deserialize)]
+#[serde(default)]
+pub struct Told {
+    /// The slots that it can't open, and why.
     pub refused: Refused,
+    /// By how many microseconds its clock is ahead of the store's, or late if it is less than 0; none before it has looked.
+    pub clock: Option<i64>,
 }
 
 /// A slot's row, which is never deleted.
@@ -38,26 +53,36 @@ pub struct Row {
 pub struct Seen {
     pub instances: Vec<Instance>,
     pub slots: Vec<Row>,
+    /// How far this instance's clock is ahead of the store's, in microseconds: at least so far, or late, if it is less than 0.
+    pub clock: Option<i64>,
+    /// The number of this process among those of its name.
+    pub life: u64,
 }
 
 /// Whether an instance is a place for slots.
 #[derive(Clone, Copy, Debug, PartialEq, Eq)]
 pub enum Stay {
     Here,
-    /// It beats on, with an empty address, until its slots are handed over.
+    /// It beats on, with an empty address, while it may have no slots: until all are handed over, or its clock is right.
     Leaves,
 }
 
-/// The store gave no answer, or none that is known: what was asked of it may be done or not.
+/// What was asked of the store may be done or not.
 #[derive(Debug, thiserror::Error)]
-#[error("the store does not answer: {0}")]
-pub struct Silence(pub String);
+pub enum Silence {
+    /// It gave no answer, or none that is known.
+    #[error("the store does not answer: {0}")]
+    Unanswered(String),
+    /// It answers, and what it says is done is on fewer servers than it has to be.
+    #[error("the store has too few copies, so posts get 503: {0}")]
+    FewCopies(String),
+}
 
 /// The rows of instances and slots. Each call waits for as long as the store does, or says that it is in doubt.
 pub trait Terms: Send + Sync {
-    /// Adds one to this instance's beat, with what it refuses, waits until that is committed, and then reads all instances
-    /// and slots.
-    fn beat(&self, stay: Stay, refused: Refused) -> impl Future<Output = Result<Seen, Silence>> + Send;
+    /// Adds one to this instance's beat, with what it tells, waits until that is committed, and then reads all instances and
+    /// slots.
+    fn beat(&self, stay: Stay, told: Told) -> impl Future<Output = Result<Seen, Silence>> + Send;
     /// The slots alone: for who was told `not mine`.
     fn slots(&self) -> impl Future<Output = Result<Vec<Row>, Silence>> + Send;
     /// Writes the next term behind the one that was seen, with this instance as the owner: the new term. None where another

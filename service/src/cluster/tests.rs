@@ -2,6 +2,7 @@
 //! What was answered is there, and everything once.
 
 use super::beats::tests::{Of, Store, SLOTS};
+use super::beats::CameLater;
 use super::terms::{Doing, Units, Unopened};
 use super::*;
 use crate::intake::connections::serve;
@@ -9,7 +10,7 @@ use crate::intake::Limits;
 use crate::otlp::{Encoding, Original, Outcome, Reason};
 use bytes::Bytes;
 use std::collections::{BTreeMap, BTreeSet, HashMap};
-use std::sync::atomic::{AtomicBool, AtomicUsize, Ordering::SeqCst};
+use std::sync::atomic::{AtomicBool, AtomicU64, AtomicUsize, Ordering::SeqCst};
 use std::sync::{Arc, Mutex};
 use std::time::Duration;
 use tokio::net::TcpListener;
@@ -160,7 +161,7 @@ impl Answers for Open {
 struct Node {
     forward: Arc<Forward<Open>>,
     cluster: Arc<Cluster>,
-    beats: JoinHandle<()>,
+    beats: JoinHandle<Result<(), CameLater>>,
     stop: watch::Sender<bool>,
     /// Its address, which is served until this is dropped.
     _serves: watch::Sender<bool>,
@@ -169,7 +170,7 @@ struct Node {
 async fn start(ledger: &Arc<Ledger>, name: &'static str) -> Node {
     let listener = TcpListener::bind("127.0.0.1:0").await.unwrap();
     let address = listener.local_addr().unwrap().to_string();
-    let (cluster, secret) = (Cluster::new(name), Secret::new("of these").unwrap());
+    let (cluster, secret) = (Cluster::new(name, None), Secret::new("of these").unwrap());
     let slots = Arc::new(Slots { cluster: cluster.clone(), ledger: ledger.clone(), open: Mutex::default() });
     let here = Arc::new(Open(slots.clone()));
     let forward = Arc::new(Forward::new(cluster.clone(), secret.clone(), None));
@@ -178,7 +179,7 @@ async fn start(ledger: &Arc<Ledger>, name: &'static str) -> Node {
     let (serves, served) = watch::channel(false);
     let internal = Internal::new(cluster.clone(), here.clone(), secret, here);
     tokio::spawn(serve(Arc::new(listener), limits, internal, served));
-    let terms = Of(ledger.store.clone(), name, address);
+    let terms = Of(ledger.store.clone(), name, address, AtomicU64::new(0));
     let beats = Beats::new(cluster.clone(), Arc::new(terms), slots).each(BEAT);
     let (stop, stopped) = watch::channel(false);
     Node { forward, cluster, beats: tokio::spawn(beats.run(stopped)), stop, _serves: serves }
@@ -239,7 +240,7 @@ async fn what_was_answered_is_there_once_while_instances_come_stop_and_stand_sti
         doors.lock().unwrap().push(node.forward.clone());
         pause().await;
         node.stop.send_replace(true);
-        timeout(Duration::from_secs(60), node.beats).await.unwrap().unwrap();
+        timeout(Duration::from_secs(60), node.beats).await.unwrap().unwrap().unwrap();
         doors.lock().unwrap().pop();
         pause().await;
     }

@@ -34,7 +34,7 @@ pub(super) struct OfStore {
     /// Takes posts of other instances beyond loopback without TLS: where nobody else reaches their network, or reads along
     #[arg(long, env = "TOTXEGUN_PEER_PLAIN")]
     peer_plain: bool,
-    /// On how many servers the store has to be where an instance starts: 1 takes one without a synchronous standby too
+    /// On how many servers what is answered has to be: 2 needs a synchronous standby, at the start and with each write, and without it posts get 503; 1 does without, and what one server had is lost with it
     #[arg(long, env = "TOTXEGUN_STORE_COPIES", value_name = "N", default_value_t = 2, value_parser = value_parser!(u8).range(1..=2))]
     store_copies: u8,
 }

@@ -30,7 +30,7 @@ pub(super) struct OfReading {
     /// The resource attribute that is the name which a sender's certificate or token proves, in place of what the body says: so nobody posts under another's name
     #[arg(long, env = "TOTXEGUN_SENDER_ATTRIBUTE", value_name = "ATTRIBUTE", value_parser = attribute)]
     sender_attribute: Option<String>,
-    /// Leaves out points that end later than so long after this clock's time, or `off` for none
+    /// Leaves out points that end later than so long after this clock's time, or `off` for none; of instances that share a store one whose clock is off by a tenth of it takes no slots
     #[arg(long, env = "TOTXEGUN_MOST_AHEAD", value_name = "TIME", default_value = "10m", value_parser = time_or("off"))]
     most_ahead: MayBeNone,
     /// Leaves out points that ended earlier than so long before this clock's time, or `off` for none

@@ -17,11 +17,14 @@ impl Desk {
             return self.units.unavailable();
         };
         let cluster = &others.cluster;
-        if cluster.is_stalled() {
-            return Some(Reason::StoreSilent);
+        if let Some(why) = cluster.unavailable() {
+            return Some(why);
         }
         if cluster.leaves() {
             return Some(Reason::Stopping);
+        }
+        if cluster.is_off_clock() {
+            return Some(Reason::ClockOff);
         }
         if cluster.has_others() {
             return None;

@@ -1,12 +1,13 @@
 //! How the store's database is: on how many servers what is committed is, and for how long a write is not known to be there.
 
 use super::{DatabaseStatus, Units};
+use crate::cluster;
 use crate::store::postgres::{Copies, Counts, PostgresStore};
 use crate::work::locked;
 use std::sync::{Arc, Mutex, Weak};
 use std::time::Duration;
 
-/// How often the copies are counted.
+/// How often the standbys are counted. Whether one is asked for at all each write looks at by itself.
 const EVERY: Duration = Duration::from_secs(5);
 /// An own beat that is older is in doubt too.
 const BEAT: Duration = Duration::from_secs(2);
@@ -38,12 +39,17 @@ impl StoreHealth {
         Arc::new(StoreHealth { seen: Mutex::new(unknown), counts })
     }
 
-    /// `beat_age` is since the last own beat that is committed.
-    pub fn status(&self, units: &Units, beat_age: Option<Duration>) -> DatabaseStatus {
-        let beat = beat_age.filter(|age| *age > BEAT).unwrap_or_default();
+    /// As this instance has seen the cluster.
+    pub fn status(&self, units: &Units, seen: &cluster::Status) -> DatabaseStatus {
+        let beat = seen.beat_age.filter(|age| *age > BEAT).unwrap_or_default();
         // The write that began first.
         let doubt_seconds = beat.max(units.disk_call()).as_secs();
-        DatabaseStatus { doubt_seconds, ..locked(&self.seen).clone() }
+        let status = DatabaseStatus { doubt_seconds, ..locked(&self.seen).clone() };
+        match &seen.few_copies {
+            // Its settings say so, also if its role can't see standbys.
+            Some(why) => DatabaseStatus { copies: Some(1), why: Some(why.clone()), ..status },
+            None => status,
+        }
     }
 }
 

@@ -39,6 +39,11 @@ pub struct OffClock {
 }
 
 impl Clock {
+    /// How far the clock of an instance may be from those of the others: a tenth of what points may be off by.
+    pub fn most_off(&self) -> Option<Duration> {
+        self.most_ahead.into_iter().chain(self.most_behind).min().map(|most| most / 10)
+    }
+
     /// By the time that it is.
     pub fn window(&self) -> Window {
         let since = SystemTime::now().duration_since(UNIX_EPOCH).unwrap_or_default();

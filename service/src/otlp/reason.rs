@@ -155,6 +155,8 @@ reasons! {
     Stopping "stopping" Request(503, "stopping"), "the service ends";
     NoOwner "no_owner" Request(503, "no instance has the slot of this post"),
         "wait: another instance takes it over; if this stays, look at the log of each instance";
+    /// Of an instance that takes no slots: those of others it brings posts to.
+    ClockOff "clock_off" Request(503, "the clock of this instance is wrong"), "set it by NTP: it has no slots until it is right";
     /// Nothing of the post was taken.
     OwnerChanges "owner_changes" Request(503, "the slot of this post is being moved"),
         "this ends by itself once another instance has it";
@@ -168,6 +170,9 @@ reasons! {
     /// A store has the slot's files.
     StoreSilent "store_silent" Request(503, "the store does not answer"),
         "look at the store's server, its standby and the network";
+    /// A write would be on fewer servers than `--store-copies` asks for.
+    FewCopies "few_copies" Request(503, "the store has too few copies"),
+        "name its standby in synchronous_standby_names; with --store-copies 1 one server is enough, and what it had is lost with it";
     /// Another instance has the slot, or will have it in a moment.
     SlotMoves "slot_moves" Request(503, "this slot is being moved"), "this ends by itself once another instance has it";
     TooManySeries "too_many_series" Request(503, "too many series"),

@@ -5,12 +5,13 @@ use super::peers::Peers;
 use super::unit::{End, Files};
 use super::units::Units;
 use super::{Ended, Settings};
+use crate::cluster::beats::CameLater;
 use crate::cluster::terms::{self, Doing, Unopened};
 use crate::cluster::{forward, Beats, Cluster, Forward, Internal, Secret};
 use crate::files::Fault;
 use crate::intake::connections::{serve_over, Limits};
 use crate::intake::Intake;
-use crate::metrics::{Metrics, OfCluster};
+use crate::metrics::OfCluster;
 use crate::operate::{Desk, Others, StoreHealth};
 use crate::post_reports::Reported;
 use crate::slot::{Phase, Slot, Slots};
@@ -62,11 +63,11 @@ impl Joining {
         of: &OfStore,
         peers: Peers,
         store: PostgresStore,
-        metrics: &Metrics,
+        settings: &Settings,
     ) -> Result<Joining, Ended> {
         let secret =
             Secret::new(&store.cluster.secret).ok_or_else(|| anyhow!("the store's secret is no head"))?;
-        let cluster = Cluster::new(&of.instance);
+        let cluster = Cluster::new(&of.instance, settings.clock.most_off());
         let forward = Arc::new(Forward::new(cluster.clone(), secret.clone(), peers.tls.clone()));
         Ok(Joining {
             store: Arc::new(store),
@@ -74,7 +75,9 @@ impl Joining {
             forward,
             secret,
             peers,
-            metrics: Some(Box::new(OfCluster::of(&metrics.registry).context("no metrics can be made")?)),
+            metrics: Some(Box::new(
+                OfCluster::of(&settings.metrics.registry).context("no metrics can be made")?,
+            )),
         })
     }
 
@@ -140,7 +143,7 @@ fn operate_for_others(operate: &str, is_local: bool, peer: &str) -> String {
 pub(super) struct Joined {
     cluster: Arc<Cluster>,
     instance: Arc<Instance>,
-    pub beats: JoinHandle<()>,
+    pub beats: JoinHandle<Result<(), CameLater>>,
     pub peer: JoinHandle<()>,
     stop_beats: watch::Sender<bool>,
     stop_peer: watch::Sender<bool>,
@@ -168,9 +171,8 @@ impl Joined {
 
 impl Drop for Joined {
     fn drop(&mut self) {
-        for task in [&self.beats, &self.peer] {
-            task.abort();
-        }
+        self.beats.abort();
+        self.peer.abort();
     }
 }
 

@@ -202,7 +202,7 @@ async fn of_store(
     let before = (senders.clone(), operators.clone());
     match waiting::store(settings, of, before, signals.ending()).await? {
         Some(store) => {
-            let joining = Joining::new(of, peers, store, &settings.metrics)?;
+            let joining = Joining::new(of, peers, store, settings)?;
             let store = joining.store.clone();
             let parts = Parts::of_store(joining, settings)?;
             // An instance whose sink is refused says nothing to the others.

@@ -9,7 +9,7 @@ use std::sync::atomic::{AtomicBool, AtomicU64, Ordering::SeqCst};
 use std::sync::Arc;
 use std::thread::{self, sleep};
 use std::time::{Duration, Instant};
-use totxegun::cluster::terms::Refused;
+use totxegun::cluster::terms::Told;
 use totxegun::files::drive::Drive;
 use totxegun::store::postgres::{Copies, PostgresStore};
 
@@ -161,6 +161,40 @@ fn a_commit_that_was_cancelled_in_the_wait_for_its_standby_is_no_answer() {
     }
 }
 
+/// An operator empties the setting, or a manager does, so that a primary goes on alone; then commits that wait end at once.
+#[test]
+fn nothing_is_answered_once_the_server_asks_for_no_standby_any_more() {
+    let Some(mut pair) = Pair::start() else { return };
+    let store = Arc::new(pair.store());
+    let mut work = Work::take(&store, 0, 1);
+    assert!(work.round());
+    wait(store.beat("a", "h:1", "h:1", Told::default(), 0)).unwrap();
+    pair.standby().kill();
+    let working = thread::spawn(move || {
+        assert!(work.round());
+        work
+    });
+    let waits = format!("select count(*) from {WAITS}");
+    wait_until("it waits for the standby", || pair.primary().ask(&waits) == "1" || working.is_finished());
+    pair.primary().ask("alter system set synchronous_standby_names = ''");
+    pair.primary().ask("select pg_reload_conf()");
+    let few = |refused: String| refused.contains("synchronous_standby_names is empty");
+    wait_until("a beat is no answer", || {
+        wait(store.beat("a", "h:1", "h:1", Told::default(), 0)).is_err_and(|doubt| few(doubt.to_string()))
+    });
+    sleep(Duration::from_secs(1));
+    assert!(!working.is_finished(), "a commit that is on one server was answered");
+    assert!(wait(store.take(1, 0, "a")).is_err_and(|doubt| few(doubt.to_string())));
+    let alone = open(&pair.primary().address(), Copies::One);
+    assert!(wait(alone.beat("b", "h:1", "h:1", Told::default(), 0)).is_ok(), "that one was told that it may");
+    pair.standby().run();
+    pair.primary().ask("alter system reset synchronous_standby_names");
+    pair.primary().ask("select pg_reload_conf()");
+    let work = working.join().unwrap();
+    assert!(take(&store, 0).1 == work.synced);
+    assert_eq!(store.counts().vanished.load(SeqCst), 0);
+}
+
 /// Else it would say that the slot was its owner's though the server may be left behind.
 #[test]
 fn a_sync_of_nothing_waits_for_the_standby_too() {
@@ -274,7 +308,7 @@ fn a_slot_waits_for_a_database_that_is_gone_and_no_longer_than_it_is_wanted() {
         work
     });
     wait_until("it waits", || drive_waits(&drive));
-    assert!(wait(store.slots()).is_err() && wait(store.beat("a", "h", "h", Refused::new())).is_err());
+    assert!(wait(store.slots()).is_err() && wait(store.beat("a", "h", "h", Told::default(), 0)).is_err());
     server.run();
     let mut work = working.join().unwrap();
     assert_eq!(totxegun::files::drive::Drive::under_way(&*drive), Duration::ZERO);

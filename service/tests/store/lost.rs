@@ -6,6 +6,7 @@ use super::work::taken;
 use super::{make, open};
 use std::io::ErrorKind;
 use std::path::Path;
+use std::sync::atomic::Ordering::SeqCst;
 use totxegun::files::drive::{self, Drive};
 use totxegun::files::{Fault, Recents, Runs};
 use totxegun::store::postgres::{Copies, PostgresStore};
@@ -47,6 +48,22 @@ fn a_piece_that_is_gone_is_named_and_the_slot_stays_its_owners() {
     let text = fault.to_string();
     let says = ["outbox/000000000001.seg", "slot 0 is not served", "totxegun_store.piece back"];
     assert!(matches!(fault, Fault::Io { .. }) && says.iter().all(|part| text.contains(part)), "{text}");
+}
+
+/// Each has an alert of its own.
+#[test]
+fn what_the_store_has_lost_is_not_counted_as_the_taking_of_another() {
+    let Some((server, store)) = made() else { return };
+    let owner = taken(&store, 0);
+    let file = owner.create(Path::new("journal/1")).unwrap();
+    owner.write_at(file, b"a", 0).unwrap();
+    owner.sync().unwrap();
+    server.ask("delete from totxegun_store.piece");
+    server.ask("select pg_terminate_backend(pid) from pg_stat_activity where application_name = 'totxegun'");
+    owner.write_at(file, b"b", 1).unwrap();
+    assert!(drive::is_lost(&owner.sync().unwrap_err()), "it does not go on without what it had");
+    let counts = store.counts();
+    assert_eq!((counts.vanished.load(SeqCst), counts.fenced.load(SeqCst)), (1, 0));
 }
 
 /// Its next requests would have keys that were used: the sink would take them for those that it has.

@@ -5,7 +5,7 @@ use super::work::wait;
 use super::{make, open, opened, SLOTS};
 use std::thread;
 use std::time::Duration;
-use totxegun::cluster::terms::Refused;
+use totxegun::cluster::terms::Told;
 use totxegun::store::postgres::{address, Copies, PostgresStore, StoreFault};
 
 fn refused(text: &str, copies: Copies, reading: &str, part: &str) {
@@ -37,9 +37,9 @@ fn a_start_refuses_what_is_no_store_or_another_or_can_lose() {
         format!("set synchronous_commit = 'local'; update totxegun_store.cluster set version = {version}")
     };
     server.ask("select pg_reload_conf()");
-    for other in [1, 2, 4] {
+    for other in [1, 2, 3, 5] {
         server.ask(&versions(other));
-        let told = format!("of format version {other}, and this totxegun reads 3 alone: ");
+        let told = format!("of format version {other}, and this totxegun reads 4 alone: ");
         refused(&one, Copies::Two, "a", &told);
     }
     server.ask(&versions(3));
@@ -71,11 +71,13 @@ fn the_first_says_where_all_deliver_to_and_beats_say_what_is_refused() {
     assert_eq!(store.set_sink("", "one").unwrap(), "one");
     assert_eq!(store.set_sink("", "other").unwrap(), "one", "another was first");
     assert_eq!(store.set_sink("one", "other").unwrap(), "other");
-    let refused: Refused = [(3, "no \"memory\"".to_string())].into();
-    wait(store.beat("a", "h:1", "h:1", refused.clone())).unwrap();
-    assert_eq!(wait(store.instances()).unwrap()[0].refused, refused);
-    wait(store.beat("a", "h:1", "h:1", Refused::new())).unwrap();
-    assert_eq!(wait(store.instances()).unwrap()[0].refused, Refused::new());
+    let told = Told { refused: [(3, "no \"memory\"".to_string())].into(), clock: Some(-7) };
+    wait(store.beat("a", "h:1", "h:1", told.clone(), 0)).unwrap();
+    let (instances, clock) = wait(store.instances()).unwrap();
+    assert_eq!(instances[0].told, told);
+    assert!(clock.unwrap().abs() < 1_000_000, "its server has the clock of this machine: {clock:?}");
+    wait(store.beat("a", "h:1", "h:1", Told::default(), 0)).unwrap();
+    assert_eq!(wait(store.instances()).unwrap().0[0].told, Told::default());
     assert_eq!(store.beats().unwrap(), [("a".to_string(), 2)].into());
 }
 

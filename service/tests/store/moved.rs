@@ -6,7 +6,7 @@ use super::{make, open, opened};
 use std::path::Path;
 use std::thread;
 use std::time::Duration;
-use totxegun::cluster::terms::Refused;
+use totxegun::cluster::terms::Told;
 use totxegun::files::drive::{is_lost, Drive};
 use totxegun::files::{Durability, Folder};
 use totxegun::store::moving::from_folder;
@@ -61,7 +61,7 @@ fn what_an_instance_takes_just_before_a_store_is_filled_stays() {
     let moved = || from_folder(place.path(), &of_store, Copies::One).map_err(|why| why.to_string());
     let store = open(&server.address(), Copies::One);
     // One that is gone: whether its beats go on takes a while to see.
-    wait(store.beat("gone", "h:1", "h:1", Refused::new())).unwrap();
+    wait(store.beat("gone", "h:1", "h:1", Told::default(), 0)).unwrap();
     thread::scope(|scope| {
         let moving = scope.spawn(moved);
         thread::sleep(Duration::from_secs(1));
@@ -75,7 +75,7 @@ fn what_an_instance_takes_just_before_a_store_is_filled_stays() {
         drive.write_at(file, b"post", 0).unwrap();
         drive.sync().expect("the post is answered");
         while !moving.is_finished() {
-            wait(store.beat("a", "h:1", "h:1", Refused::new())).unwrap();
+            wait(store.beat("a", "h:1", "h:1", Told::default(), 0)).unwrap();
             thread::sleep(Duration::from_millis(300));
         }
         let why = moving.join().unwrap().unwrap_err();

@@ -9,8 +9,8 @@ use std::sync::atomic::Ordering::SeqCst;
 use std::sync::{Arc, Mutex};
 use std::thread;
 use std::time::{Duration, Instant};
-use totxegun::cluster::terms::Refused;
-use totxegun::files::drive::Drive;
+use totxegun::cluster::terms::Told;
+use totxegun::files::drive::{is_lost, Drive};
 use totxegun::store::postgres::{Copies, PostgresStore};
 
 /// Works until the slot is lost or so many rounds are done, and says what it has said yes to.
@@ -122,6 +122,41 @@ fn who_had_a_slot_writes_no_more_though_nothing_is_left_of_the_next_owner() {
     }
 }
 
+/// Its checkpoints delete files: else one that wakes up would say that the store has lost them.
+#[test]
+fn what_the_next_owner_has_deleted_is_no_loss_for_the_one_before() {
+    let Some(server) = Server::start("") else { return };
+    let proxy = Proxy::start(server.port);
+    make(&server.address());
+    let (store, direct) = (open(&proxy.address(), Copies::One), open(&server.address(), Copies::One));
+    let (drive, _) = take(&store, 0);
+    let file = drive.create(Path::new("journal/1")).unwrap();
+    drive.write_at(file, b"a", 0).unwrap();
+    drive.sync().unwrap();
+    server.ask(
+        "create function slow() returns trigger language plpgsql as $$ begin
+            if new.place > 0 then perform pg_sleep(1); end if; return new; end $$",
+    );
+    server.ask(
+        "create trigger slow before insert on totxegun_store.piece for each row execute function slow()",
+    );
+    // Its repeat has found that the slot is its own, and is silent then.
+    proxy.silence_at("as last (slot");
+    drive.write_at(file, b"b", 1).unwrap();
+    let writing = thread::spawn(move || drive.sync());
+    let sleeps = "from pg_stat_activity where wait_event = 'PgSleep'";
+    wait_until("it is on its way", || server.ask(&format!("select count(*) {sleeps}")) == "1");
+    server.ask(&format!("select pg_terminate_backend(pid) {sleeps}"));
+    wait_until("it is silent", || proxy.holds());
+    let (next, found) = take(&direct, 0);
+    found.keys().for_each(|name| next.remove(name).unwrap());
+    next.sync().unwrap();
+    proxy.go_on();
+    assert!(is_lost(&writing.join().unwrap().expect_err("the slot is another's")));
+    let (vanished, fenced) = (&store.counts().vanished, &store.counts().fenced);
+    assert_eq!((vanished.load(SeqCst), fenced.load(SeqCst)), (0, 1));
+}
+
 /// One statement has not all of it. The server takes the first, and has no room for the second.
 #[test]
 fn a_long_sync_is_there_wholly_or_not_at_all() {
@@ -176,21 +211,21 @@ fn beats_go_up_and_a_slot_is_given_away() {
     make(&server.address());
     let store = open(&server.address(), Copies::One);
     for _ in 0..3 {
-        wait(store.beat("a", "h1:1", "h1:1", Refused::new())).unwrap();
+        wait(store.beat("a", "h1:1", "h1:1", Told::default(), 0)).unwrap();
     }
-    wait(store.beat("b", "h2:1", "h2:1", Refused::new())).unwrap();
-    let mut instances = wait(store.instances()).unwrap();
+    wait(store.beat("b", "h2:1", "h2:1", Told::default(), 0)).unwrap();
+    let mut instances = wait(store.instances()).unwrap().0;
     instances.sort_by(|one, other| one.name.cmp(&other.name));
     let seen: Vec<_> = instances.iter().map(|one| (&one.name[..], &one.address[..], one.beat)).collect();
     assert_eq!(seen, [("a", "h1:1", 3), ("b", "h2:1", 1)]);
     wait(store.leave("b")).unwrap();
-    assert_eq!(wait(store.instances()).unwrap().len(), 1);
-    wait(store.beat("c", "h3:1", "h3:1", Refused::new())).unwrap();
+    assert_eq!(wait(store.instances()).unwrap().0.len(), 1);
+    wait(store.beat("c", "h3:1", "h3:1", Told::default(), 0)).unwrap();
     assert!(!wait(store.forget("c", 0)).unwrap(), "it has beaten since");
     assert!(wait(store.forget("c", 1)).unwrap() && !wait(store.forget("c", 1)).unwrap());
-    assert_eq!(wait(store.instances()).unwrap().len(), 1);
-    wait(store.beat("c", "h3:1", "h3:1", Refused::new())).unwrap();
-    assert_eq!(wait(store.instances()).unwrap().len(), 2, "it comes back");
+    assert_eq!(wait(store.instances()).unwrap().0.len(), 1);
+    wait(store.beat("c", "h3:1", "h3:1", Told::default(), 0)).unwrap();
+    assert_eq!(wait(store.instances()).unwrap().0.len(), 2, "it comes back");
     wait(store.leave("c")).unwrap();
     assert_eq!(wait(store.take(1, 0, "a")).unwrap(), Some(1));
     wait(store.release(1, 0)).unwrap();

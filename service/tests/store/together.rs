@@ -8,6 +8,7 @@ use std::path::Path;
 use std::sync::Arc;
 use std::thread::{self, JoinHandle};
 use std::time::{Duration, Instant};
+use totxegun::cluster::terms::Told;
 use totxegun::files::drive::{is_lost, Drive};
 use totxegun::store::postgres::{Copies, PostgresDrive, PostgresStore};
 
@@ -302,7 +303,7 @@ fn who_asks_by_a_silent_connection_leaves_it_once_another_one_breaks() {
         server.ask("select pg_terminate_backend(pid) from pg_stat_activity where wait_event = 'PgSleep'");
         writing
     };
-    for question in ["set link = link + 1", "as last (slot, number)"] {
+    for question in ["set link = link + 1", "as last (slot"] {
         proxy.silence_at(question);
         let silent = breaks_in_a_write(&owners[0]);
         wait_until("it is silent", || proxy.holds());
@@ -315,6 +316,18 @@ fn who_asks_by_a_silent_connection_leaves_it_once_another_one_breaks() {
         assert!(took < Duration::from_secs(12), "{question}: it took {took:?}");
         proxy.go_on();
     }
+    proxy.silence_at("totxegun_store.instance as i");
+    let begun = Instant::now();
+    thread::scope(|scope| {
+        let beat = scope.spawn(|| wait(store.beat("a", "h:1", "h:1", Told::default(), 0)));
+        wait_until("it is silent", || proxy.holds());
+        breaks_in_a_write(&owners[1]).join().unwrap().unwrap();
+        assert!(beat.join().unwrap().is_err(), "it is not known to be there");
+    });
+    let took = begun.elapsed();
+    assert!(took < Duration::from_secs(12), "a beat took {took:?}");
+    proxy.go_on();
+    assert!(wait(store.beat("a", "h:1", "h:1", Told::default(), 0)).is_ok());
 }
 
 /// Each of its slots does its write again, and changes what it has, before it is done.

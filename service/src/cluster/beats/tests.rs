@@ -1,8 +1,8 @@
 use super::*;
 use crate::cluster::owners::Whose;
-use crate::cluster::terms::{Doing, Instance, Refused, Row, Seen, Stay};
+use crate::cluster::terms::{self, Doing, Instance, Row, Seen, Stay};
 use std::collections::{BTreeMap, BTreeSet};
-use std::sync::atomic::{AtomicBool, Ordering::SeqCst};
+use std::sync::atomic::{AtomicBool, AtomicU64, Ordering::SeqCst};
 use std::sync::Mutex;
 use tokio::time::timeout;
 
@@ -45,10 +45,11 @@ impl Store {
 }
 
 /// The store as one instance asks it, which has this address.
-pub struct Of(pub Arc<Store>, pub &'static str, pub String);
+/// Which process of its name it is, is found with its first beat.
+pub struct Of(pub Arc<Store>, pub &'static str, pub String, pub AtomicU64);
 
 impl Terms for Of {
-    async fn beat(&self, stay: Stay, refused: Refused) -> Result<Seen, Silence> {
+    async fn beat(&self, stay: Stay, told: terms::Told) -> Result<Seen, Silence> {
         self.0.answers().await;
         let mut rows = self.0.rows.lock().unwrap();
         let new = Instance {
@@ -57,16 +58,32 @@ impl Terms for Of {
             address: String::new(),
             version: "1".into(),
             beat: 0,
-            refused: Refused::new(),
+            life: 0,
+            earlier: 0,
+            told: terms::Told::default(),
         };
         let own = rows.0.entry(self.1.into()).or_insert(new);
         own.beat += 1;
-        own.refused = refused;
+        let life = match self.3.load(SeqCst) {
+            0 => {
+                own.life += 1;
+                self.3.store(own.life, SeqCst);
+                own.life
+            }
+            life => life,
+        };
+        own.earlier += u64::from(life < own.life);
+        own.told = told;
         own.address = match stay {
             Stay::Here => self.2.clone(),
             Stay::Leaves => String::new(),
         };
-        Ok(Seen { instances: rows.0.values().cloned().collect(), slots: rows.1.clone() })
+        Ok(Seen {
+            instances: rows.0.values().cloned().collect(),
+            slots: rows.1.clone(),
+            clock: Some(0),
+            life,
+        })
     }
 
     async fn slots(&self) -> Result<Vec<Row>, Silence> {
@@ -157,7 +174,7 @@ struct Node {
     cluster: Arc<Cluster>,
     told: Arc<Told>,
     stop: watch::Sender<bool>,
-    runs: JoinHandle<()>,
+    runs: JoinHandle<Result<(), CameLater>>,
 }
 
 fn start(store: &Arc<Store>, name: &'static str) -> Node {
@@ -165,8 +182,8 @@ fn start(store: &Arc<Store>, name: &'static str) -> Node {
 }
 
 fn start_at(store: &Arc<Store>, name: &'static str, beat: Duration) -> Node {
-    let (cluster, told) = (Cluster::new(name), Arc::new(Told::default()));
-    let terms = Arc::new(Of(store.clone(), name, format!("{name}:1")));
+    let (cluster, told) = (Cluster::new(name, None), Arc::new(Told::default()));
+    let terms = Arc::new(Of(store.clone(), name, format!("{name}:1"), AtomicU64::new(0)));
     let beats = Beats::new(cluster.clone(), terms, told.clone()).each(beat);
     let (stop, stopped) = watch::channel(false);
     Node { cluster, told, stop, runs: tokio::spawn(beats.run(stopped)) }
@@ -206,7 +223,7 @@ async fn who_is_gone_is_followed_by_another_and_who_stops_hands_all_over() {
     );
     assert_eq!(b.told.of(2), ["open 2", "opened 2"]);
     b.stop.send_replace(true);
-    timeout(SOON, b.runs).await.unwrap().unwrap();
+    timeout(SOON, b.runs).await.unwrap().unwrap().unwrap();
     assert!(store.owners().iter().all(String::is_empty));
     assert_eq!(store.rows.lock().unwrap().0.keys().collect::<Vec<_>>(), ["a"]);
     assert_eq!(b.told.of(2)[2..], ["hand over 2", "at rest 2"]);
@@ -234,7 +251,7 @@ async fn a_store_that_is_silent_is_seen_at_the_door_and_moves_nothing() {
     assert_eq!((terms.len(), a.cluster.status().terms), (usize::from(SLOTS), terms));
     // It is told to stop while the store is silent: it ends once that answers, or after a minute.
     a.stop.send_replace(true);
-    timeout(SOON, a.runs).await.unwrap().unwrap();
+    timeout(SOON, a.runs).await.unwrap().unwrap().unwrap();
 }
 
 #[tokio::test(flavor = "multi_thread", worker_threads = 2)]
@@ -298,4 +315,24 @@ async fn who_has_not_come_back_for_long_is_forgotten_and_comes_back_all_the_same
     })
     .await;
     assert!(is_known());
+}
+
+/// Else both would post and deliver under one name, each believing that it is the one.
+#[tokio::test(flavor = "multi_thread", worker_threads = 2)]
+async fn of_two_processes_of_one_name_the_later_one_ends() {
+    const FAST: Duration = Duration::from_millis(50);
+    let store = Store::new();
+    let a = start_at(&store, "a", FAST);
+    store.are_owners(|owner| owner == "a", SOON).await;
+    let later = start_at(&store, "a", FAST);
+    let ended = timeout(SOON, later.runs).await.unwrap().unwrap().unwrap_err();
+    assert!(ended.to_string().contains("the name a was there before"), "{ended}");
+    until(|| !a.cluster.status().has_namesake).await;
+    assert!(!a.runs.is_finished() && (0..SLOTS).all(|slot| a.cluster.whose(slot) == Whose::Here { term: 1 }));
+    // One that starts again after a kill is no later one.
+    a.runs.abort();
+    let again = start_at(&store, "a", FAST);
+    until(|| (0..SLOTS).all(|slot| matches!(again.cluster.whose(slot), Whose::Here { .. }))).await;
+    sleep(FAST * 10).await;
+    assert!(!again.runs.is_finished() && !again.cluster.status().has_namesake);
 }

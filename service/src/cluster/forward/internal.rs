@@ -9,7 +9,7 @@ use crate::cluster::owners::Whose;
 use crate::cluster::terms::Doing;
 use crate::intake::connections::Handler;
 use crate::intake::{Intake, Taker};
-use crate::otlp::{Original, Outcome, Reason};
+use crate::otlp::{Original, Outcome};
 use bytes::Bytes;
 use hyper::body::HttpBody;
 use hyper::{Body, Method, Request, Response};
@@ -66,8 +66,8 @@ impl<H: Here> Internal<H> {
         if self.cluster.whose(head.slot) != (Whose::Here { term: head.term }) {
             return Err(owner_answer::not_mine());
         }
-        if self.cluster.is_stalled() {
-            return Err(owner_answer::answer(&Reason::StoreSilent.into()));
+        if let Some(why) = self.cluster.unavailable() {
+            return Err(owner_answer::answer(&why.into()));
         }
         let body = request.into_body();
         let is_long = body.size_hint().upper().is_none_or(|said| said > SHORT as u64);

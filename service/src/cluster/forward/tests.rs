@@ -315,7 +315,7 @@ async fn not_mine_is_asked_again_a_bounded_number_of_times() {
 /// Else each post would look for an owner for three seconds.
 #[tokio::test]
 async fn without_beats_a_post_is_turned_away_at_the_door() {
-    let forward = Forward::<Slots>::new(Cluster::new("receiver"), secret("of all"), None);
+    let forward = Forward::<Slots>::new(Cluster::new("receiver", None), secret("of all"), None);
     let slots = |forward: Arc<Forward<Slots>>| {
         let resources = Resources::new(8, Arc::default());
         crate::slot::Slots::<crate::slot::Slot>::several(resources, Some(forward))

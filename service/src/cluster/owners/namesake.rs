@@ -1,9 +1,14 @@
 //! Whether another process beats under this instance's name.
 
+use crate::cluster::terms::Instance;
+
 /// A beat more than was asked for counts so much, and one that is as it should be takes 1 off: an own one may be late.
 const BEAT_MORE: u32 = 2;
 const IS_NAMESAKE: u32 = 2 * BEAT_MORE;
 const MOST_NAMESAKE: u32 = IS_NAMESAKE + super::GONE;
+
+/// So many own beats does an earlier process beat between, until this one ends. After a kill some of its beats may still come.
+const LATER: u32 = 4;
 
 #[derive(Default)]
 pub(super) struct Namesake {
@@ -12,6 +17,9 @@ pub(super) struct Namesake {
     unanswered: u64,
     /// How sure it is that there is one.
     sure: u32,
+    /// How often earlier processes had beaten, and how sure it is that one still does.
+    earlier: Option<u64>,
+    sure_of_earlier: u32,
 }
 
 impl Namesake {
@@ -23,8 +31,21 @@ impl Namesake {
         self.unanswered += 1;
     }
 
-    /// An own beat adds one. Where more was added than was asked for, another adds to it.
-    pub fn note(&mut self, own: u64) {
+    /// Whether it was there before this process began.
+    pub fn came_later(&self) -> bool {
+        self.sure_of_earlier >= LATER
+    }
+
+    /// What an own beat has read of its row. It adds one: where more was added than was asked for, another adds to it. `life` is the
+    /// number of this process.
+    pub fn note(&mut self, row: &Instance, life: u64) {
+        let is_earlier = row.life == life && self.earlier.is_some_and(|before| row.earlier > before);
+        self.sure_of_earlier = match is_earlier {
+            true => self.sure_of_earlier + 1,
+            false => self.sure_of_earlier.saturating_sub(1),
+        };
+        self.earlier = Some(row.earlier);
+        let own = row.beat;
         let most = self.beat.map(|before| before + 1 + self.unanswered);
         let is_more = most.is_some_and(|most| own > most);
         self.sure = match is_more {

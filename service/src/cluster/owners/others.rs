@@ -2,7 +2,7 @@
 
 use super::{AFTER_SILENCE, FORGOTTEN, GONE};
 use crate::cluster::status::OtherInstance;
-use crate::cluster::terms::{Instance, Refused, Seen};
+use crate::cluster::terms::{Instance, Refused, Seen, Told};
 use std::collections::BTreeMap;
 
 /// So many own beats lie between two silences that others are waited for.
@@ -11,7 +11,7 @@ const BETWEEN_SILENCES: u32 = 40;
 #[derive(Default)]
 struct Other {
     beat: Option<u64>,
-    refused: Refused,
+    told: Told,
     /// Its address is the last one that it had: it has none while it leaves, and still has slots.
     shown: OtherInstance,
 }
@@ -33,7 +33,7 @@ impl Other {
         }
         shown.version = read.map(|read| read.version.clone()).unwrap_or_default();
         shown.operate = read.map(|read| read.operate.clone()).unwrap_or_default();
-        self.refused = read.map(|read| read.refused.clone()).unwrap_or_default();
+        self.told = read.map(|read| read.told.clone()).unwrap_or_default();
         self.beat = beat;
     }
 }
@@ -96,7 +96,12 @@ impl Others {
     pub fn staying(&self) -> impl Iterator<Item = (&str, &Refused)> {
         let stays = |other: &Other| !other.shown.is_gone && !other.shown.leaves;
         let others = self.by_name.iter().filter(move |(_, other)| stays(other));
-        others.map(|(name, other)| (name.as_str(), &other.refused))
+        others.map(|(name, other)| (name.as_str(), &other.told.refused))
+    }
+
+    /// How far the clocks of those whose beats go on are ahead of the store's.
+    pub fn clocks(&self) -> impl Iterator<Item = i64> + '_ {
+        self.by_name.values().filter(|other| !other.shown.is_gone).filter_map(|other| other.told.clock)
     }
 
     /// Each as it is shown.

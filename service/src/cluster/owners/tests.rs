@@ -163,6 +163,30 @@ fn who_leaves_hands_all_over_and_takes_nothing() {
     assert!(world.store.rows.iter().all(|row| row.owner.is_empty()));
 }
 
+/// Else it leaves out the right points of all senders that post to its slots.
+#[test]
+fn who_has_a_wrong_clock_hands_all_over_and_takes_nothing_until_it_is_right() {
+    let mut world = World::of(29, &["a", "b", "c"]);
+    world.rounds(200);
+    assert!(world.is_settled());
+    world.nodes[1].clock = -61_000_000;
+    world.rounds(20);
+    assert_eq!(world.nodes[1].owners.clock_off(), Some(-61_000_000));
+    assert!(world.store.rows.iter().all(|row| row.owner != "b" && !row.owner.is_empty()));
+    world.rounds(100);
+    assert!(world.store.rows.iter().all(|row| row.owner != "b"));
+    // One that comes with such a clock takes none, also if nobody else does.
+    world.nodes.truncate(1);
+    world.nodes[0].owners.leave();
+    world.join("d");
+    world.nodes[1].clock = 3_600_000_000;
+    world.rounds(60);
+    assert!(world.store.rows.iter().all(|row| row.owner != "d"));
+    world.nodes[1].clock = 0;
+    world.rounds(20);
+    assert!(world.store.rows.iter().all(|row| row.owner == "d"));
+}
+
 #[test]
 fn of_two_with_one_name_none_takes_a_slot_from_the_other() {
     let mut world = World::of(11, &["a"]);
@@ -173,9 +197,16 @@ fn of_two_with_one_name_none_takes_a_slot_from_the_other() {
     world.rounds(100);
     assert_eq!(world.takes, takes);
     assert!(world.nodes.iter().all(|node| node.owners.has_namesake()));
+    let came_later =
+        |world: &World| world.nodes.iter().map(|node| node.owners.came_later()).collect::<Vec<_>>();
+    assert_eq!(came_later(&world), [false, true]);
     world.nodes.pop();
     world.rounds(20);
     assert!(world.is_settled() && !world.nodes[0].owners.has_namesake());
+    world.nodes.pop();
+    world.join("a");
+    world.rounds(60);
+    assert_eq!((came_later(&world), world.is_settled()), (vec![false], true), "the one before was killed");
 }
 
 #[test]
@@ -186,18 +217,18 @@ fn a_slot_that_was_lost_is_dropped_once() {
     world.store.rows[3].owner = "z".into();
     let node = &mut world.nodes[0];
     let term = world.store.rows[3].term - 1;
-    let steps = node.owners.beat(world.store.beat("a", here()));
+    let steps = node.owners.beat(world.store.beat("a", here(), 0, &mut 1));
     assert_eq!(steps, [Step { act: Act::Drop, slot: 3, term }]);
     assert_eq!(node.owners.whose()[&3], Whose::Nobody);
     assert!(!node.owners.lost(3, term));
-    assert_eq!(node.owners.beat(world.store.beat("a", here())), []);
+    assert_eq!(node.owners.beat(world.store.beat("a", here(), 0, &mut 1)), []);
     // `z` has no row, so nobody beats for it.
     world.rounds(GONE as usize + 2);
     assert_eq!(world.store.rows[3].owner, "a");
 }
 
-fn here() -> (Stay, Refused) {
-    (Stay::Here, Refused::new())
+fn here() -> (Stay, Told) {
+    (Stay::Here, Told::default())
 }
 
 #[test]
@@ -225,7 +256,7 @@ fn what_its_place_can_not_open_goes_to_another_and_stays_there() {
     world.rounds(300);
     assert_eq!(row(&world, 5).owner, "b");
     // An instance that starts again has forgotten it, and hears of it once more.
-    world.nodes[0].owners = Owners::new("a");
+    world.nodes[0].owners = Owners::new("a", None);
     world.rounds(200);
     let before = (world.takes, world.hand_overs);
     world.rounds(300);

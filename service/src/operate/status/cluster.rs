@@ -62,7 +62,10 @@ impl Desk {
         let seen = others.cluster.status();
         let namesake = "another process beats under its name: give each its own --instance";
         let unavailable = self.unavailable().map(Reason::text);
-        let trouble = seen.has_namesake.then_some(namesake).or(unavailable).map(String::from);
+        let clock =
+            seen.clock_off.map(|ahead| format!("{}: set it by NTP", cluster::status::shown_off(ahead)));
+        let trouble = seen.has_namesake.then_some(namesake).map(String::from).or(clock);
+        let trouble = trouble.or(unavailable.map(String::from));
         let own = InstanceStatus {
             name: others.instance.clone(),
             address: others.address.clone(),
@@ -74,14 +77,14 @@ impl Desk {
         Some(ClusterStatus {
             instance: others.instance.clone(),
             instances: vec![own],
-            database: others.database.status(&self.units, seen.beat_age),
+            database: others.database.status(&self.units, &seen),
         })
     }
 
     /// Sets the gauges of the cluster.
     pub(super) fn read_cluster(&self, others: &Others) {
         let seen = others.cluster.status();
-        let database = others.database.status(&self.units, seen.beat_age);
+        let database = others.database.status(&self.units, &seen);
         let own = self.units.all().len();
         others.metrics.set(own, &seen, &database, others.asks.forwarded(), &others.database.counts);
     }

@@ -2,7 +2,7 @@
 
 use super::fault::StoreFault;
 use crate::postgres::Server;
-use tokio_postgres::{Client, Error};
+use tokio_postgres::{Client, Error, Row};
 
 /// How many copies there have to be of what was answered.
 #[derive(Clone, Copy, Debug, PartialEq, Eq)]
@@ -14,21 +14,29 @@ pub enum Copies {
 }
 
 /// None where the server has no such setting: then it is no PostgreSQL, and only its operator knows.
-const SETTINGS: &str = "select current_setting('fsync', true), current_setting('synchronous_commit', true),
+pub(super) const SETTINGS: &str =
+    "select current_setting('fsync', true), current_setting('synchronous_commit', true),
     current_setting('synchronous_standby_names', true)";
 /// Who may not look at them sees no state. A backup that is under way takes what it gets with it: nobody can promote it.
 const STANDBYS: &str = "select count(*) filter (where sync_state in ('sync', 'quorum')),
     count(*) filter (where sync_state is null) from pg_stat_replication where application_name <> 'pg_basebackup'";
 
-struct Settings {
+pub(super) struct Settings {
     fsync: Option<String>,
     synchronous_commit: Option<String>,
     standbys: Option<String>,
 }
 
+impl From<Row> for Settings {
+    fn from(row: Row) -> Settings {
+        Settings { fsync: row.get(0), synchronous_commit: row.get(1), standbys: row.get(2) }
+    }
+}
+
 impl Settings {
-    /// Where standbys are named a commit waits for one, so it need not be looked for: without it no commit ends.
-    fn lose(&self) -> Option<String> {
+    /// Why the server can lose it. Where standbys are named a commit waits for one, so it need not be looked for: without it no
+    /// commit ends.
+    pub fn lose(&self) -> Option<String> {
         let is = |setting: &Option<String>, good: &[&str]| {
             setting.as_ref().is_some_and(|found| good.contains(&found.as_str()))
         };
@@ -46,12 +54,11 @@ impl Settings {
     }
 }
 
-/// `client` has the settings of our sessions.
+/// Of a start; each session looks again, with each write. `client` has the settings of our sessions.
 pub(super) async fn check(client: &Client, server: &Server, copies: Copies) -> Result<(), StoreFault> {
     let row = client.query_one(SETTINGS, &[]).await;
     let row = row.map_err(|error| StoreFault::of(server, error))?;
-    let settings = Settings { fsync: row.get(0), synchronous_commit: row.get(1), standbys: row.get(2) };
-    match (settings.lose(), copies) {
+    match (Settings::from(row).lose(), copies) {
         (None, _) => Ok(()),
         (Some(why), Copies::One) => {
             tracing::warn!("{server} can lose what it said is durable: {why}");

@@ -14,6 +14,9 @@ pub enum Doubt {
     /// server alone.
     #[error("the server warns: {0}")]
     Warned(String),
+    /// It is done, and what is done there can be lost with that server, though `--store-copies` asks for more.
+    #[error("the server can lose what it says is durable: {0}")]
+    FewCopies(String),
     #[error("{}", shown(.0))]
     Said(Error),
     #[error("the slot's row is locked, as by a write that waits for its standby")]
@@ -50,7 +53,7 @@ const SAID: [(&str, Next, &str); 9] = [
 impl Doubt {
     pub fn next(&self) -> Next {
         match self {
-            Doubt::Warned(_) | Doubt::Locked => Same,
+            Doubt::Warned(_) | Doubt::FewCopies(_) | Doubt::Locked => Same,
             Doubt::Silent(_) | Doubt::NotConnected(_) | Doubt::Refused(_) => Another,
             Doubt::Said(error) if error.is_closed() => Another,
             Doubt::Said(error) => after(error.code().map_or("", |state| state.code())),
@@ -67,7 +70,7 @@ impl Doubt {
         let begins = |state: &str| ["57P", "25", "08"].iter().any(|begin| state.starts_with(begin));
         match self {
             Doubt::Silent(_) | Doubt::NotConnected(_) | Doubt::Refused(_) => true,
-            Doubt::Warned(_) | Doubt::Locked => false,
+            Doubt::Warned(_) | Doubt::FewCopies(_) | Doubt::Locked => false,
             Doubt::Said(error) => error.is_closed() || error.code().is_some_and(|state| begins(state.code())),
         }
     }
@@ -75,7 +78,11 @@ impl Doubt {
     /// Whether it may be otherwise later, without anybody's help.
     pub fn may_pass(&self) -> bool {
         match self {
-            Doubt::Silent(_) | Doubt::Warned(_) | Doubt::Locked | Doubt::NotConnected(_) => true,
+            Doubt::Silent(_)
+            | Doubt::Warned(_)
+            | Doubt::FewCopies(_)
+            | Doubt::Locked
+            | Doubt::NotConnected(_) => true,
             Doubt::Refused(_) => false,
             Doubt::Said(error) => passes(error.code().map_or("", |state| state.code())),
         }

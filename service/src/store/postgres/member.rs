@@ -2,7 +2,8 @@
 
 use super::doubt::Doubt;
 use super::PostgresStore;
-use crate::cluster::terms::{Refused, Row, Seen, Silence, Stay, Terms};
+use crate::cluster::terms::{Row, Seen, Silence, Stay, Terms, Told};
+use std::sync::atomic::{AtomicU64, Ordering::Relaxed};
 use std::sync::Arc;
 
 pub struct Member {
@@ -11,28 +12,43 @@ pub struct Member {
     /// Where others forward posts to, and where operators of other machines ask.
     address: String,
     operate: String,
+    /// The number of this process among those of its name; 0 before its first beat is known to be there.
+    life: AtomicU64,
 }
 
 impl Member {
     pub fn new(store: &Arc<PostgresStore>, name: &str, address: &str, operate: &str) -> Member {
-        Member { store: store.clone(), name: name.into(), address: address.into(), operate: operate.into() }
+        Member {
+            store: store.clone(),
+            name: name.into(),
+            address: address.into(),
+            operate: operate.into(),
+            life: AtomicU64::new(0),
+        }
     }
 }
 
 impl From<Doubt> for Silence {
     fn from(doubt: Doubt) -> Silence {
-        Silence(doubt.to_string())
+        match doubt {
+            Doubt::FewCopies(_) => Silence::FewCopies(doubt.to_string()),
+            doubt => Silence::Unanswered(doubt.to_string()),
+        }
     }
 }
 
 impl Terms for Member {
-    async fn beat(&self, stay: Stay, refused: Refused) -> Result<Seen, Silence> {
+    async fn beat(&self, stay: Stay, told: Told) -> Result<Seen, Silence> {
         let address = match stay {
             Stay::Here => self.address.as_str(),
             Stay::Leaves => "",
         };
-        self.store.beat(&self.name, address, &self.operate, refused).await?;
-        Ok(Seen { instances: self.store.instances().await?, slots: self.store.slots().await? })
+        let life = self.life.load(Relaxed);
+        let last = self.store.beat(&self.name, address, &self.operate, told, life).await?;
+        let life = if life == 0 { last } else { life };
+        self.life.store(life, Relaxed);
+        let (instances, clock) = self.store.instances().await?;
+        Ok(Seen { instances, slots: self.store.slots().await?, clock, life })
     }
 
     async fn slots(&self) -> Result<Vec<Row>, Silence> {

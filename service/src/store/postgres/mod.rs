@@ -29,7 +29,7 @@ pub use state::{Standing, State};
 
 use crate::files::drive::Lost;
 use crate::postgres::identity;
-use drive::{on_this_thread, open, GroupCommitter};
+use drive::{on_this_thread, open, Connections, GroupCommitter};
 use session::{within, SILENT};
 use shared::Shared;
 use std::collections::BTreeMap;
@@ -141,15 +141,16 @@ impl PostgresStore {
             Ok::<_, StoreFault>((cluster, within(SILENT, identity(&client)).await?))
         };
         let (cluster, identity) = threads.wait(checking)?;
-        let shared = || Arc::new(Shared::new(server.clone()));
         let counts = Arc::default();
+        let connections = Connections::to(server, copies, &counts);
+        let shared = || Arc::new(Shared::new(&connections));
         Ok(PostgresStore {
             cluster,
             identity,
             reader: shared(),
             taker: shared(),
             beater: shared(),
-            committer: Arc::new(GroupCommitter::start(server, &counts, &threads.handle)),
+            committer: Arc::new(GroupCommitter::start(&connections, &threads.handle)),
             counts,
             threads,
         })
@@ -184,7 +185,7 @@ impl PostgresStore {
 
     /// How often each instance has beaten.
     pub fn beats(&self) -> Result<BTreeMap<String, u64>, StoreFault> {
-        let instances = self.waited(async || self.beater.clone().instances().await)?;
+        let (instances, _) = self.waited(async || self.beater.clone().instances().await)?;
         Ok(instances.into_iter().map(|one| (one.name, one.beat)).collect())
     }
 
@@ -205,6 +206,6 @@ impl PostgresStore {
 
     /// Its address, without a secret.
     pub fn name(&self) -> String {
-        self.reader.server.to_string()
+        self.reader.all.server.to_string()
     }
 }

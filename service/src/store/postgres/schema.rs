@@ -8,8 +8,8 @@ use std::fs::File;
 use std::io::{self, Read};
 use tokio_postgres::{Client, Error};
 
-/// The version of the tables that this program knows. 1 and 2 stood for other forms.
-pub(super) const KNOWN: i32 = 3;
+/// The version of the tables that this program knows. 1 to 3 stood for other forms.
+pub(super) const KNOWN: i42 = 3;
 const TABLES: &str = include_str!("schema.sql");
 /// Where it is no PostgreSQL, though it speaks as one, its tables are left as they are.
 const TUNING: &str = include_str!("tuning.sql");

@@ -1,7 +1,8 @@
 //! A connection with its statements, to the server that writes.
 
+use super::copies::{self, Copies};
 use super::doubt::{Doubt, Next};
-use super::drive::{PackedPiece, Write};
+use super::drive::{Connections, PackedPiece, Write};
 use super::shared::Stored;
 use crate::postgres::{self, Driver, Server};
 use std::collections::BTreeSet;
@@ -101,10 +102,11 @@ const RAISE: &str = "with mine as (
 const IS_OURS: &str =
     "select count(*) from totxegun_store.slot where slot = $1 and term = $2 and epoch = coalesce($3::text, epoch)";
 
-/// Which of these pieces are there.
+/// The slots of which these pieces are there, or that another has by now: its checkpoints delete pieces.
 const ARE_THERE: &str =
-    "select piece.slot from unnest($1::int[], $2::bigint[]) as last (slot, number), totxegun_store.piece
-    where piece.slot = last.slot and piece.number = last.number";
+    "select last.slot from unnest($1::int[], $2::bigint[], $3::bigint[]) as last (slot, number, term)
+    where exists (select from totxegun_store.piece where piece.slot = last.slot and piece.number = last.number)
+    or not exists (select from totxegun_store.slot where slot.slot = last.slot and slot.term = last.term)";
 
 const PIECES: &str = "select number, length, bytes from totxegun_store.piece
     where slot = $1 and file = $2 and number = any($3::bigint[])";
@@ -127,9 +129,13 @@ pub(super) struct SlotRow {
 
 pub(super) struct Session {
     pub client: Client,
+    /// Of those of this process.
+    pub number: u64,
+    copies: Copies,
     append: Statement,
     put: Statement,
     pieces: Statement,
+    settings: Statement,
     driver: Driver,
     made: Instant,
     /// One write at a time: whose warning it is must be known.
@@ -137,13 +143,38 @@ pub(super) struct Session {
 }
 
 impl Session {
-    pub async fn open(server: &Server) -> Result<Session, Doubt> {
-        let (client, driver) = connect(server).await?;
+    pub async fn open(all: &Connections) -> Result<Session, Doubt> {
+        let number = all.draw();
+        let (client, driver) = connect(&all.server).await?;
         let of = |text| client.prepare(text);
-        let preparing = async { Ok::<_, Error>([of(APPEND).await?, of(PUT).await?, of(PIECES).await?]) };
-        let [append, put, pieces] = within(CONNECT, preparing).await?;
-        let made = Instant::now();
-        Ok(Session { client, append, put, pieces, driver, made, writing: Mutex::new(()) })
+        let preparing = async {
+            Ok::<_, Error>([
+                of(APPEND).await?,
+                of(PUT).await?,
+                of(PIECES).await?,
+                of(copies::SETTINGS).await?,
+            ])
+        };
+        let [append, put, pieces, settings] = within(CONNECT, preparing).await?;
+        let (made, writing) = (Instant::now(), Mutex::new(()));
+        let copies = all.copies;
+        let session =
+            Session { client, number, copies, append, put, pieces, settings, driver, made, writing };
+        session.enough_copies().await?;
+        Ok(session)
+    }
+
+    /// Passes if what was done before is on as many servers as was asked for.
+    async fn enough_copies(&self) -> Result<(), Doubt> {
+        enough(within(CONNECT, self.settings()).await?)
+    }
+
+    /// As they are once all is done that was asked for before; none if they don't matter.
+    async fn settings(&self) -> Result<Option<copies::Settings>, Error> {
+        match self.copies {
+            Copies::One => Ok(None),
+            Copies::Two => Ok(Some(self.client.query_one(&self.settings, &[]).await?.into())),
+        }
     }
 
     /// Whether another connection is made after this.
@@ -167,13 +198,15 @@ impl Session {
         Ok(rows.into_iter().map(stored).collect())
     }
 
-    /// What a write answered, where no doubt came with it.
+    /// What a write answered, where no doubt came with it, and it is on as many servers as was asked for.
     pub async fn written<T>(&self, write: impl Future<Output = Result<T, Error>>) -> Result<T, Doubt> {
-        self.written_within(SILENT, write).await
+        let answer = self.unwarned(SILENT, write).await?;
+        self.enough_copies().await?;
+        Ok(answer)
     }
 
-    /// The same of several statements.
-    async fn written_within<T>(
+    /// What it answered, where no warning came with it.
+    async fn unwarned<T>(
         &self,
         limit: Duration,
         write: impl Future<Output = Result<T, Error>>,
@@ -201,19 +234,22 @@ impl Session {
         }
     }
 
-    /// The slots of these writes of which the server has the last piece that it said is durable: that is asked of each connection
-    /// before it is believed. A server that another had to stand in for may not have got all.
+    /// The slots of these writes of which the server has the last piece that it said is durable, or that are another's by now, as the
+    /// write itself finds: that is asked of each connection before it is believed. A server that another had to stand in for may not have got all.
     pub async fn whole(&self, writes: &[&Write]) -> Result<BTreeSet<i32>, Doubt> {
         let last = |write: &&&Write| {
             let last = write.owner.fence().last.filter(|(file, _)| !write.packed.gone.contains(file));
-            last.map(|(_, number)| (write.owner.slot, number))
+            last.map(|(_, number)| (write.owner.slot, number, write.owner.term))
         };
         let (asked, whole): (Vec<&&Write>, Vec<&&Write>) =
             writes.iter().partition(|write| last(write).is_some());
         let mut whole: BTreeSet<i32> = whole.iter().map(|write| write.owner.slot).collect();
-        let (slots, numbers): (Vec<i32>, Vec<i64>) = asked.iter().filter_map(last).unzip();
-        if !slots.is_empty() {
-            let found = within(SILENT, self.client.query(ARE_THERE, &[&slots, &numbers])).await?;
+        let asked: Vec<(i32, i64, i64)> = asked.iter().filter_map(last).collect();
+        if !asked.is_empty() {
+            let slots: Vec<i32> = asked.iter().map(|(slot, _, _)| *slot).collect();
+            let numbers: Vec<i64> = asked.iter().map(|(_, number, _)| *number).collect();
+            let terms: Vec<i64> = asked.iter().map(|(_, _, term)| *term).collect();
+            let found = within(SILENT, self.client.query(ARE_THERE, &[&slots, &numbers, &terms])).await?;
             whole.extend(found.iter().map(|row| row.get::<_, i32>(0)));
         }
         Ok(whole)
@@ -224,8 +260,22 @@ impl Session {
     pub async fn put(&self, writes: &[&Write]) -> Result<BTreeSet<i32>, Doubt> {
         let parts = parts_of(writes);
         match &parts[..] {
-            [only] => self.written(self.put_part(writes, only, true)).await,
-            _ => self.written_within(SILENT * parts.len() as u32, self.put_parts(writes, &parts)).await,
+            [only] => {
+                // Sent one behind the other, so the second answer comes right after the commit.
+                let both = async {
+                    let (done, settings) = tokio::join!(self.put_part(writes, only, true), self.settings());
+                    Ok((done?, settings?))
+                };
+                let (done, settings) = self.unwarned(SILENT, both).await?;
+                enough(settings)?;
+                Ok(done)
+            }
+            _ => {
+                let limit = SILENT * parts.len() as u32;
+                let done = self.unwarned(limit, self.put_parts(writes, &parts)).await?;
+                self.enough_copies().await?;
+                Ok(done)
+            }
         }
     }
 
@@ -288,6 +338,13 @@ impl Session {
         };
         let done = self.client.query(statement, &values).await?;
         Ok(done.iter().map(|row| row.get(0)).collect())
+    }
+}
+
+fn enough(settings: Option<copies::Settings>) -> Result<(), Doubt> {
+    match settings.and_then(|settings| settings.lose()) {
+        Some(why) => Err(Doubt::FewCopies(why)),
+        None => Ok(()),
     }
 }
 

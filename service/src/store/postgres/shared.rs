@@ -1,9 +1,10 @@
 //! A connection to a database that all slots share.
 
 use super::doubt::{Backoff, Doubt};
+use super::drive::Connections;
 use super::session::{Owned, Session, SlotRow};
 use crate::log::RateLimit;
-use crate::postgres::Server;
+use std::future::Future;
 use std::sync::Arc;
 use std::time::Duration;
 use tokio::sync::Mutex;
@@ -12,7 +13,7 @@ static NOT_READ: RateLimit = RateLimit::every(Duration::from_secs(10));
 
 /// It is made when it is needed, and anew after a fault.
 pub(super) struct Shared {
-    pub server: Server,
+    pub all: Arc<Connections>,
     session: Mutex<Option<Arc<Session>>>,
 }
 
@@ -25,22 +26,32 @@ pub(super) struct Stored {
 }
 
 impl Shared {
-    pub fn new(server: Server) -> Shared {
-        Shared { server, session: Mutex::new(None) }
+    pub fn new(all: &Arc<Connections>) -> Shared {
+        Shared { all: all.clone(), session: Mutex::new(None) }
     }
 
     pub async fn session(&self) -> Result<Arc<Session>, Doubt> {
         let mut place = self.session.lock().await;
-        if let Some(session) = place.as_ref().filter(|session| !session.client.is_closed()) {
+        let is_sound =
+            |session: &&Arc<Session>| !session.client.is_closed() && !self.all.is_suspect(session.number);
+        if let Some(session) = place.as_ref().filter(is_sound) {
             return Ok(session.clone());
         }
-        let session = Arc::new(Session::open(&self.server).await?);
+        let session = Arc::new(Session::open(&self.all).await?);
         *place = Some(session.clone());
         Ok(session)
     }
 
-    /// What came of it on this connection. Another is made where this one may be at fault.
-    pub async fn heard<T>(&self, session: &Arc<Session>, answer: Result<T, Doubt>) -> Result<T, Doubt> {
+    /// What comes of it on this connection. Another is made where this one may be at fault, or one to the same server was.
+    pub async fn heard<T>(
+        &self,
+        session: &Arc<Session>,
+        asking: impl Future<Output = Result<T, Doubt>>,
+    ) -> Result<T, Doubt> {
+        let answer = self.all.watched(session.number, asking).await;
+        if let Err(doubt) = &answer {
+            self.all.note(session.number, doubt);
+        }
         if answer.as_ref().is_err_and(|doubt| session.is_left_after(doubt)) {
             let mut place = self.session.lock().await;
             place.take_if(|now| Arc::ptr_eq(now, session));
@@ -96,14 +107,12 @@ impl Shared {
                 None => Ok(None),
             }
         };
-        let found = reading.await;
-        self.heard(&session, found).await
+        self.heard(&session, reading).await
     }
 
     async fn try_pieces(&self, slot: u16, file: u64, numbers: &[u64]) -> Result<Vec<Stored>, Doubt> {
         let session = self.session().await?;
-        let found = session.pieces(slot.into(), file, numbers).await;
-        self.heard(&session, found).await
+        self.heard(&session, session.pieces(slot.into(), file, numbers)).await
     }
 }
 

@@ -108,14 +108,14 @@ impl Shared {
     /// Fills a store from now on, where it is as it was seen: false if a slot has something. One transaction looks, behind which no
     /// owner writes any more: so nothing is taken between the look and the change.
     async fn begin_filling(&self, seen: &Standing, to: &Standing) -> Result<bool, Doubt> {
-        let (mut client, _driver) = connect(&self.server).await?;
+        let (mut client, _driver) = connect(&self.all.server).await?;
         within(SILENT, begin_filling(&mut client, seen, to)).await
     }
 
     async fn has_files(&self) -> Result<bool, Doubt> {
         let session = self.session().await?;
-        let row = within(SILENT, session.client.query_one(FILES, &[])).await;
-        Ok(self.heard(&session, row).await?.get::<_, i64>(0) > 0)
+        let row = self.heard(&session, within(SILENT, session.client.query_one(FILES, &[]))).await?;
+        Ok(row.get::<_, i64>(0) > 0)
     }
 }
 
@@ -173,12 +173,12 @@ impl PostgresStore {
     /// Instances whose beats go on. It takes some seconds where there were any.
     pub fn running(&self) -> Result<Vec<String>, StoreFault> {
         self.tried(async || {
-            let before = self.taker.clone().instances().await?;
+            let (before, _) = self.taker.clone().instances().await?;
             if before.is_empty() {
                 return Ok(Vec::new());
             }
             tokio::time::sleep(STILL).await;
-            let after = self.taker.clone().instances().await?;
+            let (after, _) = self.taker.clone().instances().await?;
             let goes_on = after.into_iter().filter(|one| !before.contains(one));
             Ok(goes_on.map(|one| one.name).collect())
         })

@@ -5,9 +5,9 @@ use super::schema::draw_epoch;
 use super::session::within;
 use super::shared::Shared;
 use super::{copies, PostgresStore};
-use crate::cluster::terms::{Instance, Refused, Row};
+use crate::cluster::terms::{Instance, Row, Told};
 use std::sync::Arc;
-use std::time::Duration;
+use std::time::{Duration, SystemTime, UNIX_EPOCH};
 use tokio_postgres::types::ToSql;
 use tokio_postgres::Row as DatabaseRow;
 
@@ -15,10 +15,16 @@ use tokio_postgres::Row as DatabaseRow;
 const READ: Duration = Duration::from_secs(5);
 
 const BEAT: &str =
-    "insert into totxegun_store.instance as i (name, address, operate, version, beat, refused) values ($1, $2, $3, $4, 1, $5)
+    "insert into totxegun_store.instance as i (name, address, operate, version, beat, life, earlier, told)
+    values ($1, $2, $3, $4, 1, greatest($6::bigint, 1), 0, $5)
     on conflict (name) do update set beat = i.beat + 1, address = excluded.address, operate = excluded.operate,
-    version = excluded.version, refused = excluded.refused";
-const INSTANCES: &str = "select name, address, version, beat, refused, operate from totxegun_store.instance";
+    version = excluded.version, told = excluded.told, life = i.life + case $6 when 0 then 1 else 0 end,
+    earlier = i.earlier + case when $6 > 0 and $6 < i.life then 1 else 0 end
+    returning life";
+/// With the server's time, in microseconds since 1970.
+const INSTANCES: &str = "select name, address, version, beat, told, operate, (extract(epoch from clock_timestamp()) * 1e6)::bigint,
+    life, earlier
+    from totxegun_store.instance";
 const SLOTS: &str = "select slot, term, owner from totxegun_store.slot order by slot";
 /// Not while a folder is moved into the store.
 const TAKE: &str =
@@ -33,8 +39,7 @@ impl Shared {
     /// A write that is done without a doubt, or an error: then it may be done, or be done later.
     pub(super) async fn write(&self, text: &str, values: &[&(dyn ToSql + Sync)]) -> Result<u64, Doubt> {
         let session = self.session().await?;
-        let written = session.written(session.client.execute(text, values)).await;
-        self.heard(&session, written).await
+        self.heard(&session, session.written(session.client.execute(text, values))).await
     }
 
     /// The same of one that says something: its row.
@@ -44,27 +49,35 @@ impl Shared {
         values: &[&(dyn ToSql + Sync)],
     ) -> Result<DatabaseRow, Doubt> {
         let session = self.session().await?;
-        let told = session.written(session.client.query_one(text, values)).await;
-        self.heard(&session, told).await
+        self.heard(&session, session.written(session.client.query_one(text, values))).await
     }
 
     async fn read<T>(&self, text: &str, each: impl Fn(&DatabaseRow) -> T) -> Result<Vec<T>, Doubt> {
         let session = self.session().await?;
-        let rows = within(READ, session.client.query(text, &[])).await;
-        let rows: Result<Vec<DatabaseRow>, Doubt> = self.heard(&session, rows).await;
-        Ok(rows?.iter().map(each).collect())
+        let rows = self.heard(&session, within(READ, session.client.query(text, &[]))).await?;
+        Ok(rows.iter().map(each).collect())
     }
 
-    pub(super) async fn instances(self: Arc<Self>) -> Result<Vec<Instance>, Doubt> {
-        let instance = |row: &DatabaseRow| Instance {
-            name: row.get(0),
-            address: row.get(1),
-            version: row.get(2),
-            beat: row.get::<_, i64>(3) as u64,
-            refused: serde_json::from_str(row.get(4)).unwrap_or_default(), // a later version may say more
-            operate: row.get(5),
+    /// All that there are, and how far this machine's clock is ahead of the server's, if there is one.
+    pub(super) async fn instances(self: Arc<Self>) -> Result<(Vec<Instance>, Option<i64>), Doubt> {
+        let instance = |row: &DatabaseRow| {
+            let one = Instance {
+                name: row.get(0),
+                address: row.get(1),
+                version: row.get(2),
+                beat: row.get::<_, i64>(3) as u64,
+                told: serde_json::from_str(row.get(4)).unwrap_or_default(),
+                operate: row.get(5),
+                life: row.get::<_, i64>(7) as u64,
+                earlier: row.get::<_, i64>(8) as u64,
+            };
+            (one, row.get::<_, i64>(6))
         };
-        self.read(INSTANCES, instance).await
+        let before = microseconds();
+        let (all, times): (Vec<Instance>, Vec<i64>) =
+            self.read(INSTANCES, instance).await?.into_iter().unzip();
+        let after = microseconds();
+        Ok((all, times.first().map(|there| ahead(before, *there, after))))
     }
 
     pub(super) async fn slots(self: Arc<Self>) -> Result<Vec<Row>, Doubt> {
@@ -77,27 +90,47 @@ impl Shared {
     }
 }
 
+/// By this machine's clock, since 1970.
+fn microseconds() -> i64 {
+    let since = SystemTime::now().duration_since(UNIX_EPOCH).unwrap_or_default();
+    since.as_micros() as i64
+}
+
+/// How far a clock is ahead at least, by which it was `before` and `after` while another said `there`; late if it is less than 0.
+fn ahead(before: i64, there: i64, after: i64) -> i64 {
+    match (before - there, after - there) {
+        (earliest, _) if earliest > 0 => earliest,
+        (_, latest) if latest < 0 => latest,
+        _ => 0,
+    }
+}
+
 /// Each goes on where nobody waits for it any more.
 impl PostgresStore {
-    /// Adds one to this instance's beat, which is committed when this is `Ok`.
+    /// Adds one to an instance's beat, which is committed when this is `Ok`. `life` is the number of this process among those of its
+    /// name, and 0 of one that begins: the last number that there is.
     pub async fn beat(
         &self,
         name: &str,
         address: &str,
         operate: &str,
-        refused: Refused,
-    ) -> Result<(), Doubt> {
+        told: Told,
+        life: u64,
+    ) -> Result<u64, Doubt> {
         let (beater, name) = (self.beater.clone(), name.to_string());
         let (address, operate) = (address.to_string(), operate.to_string());
         let beat = async move {
-            let refused = serde_json::to_string(&refused).unwrap_or_default(); // numbers and texts are always written
+            let told = serde_json::to_string(&told).unwrap_or_default(); // numbers and texts are always written
             let version = env!("CARGO_PKG_VERSION");
-            beater.write(BEAT, &[&name, &address, &operate, &version, &refused]).await.map(drop)
+            let values: [&(dyn ToSql + Sync); 6] =
+                [&name, &address, &operate, &version, &told, &(life as i64)];
+            Ok(beater.told(BEAT, &values).await?.get::<_, i64>(0) as u64)
         };
         self.threads.run(beat).await
     }
 
-    pub async fn instances(&self) -> Result<Vec<Instance>, Doubt> {
+    /// All that there are, and how far this machine's clock is ahead of the server's, if there is one.
+    pub async fn instances(&self) -> Result<(Vec<Instance>, Option<i64>), Doubt> {
         self.threads.run(self.beater.clone().instances()).await
     }
 
@@ -141,9 +174,28 @@ impl PostgresStore {
         let reader = self.reader.clone();
         let counting = async move {
             let session = reader.session().await?;
-            let counted = within(READ, copies::count(&session.client)).await;
-            reader.heard(&session, counted).await
+            reader.heard(&session, within(READ, copies::count(&session.client))).await
         };
         self.threads.run(counting).await
+    }
+}
+
+#[cfg(test)]
+mod tests {
+    use super::*;
+
+    /// An answer that comes late is no clock that is wrong.
+    #[test]
+    fn a_clock_is_as_far_off_as_it_is_at_least() {
+        for (before, there, after, found) in [
+            (100, 105, 110, 0),
+            (100, 100, 100, 0),
+            (100, 40, 110, 60),
+            (100, 170, 110, -60),
+            (100, 4_900, 5_100, 0),
+            (100, 6_000, 5_100, -900),
+        ] {
+            assert_eq!(ahead(before, there, after), found, "{before} {there} {after}");
+        }
     }
 }

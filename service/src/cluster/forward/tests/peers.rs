@@ -78,7 +78,7 @@ pub fn secret(text: &str) -> Secret {
 
 /// An instance that has slot 3, or not.
 pub fn internal(slots: Slots, whose: Whose) -> (Arc<Cluster>, Arc<Slots>, Arc<Internal<Slots>>) {
-    let (cluster, slots) = (Cluster::new("peer"), Arc::new(slots));
+    let (cluster, slots) = (Cluster::new("peer", None), Arc::new(slots));
     cluster.knows(&[(3, whose)]);
     let internal = Internal::new(cluster.clone(), slots.clone(), secret("of all"), Arc::new(Echoes));
     (cluster, slots, internal)
@@ -120,7 +120,7 @@ pub fn there(address: &str) -> Whose {
 
 /// Who gets posts of senders.
 pub fn receiver(whose: Whose, secret: Secret) -> Arc<Forward<Slots>> {
-    let cluster = Cluster::new("receiver");
+    let cluster = Cluster::new("receiver", None);
     cluster.knows(&[(3, whose)]);
     Arc::new(Forward::new(cluster, secret, None))
 }

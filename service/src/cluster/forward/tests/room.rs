@@ -23,9 +23,11 @@ fn among(others: usize, whose: Whose) -> Receiver {
         operate: String::new(),
         version: String::new(),
         beat: 1,
-        refused: Default::default(),
+        life: 1,
+        earlier: 0,
+        told: Default::default(),
     };
-    forward.cluster.has_seen(Seen { instances: (0..others).map(instance).collect(), slots: Vec::new() });
+    forward.cluster.has_seen(Seen { instances: (0..others).map(instance).collect(), ..Seen::default() });
     forward
 }
 

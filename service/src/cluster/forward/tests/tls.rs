@@ -18,7 +18,7 @@ async fn over_tls(tls: Arc<Tls>) -> (u16, Arc<Slots>, tokio::sync::watch::Sender
 }
 
 fn asks_over(tls: Option<Arc<Tls>>, port: u16, of: &str) -> Forward<Slots> {
-    let cluster = Cluster::new("receiver");
+    let cluster = Cluster::new("receiver", None);
     cluster.knows(&[(3, there(&format!("localhost:{port}")))]);
     Forward::new(cluster, secret(of), tls)
 }

@@ -1,10 +1,12 @@
 //! Instances, and the store that they share. A round is half a second.
 
 use super::*;
-use crate::cluster::terms::Instance;
+use crate::cluster::terms::{Instance, Told};
 use std::collections::{BTreeSet, HashMap};
 
 const SLOTS: u16 = 8;
+/// How far an instance's clock may be off.
+const MOST_OFF: Duration = Duration::from_secs(60);
 
 pub struct Random(u64);
 
@@ -22,24 +24,33 @@ impl Random {
 #[derive(Default)]
 pub struct Store {
     pub rows: Vec<Row>,
-    pub instances: BTreeMap<String, (u64, Option<Stay>, Refused)>,
+    pub instances: BTreeMap<String, (u64, Option<Stay>, Told)>,
+    /// How many processes have begun under a name, and how often earlier ones have beaten since.
+    lives: BTreeMap<String, (u64, u64)>,
     /// Who was the owner under which term.
     pub terms: HashMap<(u16, u64), usize>,
 }
 
 impl Store {
-    pub fn beat(&mut self, name: &str, (stay, refused): (Stay, Refused)) -> Seen {
+    /// Of an instance whose clock is so many microseconds ahead, and of which the process has this number; 0 of one that begins.
+    pub fn beat(&mut self, name: &str, (stay, told): (Stay, Told), clock: i64, life: &mut u64) -> Seen {
+        let lives = self.lives.entry(name.into()).or_default();
+        lives.0 += u64::from(*life == 0);
+        *life = if *life == 0 { lives.0 } else { *life };
+        lives.1 += u64::from(*life < lives.0);
         let row = self.instances.entry(name.into()).or_default();
-        *row = (row.0 + 1, Some(stay), refused);
-        let instances = self.instances.iter().map(|(name, (beat, stay, refused))| Instance {
+        *row = (row.0 + 1, Some(stay), told);
+        let instances = self.instances.iter().map(|(name, (beat, stay, told))| Instance {
             name: name.clone(),
             address: if *stay == Some(Stay::Here) { format!("{name}:1") } else { String::new() },
             operate: String::new(),
             version: "1".into(),
             beat: *beat,
-            refused: refused.clone(),
+            life: self.lives[name].0,
+            earlier: self.lives[name].1,
+            told: told.clone(),
         });
-        Seen { instances: instances.collect(), slots: self.rows.clone() }
+        Seen { instances: instances.collect(), slots: self.rows.clone(), clock: Some(clock), life: *life }
     }
 
     fn take(&mut self, node: usize, name: &str, slot: u16, seen: u64) -> Option<u64> {
@@ -68,6 +79,10 @@ pub struct Node {
     pub under_way: Vec<Step>,
     pub opening: Vec<(u16, u64)>,
     pub stands_for: u64,
+    /// So many microseconds is its clock ahead.
+    pub clock: i64,
+    /// Which process of its name it is; 0 before its first beat.
+    pub life: u64,
 }
 
 pub struct World {
@@ -104,10 +119,12 @@ impl World {
     pub fn join(&mut self, name: &str) {
         self.nodes.push(Node {
             name: name.into(),
-            owners: Owners::new(name),
+            owners: Owners::new(name, Some(MOST_OFF)),
             under_way: Vec::new(),
             opening: Vec::new(),
             stands_for: 0,
+            clock: 0,
+            life: 0,
         });
     }
 
@@ -135,7 +152,7 @@ impl World {
         if self.stalls_for > 0 {
             return one.owners.unanswered();
         }
-        let seen = self.store.beat(&one.name, one.owners.told());
+        let seen = self.store.beat(&one.name, one.owners.told(), one.clock, &mut one.life);
         if is_lost {
             return one.owners.unanswered();
         }
@@ -212,7 +229,7 @@ impl World {
     pub fn is_settled(&self) -> bool {
         let slots: Vec<u16> = (0..SLOTS).collect();
         let names: Vec<&str> = self.nodes.iter().map(|node| node.name.as_str()).collect();
-        let refuses = |node: &Node, slot| node.owners.told().1.contains_key(&slot);
+        let refuses = |node: &Node, slot| node.owners.told().1.refused.contains_key(&slot);
         let places = places(&slots, &names, |slot, name| {
             !self.nodes.iter().any(|node| node.name == name && refuses(node, slot))
         });

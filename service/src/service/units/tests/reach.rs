@@ -6,7 +6,7 @@ mod ready;
 mod told;
 
 use super::*;
-use crate::cluster::terms::{Doing, Instance, Refused, Row, Seen};
+use crate::cluster::terms::{Doing, Instance, Row, Seen, Told};
 use crate::cluster::{Answers, Asks, Cluster, Forwarded as Brought, Unanswering, Whose};
 use crate::files::drive::{self, memory::Store};
 use crate::metrics::OfCluster;
@@ -95,7 +95,7 @@ fn there(name: &str) -> Whose {
 }
 
 fn instance(name: &str, place: &Path, net: &Arc<Net>) -> (Service, Arc<Cluster>) {
-    let cluster = Cluster::new(name);
+    let cluster = Cluster::new(name, None);
     let others = Others {
         cluster: cluster.clone(),
         asks: Arc::new(Through(net.clone())),
@@ -118,12 +118,15 @@ fn seen() -> Seen {
         operate: format!("{name}.example:4319"),
         version: "1".into(),
         beat: 1,
-        refused: Refused::new(),
+        life: 1,
+        earlier: 0,
+        told: Told::default(),
     };
     let row = |(slot, owner): (u16, &str)| Row { slot, term: 1, owner: owner.into() };
     Seen {
         instances: vec![instance("a"), instance("b")],
         slots: [(0, "a"), (1, "b"), (2, "a")].map(row).into(),
+        ..Seen::default()
     }
 }
 

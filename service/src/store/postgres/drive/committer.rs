@@ -14,8 +14,6 @@ use super::files::Batch;
 use super::linger::{Arrivals, Linger};
 use super::owned_slot::OwnedSlot;
 use super::packed::Packed;
-use crate::postgres::Server;
-use crate::store::postgres::counts::Counts;
 use crate::store::postgres::doubt::{Backoff, Doubt};
 use crate::store::postgres::session::Session;
 use crate::work::blocking;
@@ -66,6 +64,15 @@ impl Write {
     }
 }
 
+/// What came of a write that was repeated.
+enum Again {
+    Done,
+    /// Another has the slot.
+    Fenced,
+    /// The store has lost what it had of the slot.
+    Vanished,
+}
+
 /// How lanes are asked. Where the store has ended nobody waits.
 #[derive(Clone)]
 struct Lanes {
@@ -98,15 +105,14 @@ struct Lane<T> {
 }
 
 impl GroupCommitter {
-    pub fn start(server: &Server, counts: &Arc<Counts>, runtime: &Handle) -> GroupCommitter {
-        let connections = Connections::to(server, counts);
+    pub fn start(connections: &Arc<Connections>, runtime: &Handle) -> GroupCommitter {
         let arrivals = Arc::<Arrivals>::default();
         let (short, short_asked) = unbounded_channel();
         let (long, long_asked): (Vec<_>, Vec<_>) = (0..LONG_LANES).map(|_| unbounded_channel()).unzip();
         let lanes = Lanes { short, long };
-        runtime.spawn(Lane::new(short_asked, &lanes, &connections).run_short(Linger::for_these(&arrivals)));
+        runtime.spawn(Lane::new(short_asked, &lanes, connections).run_short(Linger::for_these(&arrivals)));
         for asked in long_asked {
-            runtime.spawn(Lane::new(asked, &lanes, &connections).run_long());
+            runtime.spawn(Lane::new(asked, &lanes, connections).run_long());
         }
         GroupCommitter { lanes, arrivals }
     }
@@ -236,8 +242,12 @@ impl<T> Lane<T> {
         let done = self.connection.watched(self.try_again(&session, &write)).await;
         self.connection.put_back(session, &done);
         match done {
-            Ok(true) => self.done(write),
-            Ok(false) => self.lose(&write.owner),
+            Ok(Again::Done) => self.done(write),
+            Ok(Again::Fenced) => self.lose(&write.owner),
+            Ok(Again::Vanished) => {
+                self.connection.all.tell_vanished(write.owner.slot);
+                write.owner.lose();
+            }
             Err(doubt) => {
                 self.connection.doubts(&format!("slot {}", write.owner.slot), &doubt);
                 let lanes = self.lanes.clone();
@@ -249,19 +259,17 @@ impl<T> Lane<T> {
         }
     }
 
-    /// False where another has the slot, or the store has lost what it had of it.
-    async fn try_again(&self, session: &Session, write: &Write) -> Result<bool, Doubt> {
+    async fn try_again(&self, session: &Session, write: &Write) -> Result<Again, Doubt> {
         let owner = &write.owner;
         let Some(row) = session.raise_link(&owner.owned()).await? else {
-            return Ok(false);
+            return Ok(Again::Fenced);
         };
         owner.is_linked(row.link);
         if session.whole(&[write]).await?.is_empty() {
-            self.connection.all.tell_vanished(owner.slot);
-            return Ok(false);
+            return Ok(Again::Vanished);
         }
         match session.put(&[write]).await?.is_empty() {
-            false => Ok(true),
+            false => Ok(Again::Done),
             true => Err(Doubt::Locked),
         }
     }

@@ -3,6 +3,7 @@
 
 use crate::log::RateLimit;
 use crate::postgres::Server;
+use crate::store::postgres::copies::Copies;
 use crate::store::postgres::counts::Counts;
 use crate::store::postgres::doubt::{Backoff, Doubt};
 use crate::store::postgres::session::Session;
@@ -14,9 +15,11 @@ use tokio::sync::watch;
 
 static IN_DOUBT: RateLimit = RateLimit::every(Duration::from_secs(10));
 
-/// What lanes share of their connections.
+/// What all connections of a process to a store share.
 pub struct Connections {
-    server: Server,
+    pub server: Server,
+    /// How many there have to be.
+    pub copies: Copies,
     pub counts: Arc<Counts>,
     /// How many were made.
     made: AtomicU64,
@@ -32,13 +35,59 @@ pub struct Connection {
 }
 
 impl Connections {
-    pub fn to(server: &Server, counts: &Arc<Counts>) -> Arc<Connections> {
+    pub fn to(server: &Server, copies: Copies, counts: &Arc<Counts>) -> Arc<Connections> {
         Arc::new(Connections {
             server: server.clone(),
+            copies,
             counts: counts.clone(),
             made: AtomicU64::new(0),
             suspect: watch::channel(0).0,
         })
+    }
+
+    /// The number of one that is made now.
+    pub fn draw(&self) -> u64 {
+        self.made.fetch_add(1, Relaxed) + 1
+    }
+
+    /// Whether it may be to a server that is of no use any more.
+    pub fn is_suspect(&self, number: u64) -> bool {
+        number <= *self.suspect.borrow()
+    }
+
+    /// What is answered by that connection, until another one to its server breaks.
+    pub async fn watched<T>(
+        &self,
+        number: u64,
+        asking: impl Future<Output = Result<T, Doubt>>,
+    ) -> Result<T, Doubt> {
+        let mut suspect = self.suspect.subscribe();
+        let is_suspect = async {
+            while *suspect.borrow_and_update() < number {
+                if suspect.changed().await.is_err() {
+                    std::future::pending::<()>().await; // it is of who asks too
+                }
+            }
+        };
+        tokio::select! {
+            biased;
+            answer = asking => answer,
+            () = is_suspect => Err(Doubt::NotConnected("another connection to this server broke".into())),
+        }
+    }
+
+    /// What that connection said: the others to its server may be of no use either.
+    pub fn note(&self, number: u64, doubt: &Doubt) {
+        if doubt.is_of_server() {
+            self.suspect.send_if_modified(|suspect| {
+                // One that was suspect already says nothing of those that were made since.
+                let is_new = number > *suspect;
+                if is_new {
+                    *suspect = self.made.load(Relaxed);
+                }
+                is_new
+            });
+        }
     }
 
     fn tell(&self, whose: &str, doubt: &Doubt) {
@@ -72,16 +121,17 @@ impl Connection {
 
     /// The same, for who puts it back.
     pub async fn take(&mut self) -> Session {
-        let suspect = *self.all.suspect.borrow();
-        let is_sound = |session: &Session| self.number > suspect && !session.client.is_closed();
+        let is_sound = |session: &Session| !self.all.is_suspect(self.number) && !session.client.is_closed();
         if let Some(session) = self.session.take().filter(is_sound) {
             return session;
         }
         let mut backoff = Backoff::default();
         loop {
-            self.number = self.all.made.fetch_add(1, Relaxed) + 1;
-            match Session::open(&self.all.server).await {
-                Ok(session) => return session,
+            match Session::open(&self.all).await {
+                Ok(session) => {
+                    self.number = session.number;
+                    return session;
+                }
                 Err(doubt) => self.all.tell("the store", &doubt),
             }
             backoff.wait().await;
@@ -90,18 +140,7 @@ impl Connection {
 
     /// What is answered, until another connection to this server breaks.
     pub async fn watched<T>(&self, asking: impl Future<Output = Result<T, Doubt>>) -> Result<T, Doubt> {
-        let mut suspect = self.all.suspect.subscribe();
-        let is_suspect = async {
-            while *suspect.borrow_and_update() < self.number {
-                if suspect.changed().await.is_err() {
-                    std::future::pending::<()>().await; // it is this lane's too
-                }
-            }
-        };
-        tokio::select! {
-            answer = asking => answer,
-            () = is_suspect => Err(Doubt::NotConnected("another connection to this server broke".into())),
-        }
+        self.all.watched(self.number, asking).await
     }
 
     /// Keeps the session if its state is known by what was answered.
@@ -112,16 +151,7 @@ impl Connection {
 
     /// It is not known what came of a write.
     pub fn doubts(&self, whose: &str, doubt: &Doubt) {
-        if doubt.is_of_server() {
-            self.all.suspect.send_if_modified(|suspect| {
-                // One that was suspect already says nothing of those that were made since.
-                let is_new = self.number > *suspect;
-                if is_new {
-                    *suspect = self.all.made.load(Relaxed);
-                }
-                is_new
-            });
-        }
+        self.all.note(self.number, doubt);
         self.all.tell(whose, doubt);
     }
 }

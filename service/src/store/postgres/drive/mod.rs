@@ -20,6 +20,7 @@ mod rounds;
 mod tests;
 
 pub(super) use committer::{GroupCommitter, Write};
+pub(super) use connection::Connections;
 pub(super) use here::on_this_thread;
 pub(super) use open::{open, Found};
 pub(super) use owned_slot::OwnedSlot;
