@@ -128,7 +128,7 @@ class OfMachines(Trouble):
 
     def kinds(self) -> list[Callable[[], object]]:
         return [self.killed, self.all_killed, self.stopped, self.ended, self.zombie, self.without_servers, self.without_each_other,
-                self.without_balancer, self.without_sink, self.one_way]
+                self.unreached, self.without_balancer, self.without_sink, self.one_way]
 
     def one(self) -> Instance:
         one = self.chance.choice(self.world.instances)
@@ -185,6 +185,12 @@ class OfMachines(Trouble):
     def without_each_other(self) -> None:
         one, other = self.chance.sample(self.world.instances, 2)
         self.cut(*both_ways(one.machine, other.machine))
+
+    def unreached(self) -> None:
+        """By the others; the balancer and the servers have it still, so it hands its slots over."""
+        one = self.one()
+        others = [other.machine for other in self.world.instances if other is not one]
+        self.cut(*both_ways(one.machine, *others))
 
     def without_balancer(self) -> None:
         self.cut(*both_ways(self.one().machine, self.world.balancer.machine))

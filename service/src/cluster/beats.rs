@@ -121,10 +121,13 @@ impl<T: Terms + 'static, U: Units + 'static> Beats<T, U> {
         if began.elapsed() > STALL {
             cluster.owners().late();
         }
-        let off_before = cluster.owners().clock_off();
-        let steps = cluster.owners().beat(seen);
+        let (before, steps) = {
+            let mut owners = cluster.owners();
+            ((owners.clock_off(), owners.is_cut_off()), owners.beat(seen))
+        };
         cluster.has_beaten(began);
-        tell_clock(off_before, cluster.owners().clock_off());
+        tell_clock(before.0, cluster.owners().clock_off());
+        tell_cut_off(before.1, cluster.owners().is_cut_off());
         if cluster.owners().came_later() {
             return Err(CameLater(cluster.owners().name().into()));
         }
@@ -184,6 +187,16 @@ fn tell_clock(before: Option<i64>, now: Option<i64>) {
             );
         }
         (Some(_), None) => tracing::info!("this instance's clock is right again: it takes slots"),
+        _ => {}
+    }
+}
+
+fn tell_cut_off(before: bool, now: bool) {
+    match (before, now) {
+        (false, true) => tracing::error!(
+            "most of the other instances don't reach this one at its --peer: it takes no slots, and hands over what it has, until they do"
+        ),
+        (true, false) => tracing::info!("the other instances reach this one again: it takes slots"),
         _ => {}
     }
 }

@@ -1,6 +1,6 @@
 //! Posts for slots of other instances: each goes to its slot's owner over kept connections, and that one's answer comes back
 //! as it said it. `internal` is the owner's side, `head` what a request says beside its body, `owner_answer` an answer on its way,
-//! `wire` what they speak. `operators` are questions that come the same way.
+//! `wire` what they speak, `reach` whether they are there. `operators` are questions that come the same way.
 //!
 //! One that has not the slot has taken nothing, so another is asked then. Any other end may be behind a post that was taken:
 //! its sender is told 503, and its repeat finds out.
@@ -10,6 +10,7 @@ mod internal;
 mod operators;
 mod owner_answer;
 mod peer;
+mod reach;
 mod wire;
 
 pub use head::Secret;
@@ -49,7 +50,7 @@ const MOST_ASKED: u32 = 16;
 /// Between two looks, where the owner stays the same: the first come soon, since it may be opening the slot.
 const SHORTEST: Duration = Duration::from_millis(50);
 const LONGEST: Duration = Duration::from_millis(400);
-const CONNECT: Duration = Duration::from_secs(3);
+const CONNECT: Duration = Duration::from_secs(1);
 /// Shorter than an idle connection is kept at the other end.
 const IDLE: Duration = Duration::from_secs(20);
 
@@ -184,6 +185,7 @@ impl<H: Here> Forward<H> {
     ) -> Result<Option<Outcome>, Broken> {
         tokio::select! {
             biased;
+            () = peer.is_unreached() => Err(Broken::Unreached),
             said = self.exchange(peer, head, part) => said,
             () = self.no_answer(head.slot, owner, late) => Err(Broken::Late),
         }
@@ -232,6 +234,8 @@ impl<H: Here> Elsewhere for Forward<H> {
 enum Broken {
     #[error("it has not answered in time")]
     Late,
+    #[error("it is not reached")]
+    Unreached,
     #[error("its address can't be asked: {0}")]
     Address(hyper::http::Error),
     #[error("{0}")]

@@ -1,7 +1,7 @@
 //! What an instance knows of the others and of the slots: what the rest of the process asks.
 
 use super::owners::{Owners, Whose};
-use super::status::{Counted, Status, Unserved};
+use super::status::{Counted, OtherInstance, Status, Unserved};
 use super::terms::Silence;
 use crate::log::shown;
 use crate::otlp::Reason;
@@ -90,6 +90,27 @@ impl Cluster {
         self.owners().clock_off().is_some()
     }
 
+    /// The other instances whose posts are brought somewhere, and where; lost ones only while they have slots.
+    pub(super) fn addresses(&self) -> Vec<(String, String)> {
+        let owners = self.owners();
+        let rows = owners.slots();
+        let is_of_use = |other: &OtherInstance| {
+            !other.address.is_empty() && (!other.is_gone || rows.iter().any(|row| row.owner == other.name))
+        };
+        let others = owners.others().into_iter().filter(is_of_use);
+        others.map(|other| (other.name, other.address)).collect()
+    }
+
+    /// Those of them that are reached.
+    pub(super) fn has_reached(&self, names: BTreeSet<String>) {
+        self.owners().has_reached(names);
+    }
+
+    /// Whether it does not reach the owner of a slot whom others reach.
+    pub fn misses_owner(&self) -> bool {
+        self.owners().missed_owner().is_some()
+    }
+
     /// Has the slots looked at again.
     pub fn look(&self) {
         self.wants_look.notify_one();
@@ -154,6 +175,8 @@ impl Cluster {
             beat_age: self.beat_age(),
             few_copies: self.few_copies(),
             clock_off: owners.clock_off(),
+            is_cut_off: owners.is_cut_off(),
+            missed_owner: owners.missed_owner().map(String::from),
             has_namesake: owners.has_namesake(),
             refused: owners.all_refused(),
             counted: *self.counted(),

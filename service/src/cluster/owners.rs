@@ -5,6 +5,8 @@
 //! that one of them was first.
 
 mod clock;
+mod cut_off;
+mod fit;
 mod namesake;
 mod others;
 mod refused;
@@ -17,6 +19,7 @@ pub use step::{Act, Step, Whose};
 use super::places::places;
 use super::terms::{Refused, Row, Seen, Stay, Told};
 use clock::OwnClock;
+use cut_off::CutOff;
 use namesake::Namesake;
 use others::Others;
 use refused::Refusals;
@@ -66,6 +69,7 @@ pub struct Owners {
     /// It ends, and hands over what it has.
     ends: bool,
     clock: OwnClock,
+    cut_off: CutOff,
     others: Others,
     /// Those that may have slots, but for these of each; and where each slot belongs.
     living: BTreeMap<String, Refused>,
@@ -86,6 +90,7 @@ impl Owners {
             me: me.into(),
             ends: false,
             clock: OwnClock::of(clock),
+            cut_off: CutOff::default(),
             others: Others::of(me),
             living: BTreeMap::new(),
             places: BTreeMap::new(),
@@ -98,32 +103,16 @@ impl Owners {
         }
     }
 
-    /// From now on each slot has its place elsewhere.
-    pub fn leave(&mut self) {
-        self.ends = true;
-    }
-
-    pub fn leaves(&self) -> bool {
-        self.ends
-    }
-
-    /// By how many microseconds this instance's clock is ahead, if it is so far off that it may have no slots; late, if that is less
-    /// than 0.
-    pub fn clock_off(&self) -> Option<i64> {
-        self.clock.off()
-    }
-
-    /// Whether it is a place for slots.
-    fn stay(&self) -> Stay {
-        match self.ends || self.clock.off().is_some() {
-            true => Stay::Leaves,
-            false => Stay::Here,
-        }
-    }
-
     /// What the others are told with a beat.
     pub fn told(&self) -> (Stay, Told) {
-        (self.stay(), Told { refused: self.refusals.told(), clock: self.clock.now() })
+        (
+            self.stay(),
+            Told {
+                refused: self.refusals.told(),
+                clock: self.clock.now(),
+                reached: self.cut_off.reached().cloned(),
+            },
+        )
     }
 
     /// Whether this instance has nothing more to do for any slot.
@@ -198,6 +187,7 @@ impl Owners {
         }
         self.others.note(&seen);
         self.clock.note(seen.clock, self.others.clocks());
+        self.note_reached();
         self.rows = seen.slots;
         self.note_living();
         let mut steps = self.drop_lost();
@@ -210,12 +200,12 @@ impl Owners {
 
     /// Where each slot belongs: found anew where an instance has come or gone, or can't open one.
     fn note_living(&mut self) {
-        let others = self.others.staying();
+        let others = self.others.staying().filter(|(name, _)| !self.cut_off.is_cut_off(name));
         let mut living: BTreeMap<String, Refused> =
             others.map(|(name, refused)| (name.into(), refused.clone())).collect();
         let may_another = |slot| living.values().any(|refused| !refused.contains_key(&slot));
         self.refusals.beat(may_another);
-        if self.stay() == Stay::Here {
+        if self.is_place_of_any() {
             living.insert(self.me.clone(), self.refusals.told());
         }
         if living == self.living && self.places.len() == self.rows.len() {
@@ -251,7 +241,7 @@ impl Owners {
 
     /// What was handed over is another's, or nobody takes it.
     fn note_handed(&mut self) {
-        let leaves = self.stay() == Stay::Leaves;
+        let leaves = !self.is_place_of_any();
         let Some(handed) = &mut self.handed else { return };
         handed.beats += 1;
         let is_taken = |row: &Row| row.slot == handed.slot && row.term > handed.term;
@@ -266,7 +256,7 @@ impl Owners {
         if self.handed.is_some() {
             return None;
         }
-        let patience = if self.stay() == Stay::Leaves { 1 } else { SETTLED };
+        let patience = if self.is_place_of_any() { SETTLED } else { 1 };
         let is_due = |mine: &Mine| mine.phase == Phase::Serving && mine.elsewhere >= patience;
         let (slot, mine) = self.mine.iter_mut().find(|(_, mine)| is_due(mine))?;
         mine.phase = Phase::Closing;
@@ -295,7 +285,7 @@ impl Owners {
         let is_free = match row.owner.as_str() {
             "" => true,
             owner if owner == self.me => self.is_left_alone_enough(row),
-            owner => self.others.is_gone(owner),
+            owner => self.others.is_gone(owner) || self.cut_off.is_left(owner),
         };
         if !is_free || self.has_namesake() {
             return None;
@@ -315,7 +305,7 @@ impl Owners {
 
     /// A slot of this name that is not open here: an earlier process', or one whose taking got no answer, or that failed.
     fn is_left_alone_enough(&mut self, row: &Row) -> bool {
-        let leaves = self.stay() == Stay::Leaves;
+        let leaves = !self.is_place_of_any();
         let (term, beats) = self.left_alone.entry(row.slot).or_insert((row.term, RESTARTED));
         if *term != row.term {
             (*term, *beats) = (row.term, RESTARTED);
@@ -376,7 +366,7 @@ impl Owners {
         if let Some(handed) = self.handed.as_mut().filter(|handed| handed.slot == slot) {
             handed.is_released = true;
         }
-        if self.stay() == Stay::Here {
+        if self.is_place_of_any() {
             return None;
         }
         self.note_handed();

@@ -26,6 +26,10 @@ pub struct Status {
     pub few_copies: Option<String>,
     /// By how many microseconds its clock is ahead, if it is so far off that it may have no slots; late, if that is less than 0.
     pub clock_off: Option<i64>,
+    /// Most of the others don't reach it, so it may have no slots.
+    pub is_cut_off: bool,
+    /// An owner of slots whom others reach, and this instance does not.
+    pub missed_owner: Option<String>,
     /// Another process beats under this name.
     pub has_namesake: bool,
     /// Slots that instances could not open: another has them, or nobody.

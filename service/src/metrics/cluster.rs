@@ -23,6 +23,8 @@ metrics! {
             "Since the last beat of this instance that is known to be in the store";
         clock_off: Gauge = "clock_off_seconds",
             "By how much this instance's clock is ahead of those of the others and the store, late if less than 0, if it is so far off that it takes no slots; else 0";
+        cut_off: IntGauge = "cut_off",
+            "1 while most of the other instances don't reach this one, so that it has no slots, or while it does not reach an owner of slots that others reach";
         copies: IntGaugeVec = "store_copies" ["database"],
             "On how many servers what is committed in the database is; not there where it is not known";
         copies_asked: IntGauge = "store_copies_asked", "On how many it has to be, by --store-copies";
@@ -62,6 +64,7 @@ impl OfCluster {
         self.instances.set(seen.instances() as i64);
         self.beat_age.set(seen.beat_age.unwrap_or_default().as_secs_f64());
         self.clock_off.set(seen.clock_off.unwrap_or_default() as f64 / 1e6);
+        self.cut_off.set(i64::from(seen.is_cut_off || seen.missed_owner.is_some()));
         self.set_database(database);
         for (result, count) in
             [("answered", forwarded.answered), ("not_mine", forwarded.not_mine), ("broken", forwarded.broken)]
@@ -114,6 +117,7 @@ mod tests {
             terms: terms.iter().copied().collect::<BTreeMap<_, _>>(),
             beat_age: Some(Duration::from_millis(250)),
             clock_off: Some(-90_500_000),
+            missed_owner: Some("b".into()),
             counted: Counted { takeovers, hand_overs: 1, lost: 0 },
             ..Status::default()
         }
@@ -145,6 +149,7 @@ mod tests {
             "totxegun_instances 3",
             "totxegun_beat_age_seconds 0.25",
             "totxegun_clock_off_seconds -90.5",
+            "totxegun_cut_off 1",
             "totxegun_store_copies{database=\"db/x\"} 1",
             "totxegun_store_copies_asked 2",
             "totxegun_store_doubt_seconds{database=\"db/x\"} 12",

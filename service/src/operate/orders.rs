@@ -26,6 +26,9 @@ impl Desk {
         if cluster.is_off_clock() {
             return Some(Reason::ClockOff);
         }
+        if cluster.misses_owner() {
+            return Some(Reason::OwnerSilent);
+        }
         if cluster.has_others() {
             return None;
         }

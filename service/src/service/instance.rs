@@ -118,6 +118,7 @@ impl Joining {
             instance,
             beats: tokio::spawn(beats.run(beats_stopped)),
             peer,
+            looks: tokio::spawn(self.forward.look_at_others()),
             stop_beats,
             stop_peer,
         }
@@ -145,6 +146,7 @@ pub(super) struct Joined {
     instance: Arc<Instance>,
     pub beats: JoinHandle<Result<(), CameLater>>,
     pub peer: JoinHandle<()>,
+    looks: JoinHandle<()>,
     stop_beats: watch::Sender<bool>,
     stop_peer: watch::Sender<bool>,
 }
@@ -173,6 +175,7 @@ impl Drop for Joined {
     fn drop(&mut self) {
         self.beats.abort();
         self.peer.abort();
+        self.looks.abort();
     }
 }
 

@@ -71,7 +71,11 @@ fn the_first_says_where_all_deliver_to_and_beats_say_what_is_refused() {
     assert_eq!(store.set_sink("", "one").unwrap(), "one");
     assert_eq!(store.set_sink("", "other").unwrap(), "one", "another was first");
     assert_eq!(store.set_sink("one", "other").unwrap(), "other");
-    let told = Told { refused: [(3, "no \"memory\"".to_string())].into(), clock: Some(-7) };
+    let told = Told {
+        refused: [(3, "no \"memory\"".to_string())].into(),
+        clock: Some(-7),
+        reached: Some(["b".to_string()].into()),
+    };
     wait(store.beat("a", "h:1", "h:1", told.clone(), 0)).unwrap();
     let (instances, clock) = wait(store.instances()).unwrap();
     assert_eq!(instances[0].told, told);

@@ -4,7 +4,7 @@ use crate::work::locked;
 use std::collections::HashMap;
 use std::sync::{Arc, Mutex};
 use std::time::Duration;
-use tokio::sync::{Semaphore, SemaphorePermit};
+use tokio::sync::{watch, Semaphore, SemaphorePermit};
 use tokio::time::Instant;
 
 /// So many posts of all others are on their way to one at a time, each over a connection: each of them has its share.
@@ -32,6 +32,8 @@ pub(super) struct Peer {
     kib: Semaphore,
     /// None where it answered last.
     silent: Mutex<Option<Silent>>,
+    /// As it was looked last; it is, before that.
+    reached: watch::Sender<bool>,
 }
 
 /// Posts that got no answer, one behind the other.
@@ -69,6 +71,7 @@ impl Peers {
                 connections: Semaphore::new(CONNECTIONS),
                 kib: Semaphore::new(KIB),
                 silent: Mutex::default(),
+                reached: watch::channel(true).0,
             })
         };
         peers.entry(address.into()).or_insert_with(new).clone()
@@ -98,6 +101,20 @@ impl Peer {
         };
         let connections = from.clamp(CONNECTIONS / POSTS, CONNECTIONS) as u32;
         [long, self.connections.acquire_many(connections).await.ok()]
+    }
+
+    pub fn has_reached(&self, is_reached: bool) {
+        self.reached.send_if_modified(|reached| std::mem::replace(reached, is_reached) != is_reached);
+    }
+
+    /// Returns once it is not reached.
+    pub async fn is_unreached(&self) {
+        let mut reached = self.reached.subscribe();
+        while *reached.borrow_and_update() {
+            if reached.changed().await.is_err() {
+                std::future::pending::<()>().await; // it is here
+            }
+        }
     }
 
     pub fn answers(&self) {

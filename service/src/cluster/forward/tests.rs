@@ -1,6 +1,7 @@
 //! Posts over real sockets, to owners that answer, stall, break off, or have not the slot.
 
 mod peers;
+mod reach;
 mod room;
 mod tls;
 

@@ -8,7 +8,7 @@ use hyper::client::HttpConnector;
 use hyper::{Body, Client};
 use hyper_rustls::HttpsConnector;
 use rustls::{ClientConfig, RootCertStore};
-use std::sync::{Arc, Mutex};
+use std::sync::{Arc, Mutex, MutexGuard};
 
 type Asks = Client<HttpsConnector<HttpConnector>, Body>;
 
@@ -22,6 +22,8 @@ pub(super) struct Connections {
 struct Now {
     by: Option<Arc<Contexts>>,
     asks: Asks,
+    /// For looks alone: they wait for no post.
+    looks: Asks,
 }
 
 impl Now {
@@ -29,7 +31,7 @@ impl Now {
         let config = by.as_ref().and_then(|by| by.client());
         // Nothing is asked over TLS by a client that believes no root.
         let config = config.unwrap_or_else(|| Arc::new(client_config(RootCertStore::empty())));
-        Now { asks: client(config), by }
+        Now { asks: client(config.clone(), peer::POSTS), looks: client(config, 1), by }
     }
 }
 
@@ -47,6 +49,14 @@ impl Connections {
     }
 
     pub fn asks(&self) -> Asks {
+        self.now().asks.clone()
+    }
+
+    pub fn looks(&self) -> Asks {
+        self.now().looks.clone()
+    }
+
+    fn now(&self) -> MutexGuard<'_, Now> {
         let mut now = locked(&self.now);
         if let Some(tls) = &self.tls {
             let latest = tls.contexts();
@@ -54,16 +64,16 @@ impl Connections {
                 *now = Now::of(Some(latest));
             }
         }
-        now.asks.clone()
+        now
     }
 }
 
-fn client(config: Arc<ClientConfig>) -> Asks {
+fn client(config: Arc<ClientConfig>, kept: usize) -> Asks {
     let mut http = HttpConnector::new();
     http.enforce_http(false);
     http.set_nodelay(true);
     http.set_connect_timeout(Some(CONNECT));
     let mut client = Client::builder();
-    client.pool_idle_timeout(IDLE).pool_max_idle_per_host(peer::POSTS);
+    client.pool_idle_timeout(IDLE).pool_max_idle_per_host(kept);
     client.build(HttpsConnector::from((http, config)))
 }

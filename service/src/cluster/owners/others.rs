@@ -3,7 +3,7 @@
 use super::{AFTER_SILENCE, FORGOTTEN, GONE};
 use crate::cluster::status::OtherInstance;
 use crate::cluster::terms::{Instance, Refused, Seen, Told};
-use std::collections::BTreeMap;
+use std::collections::{BTreeMap, BTreeSet};
 
 /// So many own beats lie between two silences that others are waited for.
 const BETWEEN_SILENCES: u32 = 40;
@@ -102,6 +102,13 @@ impl Others {
     /// How far the clocks of those whose beats go on are ahead of the store's.
     pub fn clocks(&self) -> impl Iterator<Item = i64> + '_ {
         self.by_name.values().filter(|other| !other.shown.is_gone).filter_map(|other| other.told.clock)
+    }
+
+    /// Whom those reach that may have slots.
+    pub fn reached(&self) -> impl Iterator<Item = (&str, Option<&BTreeSet<String>>)> {
+        let stays = |other: &Other| !other.shown.is_gone && !other.shown.leaves;
+        let others = self.by_name.iter().filter(move |(_, other)| stays(other));
+        others.map(|(name, other)| (name.as_str(), other.told.reached.as_ref()))
     }
 
     /// Each as it is shown.

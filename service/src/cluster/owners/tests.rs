@@ -187,6 +187,60 @@ fn who_has_a_wrong_clock_hands_all_over_and_takes_nothing_until_it_is_right() {
     assert!(world.store.rows.iter().all(|row| row.owner == "d"));
 }
 
+/// Else its slots would be of no use to anybody for as long as it reaches the store.
+#[test]
+fn whom_most_do_not_reach_hands_all_over_and_gets_slots_again_once_they_do() {
+    let mut world = World::of(31, &["a", "b", "c"]);
+    world.rounds(200);
+    world.cut(&["b"], &["a", "c"]);
+    world.rounds(GONE as usize - 1);
+    assert!(world.is_settled() && !world.nodes[1].owners.is_cut_off());
+    world.rounds(12);
+    assert!(world.nodes[1].owners.is_cut_off());
+    assert!(world.store.rows.iter().all(|row| row.owner != "b" && !row.owner.is_empty()));
+    assert!(world.nodes.iter().all(|node| node.owners.missed_owner().is_none()));
+    world.cut.clear();
+    world.rounds(200);
+    assert!(world.is_settled());
+    // It beats, and can do no more than that.
+    world.nodes[1].is_stuck = true;
+    world.cut(&["b"], &["a", "c"]);
+    world.rounds(60);
+    assert!(world.store.rows.iter().all(|row| row.owner != "b" && !row.owner.is_empty()));
+}
+
+#[test]
+fn of_those_that_reach_nobody_one_alone_has_all() {
+    let mut world = World::of(37, &["a", "b", "c"]);
+    world.rounds(200);
+    world.cut(&["a"], &["b", "c"]);
+    world.cut(&["b"], &["c"]);
+    world.rounds(60);
+    assert!(world.store.rows.iter().all(|row| row.owner == "a"));
+    let missed = |name: usize| world.nodes[name].owners.missed_owner();
+    assert_eq!([missed(0), missed(1), missed(2)], [None, Some("a"), Some("a")]);
+    let mut world = World::of(41, &["a", "b"]);
+    world.rounds(200);
+    world.cut(&["a"], &["b"]);
+    world.rounds(60);
+    assert!(world.store.rows.iter().all(|row| row.owner == "a"));
+}
+
+/// Which of them has a slot makes no difference; posts come by the third.
+#[test]
+fn two_that_do_not_reach_each_other_keep_their_slots_and_say_so() {
+    let mut world = World::of(43, &["a", "b", "c"]);
+    world.rounds(200);
+    let before = (world.takes, world.hand_overs);
+    world.cut(&["a"], &["b"]);
+    world.rounds(GONE as usize);
+    assert!(world.nodes.iter().all(|node| node.owners.missed_owner().is_none()), "it may be gone");
+    world.rounds(60);
+    assert_eq!((world.takes, world.hand_overs), before);
+    let missed = |name: usize| world.nodes[name].owners.missed_owner();
+    assert_eq!([missed(0), missed(1), missed(2)], [Some("b"), Some("a"), None]);
+}
+
 #[test]
 fn of_two_with_one_name_none_takes_a_slot_from_the_other() {
     let mut world = World::of(11, &["a"]);

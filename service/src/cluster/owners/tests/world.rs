@@ -83,6 +83,8 @@ pub struct Node {
     pub clock: i64,
     /// Which process of its name it is; 0 before its first beat.
     pub life: u64,
+    /// It beats, and does nothing else.
+    pub is_stuck: bool,
 }
 
 pub struct World {
@@ -94,6 +96,8 @@ pub struct World {
     /// Slots that an instance can't open.
     pub broken: BTreeSet<(u16, String)>,
     pub stalls_for: u64,
+    /// Who does not reach whom.
+    pub cut: BTreeSet<(String, String)>,
     pub takes: usize,
     pub hand_overs: usize,
 }
@@ -109,6 +113,7 @@ impl World {
             is_rough: false,
             broken: BTreeSet::new(),
             stalls_for: 0,
+            cut: BTreeSet::new(),
             takes: 0,
             hand_overs: 0,
         };
@@ -125,6 +130,7 @@ impl World {
             stands_for: 0,
             clock: 0,
             life: 0,
+            is_stuck: false,
         });
     }
 
@@ -148,7 +154,9 @@ impl World {
 
     fn beat(&mut self, node: usize) {
         let is_lost = self.is_rough && self.random.once_in(20);
+        let reached = self.reached(node);
         let one = &mut self.nodes[node];
+        one.owners.has_reached(reached);
         if self.stalls_for > 0 {
             return one.owners.unanswered();
         }
@@ -165,8 +173,24 @@ impl World {
         }
     }
 
+    /// Those that this one reaches.
+    fn reached(&self, node: usize) -> BTreeSet<String> {
+        let name = &self.nodes[node].name;
+        let others = self.nodes.iter().filter(|one| one.name != *name && one.stands_for == 0);
+        let names = others.map(|other| other.name.clone());
+        names.filter(|other| !self.cut.contains(&(name.clone(), other.clone()))).collect()
+    }
+
+    /// From now on none of these reaches one of those, or is reached by it.
+    pub fn cut(&mut self, these: &[&str], those: &[&str]) {
+        for (one, other) in these.iter().flat_map(|one| those.iter().map(move |other| (*one, *other))) {
+            self.cut.insert((one.into(), other.into()));
+            self.cut.insert((other.into(), one.into()));
+        }
+    }
+
     fn work(&mut self, node: usize) {
-        let is_slow = self.is_rough && self.random.once_in(2);
+        let is_slow = self.is_rough && self.random.once_in(2) || self.nodes[node].is_stuck;
         let one = &mut self.nodes[node];
         let count = one.under_way.len() as u64;
         if is_slow || self.stalls_for > 0 {

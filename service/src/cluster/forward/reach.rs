@@ -1,0 +1,45 @@
+//! Whether other instances are there where posts are brought: each is asked again and again, so that a post for one that is not
+//! reached need not find that out by itself.
+
+use super::{Forward, Here, PATH};
+use hyper::{Body, Request};
+use std::collections::BTreeSet;
+use std::sync::Arc;
+use std::time::Duration;
+use tokio::task::JoinSet;
+use tokio::time::{interval, timeout, MissedTickBehavior};
+
+const EVERY: Duration = Duration::from_millis(500);
+/// Who has not answered by then is not reached.
+const WITHIN: Duration = Duration::from_secs(1);
+
+impl<H: Here> Forward<H> {
+    /// Looks until it is dropped.
+    pub async fn look_at_others(self: Arc<Self>) {
+        let mut looks = interval(EVERY);
+        looks.set_missed_tick_behavior(MissedTickBehavior::Delay);
+        loop {
+            looks.tick().await;
+            let mut asked = JoinSet::new();
+            for (name, address) in self.cluster.addresses() {
+                let forward = self.clone();
+                asked.spawn(async move { forward.reaches(&address).await.then_some(name) });
+            }
+            let mut reached = BTreeSet::new();
+            while let Some(one) = asked.join_next().await {
+                reached.extend(one.ok().flatten());
+            }
+            self.cluster.has_reached(reached);
+        }
+    }
+
+    /// Whatever it says to that.
+    async fn reaches(&self, address: &str) -> bool {
+        let uri = format!("{}://{address}{PATH}", self.connections.scheme());
+        let Ok(request) = Request::get(uri).body(Body::empty()) else { return false };
+        let looking = timeout(WITHIN, self.connections.looks().request(request)).await;
+        let is_reached = looking.is_ok_and(|answer| answer.is_ok());
+        self.peers.at(address).has_reached(is_reached);
+        is_reached
+    }
+}

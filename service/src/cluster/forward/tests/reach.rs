@@ -1,0 +1,39 @@
+//! Posts for instances that are not reached.
+
+use super::*;
+use crate::cluster::terms::{Instance, Seen, Told};
+
+/// Else each post would find out by itself, for ten seconds.
+#[tokio::test]
+async fn who_is_not_reached_is_left_after_a_second_and_then_asked_nothing_until_it_is() {
+    let ((stalls, count), peer) = (strange(b"", true).await, Peer::here().await);
+    let forward = receiver(there(&stalls), secret("of all"));
+    let other = |name: &str, address: &str| Instance {
+        name: name.into(),
+        address: address.into(),
+        operate: String::new(),
+        version: String::new(),
+        beat: 1,
+        life: 1,
+        earlier: 0,
+        told: Told::default(),
+    };
+    let instances = vec![other("stalls", &stalls), other("peer", &peer.address)];
+    forward.cluster.has_seen(Seen { instances, ..Seen::default() });
+    tokio::spawn(forward.clone().look_at_others());
+    let began = Instant::now();
+    assert_eq!(posted(&forward, "{}").await, Reason::OwnerSilent.into());
+    assert!((Duration::from_millis(800)..LOOKED_FOR).contains(&began.elapsed()), "{:?}", began.elapsed());
+    let (before, began) = (count.load(SeqCst), Instant::now());
+    for _ in 0..20 {
+        assert_eq!(posted(&forward, "{}").await, Reason::OwnerSilent.into());
+    }
+    assert!(
+        began.elapsed() < Duration::from_millis(500) && count.load(SeqCst) <= before + 2,
+        "no post asks it"
+    );
+    forward.cluster.knows(&[(3, peer.whose())]);
+    assert_eq!(posted(&forward, "{}").await, Outcome::taken(0), "another is reached");
+    let (_, told) = forward.cluster.owners().told();
+    assert_eq!(told.reached, Some(["peer".to_string()].into()));
+}

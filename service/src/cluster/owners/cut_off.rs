@@ -1,0 +1,127 @@
+//! Who is reached by too few of the others, though its beats go on: its slots are of more use elsewhere. All read the same of all, so
+//! they agree.
+
+use std::cmp::Ordering;
+use std::collections::{BTreeMap, BTreeSet};
+
+/// So many own beats in a row are read that say so, before it counts.
+const SURE: u32 = super::GONE;
+/// And so many before its slots are taken by others. Before that it hands them over.
+const TAKEN: u32 = 30;
+/// So many own beats does this instance not reach another, whose beats go on, before that counts.
+const MISSED: u32 = super::GONE + 2;
+
+#[derive(Default)]
+pub(super) struct CutOff {
+    /// Own beats that have read so of these in a row.
+    beats: BTreeMap<String, u32>,
+    /// Whom this instance reaches; none before it has tried.
+    reached: Option<BTreeSet<String>>,
+    /// Own beats in a row without these.
+    missed: BTreeMap<String, u32>,
+}
+
+/// By the names of those that beat, and stay, whom each reaches; none of one that has not tried.
+pub(super) type Reached<'a> = BTreeMap<&'a str, Option<&'a BTreeSet<String>>>;
+
+/// Those that more than half of all don't reach; or half, and the one with the first name neither. At least one is left, so that one
+/// has the slots.
+fn cut_off<'a>(all: &Reached<'a>) -> BTreeSet<&'a str> {
+    let Some((first, of_first)) = all.first_key_value() else { return BTreeSet::new() };
+    let is_cut_off = |name: &&str| {
+        let misses = |(other, reached): &(&&str, &Option<&BTreeSet<String>>)| {
+            *other != name && reached.is_some_and(|reached| !reached.contains(*name))
+        };
+        match (2 * all.iter().filter(misses).count()).cmp(&all.len()) {
+            Ordering::Greater => true,
+            Ordering::Equal => name != first && of_first.is_some_and(|reached| !reached.contains(*name)),
+            Ordering::Less => false,
+        }
+    };
+    let mut found: BTreeSet<&str> = all.keys().copied().filter(is_cut_off).collect();
+    if found.len() == all.len() {
+        found.remove(first);
+    }
+    found
+}
+
+impl CutOff {
+    pub fn has_reached(&mut self, reached: BTreeSet<String>) {
+        self.reached = Some(reached);
+    }
+
+    pub fn reached(&self) -> Option<&BTreeSet<String>> {
+        self.reached.as_ref()
+    }
+
+    /// What an own beat has read of all: whom they reach.
+    pub fn note(&mut self, me: &str, all: &Reached<'_>) {
+        let found = cut_off(all);
+        self.beats.retain(|name, _| found.contains(name.as_str()));
+        for name in &found {
+            let beats = self.beats.entry((*name).into()).or_default();
+            *beats = beats.saturating_add(1);
+        }
+        let is_missed = |name: &str| {
+            let is_reached = self.reached.as_ref().is_none_or(|reached| reached.contains(name));
+            name != me && !is_reached && !found.contains(name)
+        };
+        let missed: Vec<&str> = all.keys().copied().filter(|name| is_missed(name)).collect();
+        self.missed.retain(|name, _| missed.contains(&name.as_str()));
+        for name in missed {
+            let beats = self.missed.entry(name.into()).or_default();
+            *beats = beats.saturating_add(1);
+        }
+    }
+
+    /// Whether it is no place for slots.
+    pub fn is_cut_off(&self, name: &str) -> bool {
+        self.beats.get(name).is_some_and(|beats| *beats >= SURE)
+    }
+
+    /// Whether its slots may be taken.
+    pub fn is_left(&self, name: &str) -> bool {
+        self.beats.get(name).is_some_and(|beats| *beats >= TAKEN)
+    }
+
+    /// Whether others reach it, and this instance does not.
+    pub fn is_missed(&self, name: &str) -> bool {
+        self.missed.get(name).is_some_and(|beats| *beats >= MISSED)
+    }
+}
+
+#[cfg(test)]
+mod tests {
+    use super::*;
+
+    /// Of each whom it reaches, by letters; `?` of one that has not tried.
+    fn found(all: &[(&'static str, &str)]) -> Vec<&'static str> {
+        let sets: Vec<Option<BTreeSet<String>>> = all
+            .iter()
+            .map(|(_, reached)| (*reached != "?").then(|| reached.chars().map(String::from).collect()))
+            .collect();
+        let all: Reached = all.iter().map(|(name, _)| *name).zip(sets.iter().map(Option::as_ref)).collect();
+        let names = ["a", "b", "c", "d"];
+        let found = cut_off(&all);
+        names.into_iter().filter(|name| found.contains(name)).collect()
+    }
+
+    #[test]
+    fn who_is_reached_by_less_than_half_is_cut_off_and_one_is_left() {
+        assert_eq!(found(&[("a", "")]), [""; 0]);
+        assert_eq!(found(&[("a", "bc"), ("b", "ac"), ("c", "ab")]), [""; 0]);
+        assert_eq!(found(&[("a", "b"), ("b", "a"), ("c", "")]), ["c"]);
+        assert_eq!(found(&[("a", "b"), ("b", "a"), ("c", "ab")]), ["c"], "one way");
+        assert_eq!(found(&[("a", "c"), ("b", "c"), ("c", "ab")]), [""; 0], "two are cut off from each other");
+        assert_eq!(found(&[("a", ""), ("b", "")]), ["b"]);
+        assert_eq!(
+            found(&[("a", "b"), ("b", "")]),
+            [""; 0],
+            "the first can't be told from one that others reach"
+        );
+        assert_eq!(found(&[("a", ""), ("b", "a")]), ["b"]);
+        assert_eq!(found(&[("a", ""), ("b", ""), ("c", "")]), ["b", "c"]);
+        assert_eq!(found(&[("a", "b"), ("b", "a"), ("c", "d"), ("d", "c")]), ["c", "d"]);
+        assert_eq!(found(&[("a", "?"), ("b", "?"), ("c", "")]), [""; 0], "they have not tried");
+    }
+}

@@ -1,0 +1,61 @@
+//! Whether this instance is a place for slots: not while it ends, nor while its clock is wrong, or most of the others don't reach it.
+
+use super::cut_off::Reached;
+use super::Owners;
+use crate::cluster::terms::Stay;
+use std::collections::BTreeSet;
+
+impl Owners {
+    /// From now on each slot has its place elsewhere.
+    pub fn leave(&mut self) {
+        self.ends = true;
+    }
+
+    pub fn leaves(&self) -> bool {
+        self.ends
+    }
+
+    /// By how many microseconds this instance's clock is ahead, if it is so far off that it may have no slots; late, if that is less
+    /// than 0.
+    pub fn clock_off(&self) -> Option<i64> {
+        self.clock.off()
+    }
+
+    /// The others that it reaches just now.
+    pub fn has_reached(&mut self, reached: BTreeSet<String>) {
+        self.cut_off.has_reached(reached);
+    }
+
+    /// Whether most of the others don't reach this instance, so that it may have no slots.
+    pub fn is_cut_off(&self) -> bool {
+        self.cut_off.is_cut_off(&self.me)
+    }
+
+    /// An owner of a slot that others reach, and this instance does not.
+    pub fn missed_owner(&self) -> Option<&str> {
+        let owners = self.rows.iter().map(|row| row.owner.as_str());
+        owners.into_iter().find(|owner| self.cut_off.is_missed(owner))
+    }
+
+    /// Whether it is a place for slots.
+    pub(super) fn is_place_of_any(&self) -> bool {
+        self.stay() == Stay::Here && !self.is_cut_off()
+    }
+
+    /// What the others are told of that; whom too few reach they find by themselves.
+    pub(super) fn stay(&self) -> Stay {
+        match self.ends || self.clock.off().is_some() {
+            true => Stay::Leaves,
+            false => Stay::Here,
+        }
+    }
+
+    pub(super) fn note_reached(&mut self) {
+        let (is_here, own) = (self.stay() == Stay::Here, self.cut_off.reached().cloned());
+        let mut all: Reached = self.others.reached().collect();
+        if is_here {
+            all.insert(&self.me, own.as_ref());
+        }
+        self.cut_off.note(&self.me, &all);
+    }
+}
