@@ -5,8 +5,8 @@
 
 They speak TLS with each other, and let nobody else in; a start waits for the store; without it posts are turned away at
 once; a slot that one can't open goes to another; what `--whole auto` has decided stays where the slot goes; the sink is the
-one that the store knows; one whose clock is wrong has no slots; of two processes of one name the later one ends. Skipped without
-PostgreSQL, openssl or gcc.
+one that the store knows; one whose clock is wrong has no slots; of two processes of one name the later one ends; a server that
+asks for no standby any more is seen. Skipped without PostgreSQL, openssl or gcc.
 
 Each line is one check; the last line counts those that passed and failed, and the status is 0 where none failed.
 """
@@ -28,7 +28,7 @@ from clock_jumps import Clock  # noqa: E402
 from testing.checks import Checks  # noqa: E402
 from testing.loopback import free_port  # noqa: E402
 from testing.database import initdb  # noqa: E402
-from testing.servers import Server  # noqa: E402
+from testing.servers import Pair, Server  # noqa: E402
 from testing.service import DELTA, JSON, OtlpSink, Service, wait_until  # noqa: E402
 from testing.slots import IN_THE_END, come_to_rest, places  # noqa: E402
 
@@ -393,6 +393,37 @@ def try_namesake(checks: Checks, program: str, folder: str, store: Store, sink: 
     ended(checks, "after a namesake", one)
 
 
+def try_copies(checks: Checks, program: str, folder: str, _: Store, sink: OtlpSink) -> None:
+    """Its server asks for no standby any more while it runs."""
+    pair = Pair()
+    try:
+        subprocess.run([program, "store", "init", pair.address, "--slots", "4"], check=True, capture_output=True)
+        pair.make_standby()
+        one = Service(program, f"{folder}/copies", sink.address, "--store", pair.address, "--instance", "a", "--peer",
+                      f"localhost:{free_port()}")
+        one.start()
+        serves = one.wait_ready() and wait_until(lambda: post(one.listen, request("r1", 1))[0] == 200)
+        checks.true("an instance over two servers", serves, one.last_lines())
+        pair.primary.ask("alter system set synchronous_standby_names = ''")
+        pair.primary.ask("select pg_reload_conf()")
+        begun = time.monotonic()
+        checks.true("that no standby is named is seen", wait_until(lambda: one.asked("GET", "/ready")[0] == 503, 10), one.last_lines())
+        took = time.monotonic() - begun
+        checks.true("within a second", took < 1, took)
+        status, text = post(one.listen, request("r1", 1))
+        checks.true("posts are turned away", status == 503 and "the store has too few copies" in text, (status, text))
+        database = (one.status() or {"cluster": {}})["cluster"].get("database", {})
+        checks.true("the status says so", database.get("copies") == 1 and "synchronous_standby_names" in (database["why"] or ""), database)
+        checks.true("and the log", "ERROR the store has too few copies" in one.last_lines(50), one.last_lines())
+        pair.primary.ask("alter system reset synchronous_standby_names")
+        pair.primary.ask("select pg_reload_conf()")
+        goes_on = wait_until(lambda: post(one.listen, request("r1", 1))[0] == 200)
+        checks.true("all goes on once one is", goes_on and one.is_ready(), one.last_lines())
+        checks.same("it ends", 0, one.end()[0])
+    finally:
+        pair.close()
+
+
 def main(words: list[str]) -> int:
     if len(words) != 1:
         sys.exit(__doc__.split("\n\n")[1].strip())
@@ -409,7 +440,7 @@ def main(words: list[str]) -> int:
             try_refused(checks, program, folder, store, sink)
             done = subprocess.run([program, "store", "init", store.address, "--slots", str(SLOTS)], check=False)
             checks.same("a store is made", 0, done.returncode)
-            for part in (try_tls, try_no_store, try_broken_slot, try_units, try_clock, try_namesake, try_sink):
+            for part in (try_tls, try_no_store, try_broken_slot, try_units, try_clock, try_namesake, try_copies, try_sink):
                 part(checks, program, folder, store, sink)
         finally:
             sink.close()
