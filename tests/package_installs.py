@@ -7,7 +7,7 @@ The program is put where `make build` would have made it. Then: every file has i
 the unit starts it, with the shipped settings, takes a point, flushes and shows it; the settings name every option, and all
 their defaults together start it too; user, group and folder are made of the installed files, and a SQLite file there is read by
 another user of the group, and by nobody else;
-settings that were there stay, with mode 600; the page names every option of the
+settings that were there stay; the page names every option of the
 program and mandoc finds nothing; the completion completes; the version says whether the book inside was proved; systemd
 finds nothing in the unit; what is missing is said in one line.
 
@@ -31,7 +31,7 @@ from testing import ROOT
 from testing.checks import Checks
 from testing.loopback import free_port
 from testing.service import ask, wait_until
-from tooling.files import text_of
+from tooling.files import text_of, write
 
 PLACES = {
     "usr/bin/totxegun": 0o755,
@@ -42,7 +42,7 @@ PLACES = {
     "lib/systemd/system/totxegun.service": 0o644,
     "usr/lib/sysusers.d/totxegun.conf": 0o644,
     "usr/lib/tmpfiles.d/totxegun.conf": 0o644,
-    "etc/totxegun/totxegun.env": 0o600,
+    "etc/totxegun/totxegun.toml": 0o644,
     "usr/share/doc/totxegun/README.md": 0o644,
     "usr/share/doc/totxegun/OPERATING.md": 0o644,
     "usr/share/doc/totxegun/QUERIES.md": 0o644,
@@ -56,8 +56,8 @@ PLACES = {
 # The most that the unit may be exposed, as systemd counts it.
 EXPOSURE = 1.2
 LONG = re.compile(r"^ +(?:-\w, )?--([a-z-]+)", re.MULTILINE)
-VARIABLE = re.compile(r"\[env: (TOTXEGUN_\w+)")
-SETTING = re.compile(r"^#(TOTXEGUN_\w+)=(.*)$", re.MULTILINE)
+# A key with what it is by default, and a table.
+SETTING = re.compile(r"^#([a-z-]+) = (.*)$|^(\[sink\])$", re.MULTILINE)
 POINT = ('{"resourceMetrics":[{"scopeMetrics":[{"metrics":[{"name":"a","sum":{"aggregationTemporality":1,"isMonotonic":true,'
          '"dataPoints":[{"asInt":"5","startTimeUnixNano":"%d","timeUnixNano":"%d"}]}}]}]}]}')
 
@@ -92,23 +92,28 @@ def look_at_files(checks: Checks, root: str) -> None:
     checks.same("nothing else is", [], more)
 
 
-def shipped_settings(root: str) -> tuple[dict[str, str], dict[str, str]]:
-    """Each line of the settings as a variable, and those that have a default."""
-    lines = dict(SETTING.findall(text_of(f"{root}/etc/totxegun/totxegun.env")))
-    return lines, {name: value for name, value in lines.items() if not re.fullmatch(r"[A-Z:= ]+", value)}
+def shipped_settings(root: str) -> tuple[list[str], str]:
+    """The key of each line of the settings, and a file of those that have a default."""
+    keys, lines, table = [], [], ""
+    for key, value, head in SETTING.findall(text_of(f"{root}/etc/totxegun/totxegun.toml")):
+        table = table or ("sink." if head else "")
+        if key:
+            keys.append(table + key)
+        if head or not re.search('^\\[?"[A-Z:= ]+"\\]?$', value):
+            lines.append(head or f"{key} = {value}")
+    return keys, "\n".join(lines)
 
 
-def set_by_unit(root: str) -> dict[str, str]:
-    return dict(re.findall(r"^Environment=(\w+)=(\S+)$", text_of(f"{root}/lib/systemd/system/totxegun.service"), re.MULTILINE))
-
-
-def serve(checks: Checks, what: str, root: str, folder: str, settings: dict[str, str]) -> None:
+def serve(checks: Checks, what: str, root: str, folder: str, settings: str | None = None) -> None:
     """A first use: a post, a flush, the totals, an end by SIGTERM."""
     words = shlex.split(re.search(r"^ExecStart=(.*)$", text_of(f"{root}/lib/systemd/system/totxegun.service"), re.M)[1])
-    words = [word.replace("%S", folder) for word in words]
+    words = [word.replace("%S", folder).replace("/etc/", f"{root}/etc/") for word in words]
+    if settings is not None:
+        write(f"{folder}/settings.toml", settings)
+        words[words.index("--config") + 1] = f"{folder}/settings.toml"
     listen, operate = free_port(), free_port()
     places = {"TOTXEGUN_LISTEN": f"127.0.0.1:{listen}", "TOTXEGUN_OPERATE": f"127.0.0.1:{operate}"}
-    environment = {**without_settings(), **settings, **places}
+    environment = {**without_settings(), **places}
     log = f"{folder}/log"
     with open(log, "wb") as out:
         service = subprocess.Popen([f"{root}{words[0]}", *words[1:]], env=environment, stdin=subprocess.DEVNULL, stdout=out,
@@ -204,16 +209,24 @@ def version() -> str:
     return text_of(f"{ROOT}/VERSION").strip()
 
 
-def look_at_settings(checks: Checks, root: str, serve_help: str) -> None:
-    lines, _ = shipped_settings(root)
-    wanted = VARIABLE.findall(serve_help)
-    checks.true("the program has variables", len(wanted) > 15, serve_help)
-    checks.same("the settings name every variable, in order", wanted, list(lines))
-    text = text_of(f"{root}/etc/totxegun/totxegun.env")
-    bare = [name for name in wanted if not re.search(rf"^# \S.*\n#{name}=", text, re.MULTILINE)]
+def look_at_settings(checks: Checks, root: str, program: str, folder: str) -> None:
+    """The file names each option that `config show` does, each once with a text, and can be used as it is."""
+    keys, defaults = shipped_settings(root)
+    file = f"{root}/etc/totxegun/totxegun.toml"
+    words = ["--config", file, "--data", folder]
+    shown = ran([program, "config", "show", *words], env=without_settings())[1]
+    head, sink = shown.split("[sink]\n")
+    wanted = [table + key for table, text in (("", head), ("sink.", sink)) for key in re.findall(r"^(?:# )?([a-z-]+) (?:=|is)", text, re.M)]
+    checks.true("the program has settings", len(wanted) > 50, shown)
+    checks.same("the settings name every one, once", sorted(wanted), sorted(keys))
+    bare = [key for key in keys if not re.search(rf"^# \S.*\n#{key.removeprefix('sink.')} = ", text_of(file), re.MULTILINE)]
     checks.same("each with a line of text", [], bare)
-    own = {name for name in set_by_unit(root) if not name.startswith("TCMALLOC_")}
-    checks.same("what the unit sets is there to be set", set(), own - set(wanted))
+    checks.same("the file can be used as it is", 0, ran([program, "config", "check", *words], env=without_settings())[0])
+    write(f"{folder}/defaults.toml", defaults)
+    of_defaults = ran([program, "config", "show", "--config", f"{folder}/defaults.toml", "--data", folder], env=without_settings())[1]
+    bare_values = [re.sub(" # .*", "", text) for text in (shown, of_defaults)]
+    differ = [(one, other) for one, other in zip(bare_values[0].splitlines(), bare_values[1].splitlines()) if one != other]
+    checks.true("what it says is by default is so", all(one.startswith("# ") for one, _ in differ), differ)
 
 
 def options_of(page: str) -> Any:
@@ -223,15 +236,13 @@ def options_of(page: str) -> Any:
 def look_at_kept_settings(checks: Checks, folder: str, program: str) -> None:
     """Settings that were there before."""
     root = f"{folder}/before"
-    settings = f"{root}/etc/totxegun/totxegun.env"
+    settings = f"{root}/etc/totxegun/totxegun.toml"
     os.makedirs(os.path.dirname(settings))
     with open(settings, "w", encoding="utf-8") as file:
-        file.write("TOTXEGUN_FLUSH_EVERY=7s\n")
-    os.chmod(settings, 0o644)
+        file.write("flush-every = \"7s\"\n")
     status, said = install(folder, program, root)
-    checks.true("settings that were there stay, and it is said", status == 0 and "totxegun.env.new" in said, said)
-    checks.same("they are as they were, and nobody else may read them", ("TOTXEGUN_FLUSH_EVERY=7s\n", 0o600),
-                (text_of(settings), os.stat(settings).st_mode & 0o777))
+    checks.true("settings that were there stay, and it is said", status == 0 and "totxegun.toml.new" in said, said)
+    checks.same("they are as they were", "flush-every = \"7s\"\n", text_of(settings))
 
 
 def look_at_pages(checks: Checks, root: str, program: str) -> None:
@@ -333,13 +344,12 @@ def main(given: str) -> int:
         program = f"{root}/usr/bin/totxegun"
         serve_help = ran([program, "serve", "--help"], env=without_settings())[1]
         look_at_files(checks, root)
-        look_at_settings(checks, root, serve_help)
+        look_at_settings(checks, root, program, folder)
         look_at_pages(checks, root, program)
         look_at_completion(checks, root, program, serve_help)
         look_at_unit(checks, root, folder)
-        chosen, (_, defaults) = set_by_unit(root), shipped_settings(root)
-        serve(checks, "as shipped", root, folder, chosen)
-        serve(checks, "with each default said", root, folder, {**defaults, **chosen})
+        serve(checks, "as shipped", root, folder)
+        serve(checks, "with each default said", root, folder, shipped_settings(root)[1])
         look_at_group(checks, program, root, folder)
         look_at_version(checks, program)
         look_at_kept_settings(checks, folder, given)

@@ -4,8 +4,8 @@
     tests/package_lives.py DEB
 
 Debian's base is fetched once by debootstrap, into /var/tmp/totxegun-debian. A copy of it is booted by its own systemd in namespaces of
-its own, without the toolchain and without a network but loopback. There settings are written, which anybody may read, and
-the package is installed as of an earlier version: it has these settings, which nobody else may read then. It serves as the
+its own, without the toolchain and without a network but loopback. There settings are written, and
+the package is installed as of an earlier version: it has these settings. It serves as the
 README's first use shows, and is replaced by DEB while senders post; the program is killed meanwhile. At the end the sink
 has, series by series, what the senders were told. A purge leaves what was taken, and says so.
 
@@ -35,10 +35,10 @@ PACKAGES = "systemd,systemd-sysv,dbus,libsqlite3-0,libtcmalloc-minimal4,ca-certi
 OPERATE, LISTEN = 4319, 4318
 SENDERS = 4
 EARLIER = "0.0.1"
-SETTINGS = "/etc/totxegun/totxegun.env"
-FORGET = "9d"
+SETTINGS = "/etc/totxegun/totxegun.toml"
+SERIES = 90_001
 # What the senders post is of 1970.
-WRITTEN = f"TOTXEGUN_FORGET_SERIES={FORGET}\nTOTXEGUN_KEEP_INTERVALS=forever\n"
+WRITTEN = f'most-series = {SERIES}\nkeep-intervals = "forever"\n'
 # Where a purge may leave something: what was taken, the manager's own books, and what systemd notes of a unit.
 MAY_STAY = re.compile(r"/var/lib/(private/totxegun|totxegun$|dpkg/|systemd/|private$)|/var/(log|cache)/|/run/|/tmp/|/proc|/sys|/dev"
                       r"|/etc/(machine-id|hostname|\.pwd\.lock|(passwd|group|shadow|gshadow)-)")
@@ -205,20 +205,16 @@ def write_settings(debian: Debian) -> None:
     os.makedirs(f"{debian.root}/etc/totxegun")
     with open(f"{debian.root}{SETTINGS}", "w", encoding="utf-8") as file:
         file.write(WRITTEN)
-    os.chmod(f"{debian.root}{SETTINGS}", 0o644)
 
 
 def look_at_settings(checks: Checks, debian: Debian, what: str) -> None:
-    mode = os.stat(f"{debian.root}{SETTINGS}").st_mode & 0o777
-    checks.same(f"{what}: the settings that were written are there, and nobody else may read them",
-                (WRITTEN, 0o600), (text_there(f"{debian.root}{SETTINGS}"), mode))
-    pid = debian.said("systemctl", "show", "-P", "MainPID", "totxegun")[1].strip()
-    status, said = debian.said("grep", "-z", "TOTXEGUN_FORGET_SERIES", f"/proc/{pid}/environ")
-    checks.true(f"{what}: the service has them", FORGET in said, said)
-    # Which these settings do not say.
+    checks.same(f"{what}: the settings that were written are there", WRITTEN, text_there(f"{debian.root}{SETTINGS}"))
     said = debian.said("totxegun", "status", "--json")[1]
-    most = re.search(r'"most_memory_bytes": ?(\d+)', said)
-    checks.same(f"{what}: the books may have as much memory as the unit says", str(2 << 30), most and most[1])
+    most = re.search(r'"series": ?\{"used": ?\d+, ?"limit": ?(\d+)', said)
+    checks.same(f"{what}: the service has them", str(SERIES), most and most[1])
+    debian.said("systemctl", "reload", "totxegun")
+    said = debian.said("journalctl", "--no-pager", "-u", "totxegun", "-n", "5")[1]
+    checks.true(f"{what}: a reload reads them anew", "SIGHUP: no setting has changed" in said, said)
 
 
 def upgrade(checks: Checks, debian: Debian, deb: str) -> list[Sender]:

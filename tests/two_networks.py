@@ -107,18 +107,13 @@ def commands(folder: str, program: str) -> str:
     text = re.sub(r"^# ", "", block, flags=re.MULTILINE)
     for old, new in (("/root/totxegun-ca", f"{folder}/ca"), ("/var/lib/private/totxegun", f"{folder}/data"),
                      ("/var/lib/totxegun", f"{folder}/data"),
-                     ("/etc/totxegun/totxegun.env", f"{folder}/totxegun.env"), ("systemctl restart totxegun\n", ""),
+                     ("/etc/totxegun/totxegun.toml", f"{folder}/totxegun.toml"), ("/tmp/settings", f"{folder}/settings"),
+                     ("systemctl restart totxegun\n", ""),
                      ("totxegun token", f"{program} token"), ("localhost", NAME)):
         if old not in text:
             raise OSError(f"docs/OPERATING.md has no {old} in its commands")
         text = text.replace(old, new)
     return text
-
-
-def settings(folder: str) -> dict[str, str]:
-    """As the unit reads them."""
-    with open(f"{folder}/totxegun.env", encoding="utf-8") as file:
-        return dict(line.strip().split("=", 1) for line in file if "=" in line)
 
 
 # --------------------------------------------------------------------------------------------------------------------
@@ -195,6 +190,7 @@ def run(checks: Checks, totxegun: str, seconds: float, folder: str, stack: conte
     gateway, shop = make_machines(stack)
     data, at = f"{folder}/data", f"{folder}/ca"
     os.mkdir(data)
+    open(f"{folder}/totxegun.toml", "w", encoding="utf-8").close()
     made = subprocess.run(["bash", "-e"], input=commands(folder, totxegun), capture_output=True, text=True, timeout=60, check=False)
     checks.same("the page's commands are done", 0, made.returncode)
     checks.same("what the service may read", sorted(["ca.pem", f"{NAME}.crt", f"{NAME}.key", "tokens"]), sorted(os.listdir(f"{data}/tls")))
@@ -202,8 +198,8 @@ def run(checks: Checks, totxegun: str, seconds: float, folder: str, stack: conte
     checks.true("one of them shows a token", token, made.stderr[-800:])
     with open(f"{folder}/log", "wb") as log:
         words = on(gateway, totxegun, "serve", "--data", data, "--listen-grpc", f"0.0.0.0:{GRPC}", "--flush-every", "1s",
-                   "--keep-intervals", "forever")
-        service = subprocess.Popen(words, env={**os.environ, **settings(folder)}, stdout=log, stderr=log)
+                   "--config", f"{folder}/totxegun.toml", "--keep-intervals", "forever")
+        service = subprocess.Popen(words, stdout=log, stderr=log)
     stack.callback(service.kill)
 
     def said(*words: str) -> str:

@@ -27,11 +27,19 @@ SENTENCE = re.compile(r"(?<=[.!?])\s+(?=[A-Z])")
 VERSION_LINE = re.compile(r"^## (\d+\.\d+\.\d+), (\d{4}-\d\d-\d\d)$", re.MULTILINE)
 MONTHS = ("January February March April May June July August September October November December").split()
 SETTINGS_HEAD = """\
-# Settings of totxegun.service. The manual page, totxegun(1), says what each costs; the service reads them when it starts.
+# Settings of totxegun.service, in TOML. The manual page, totxegun(1), says what each costs.
 #
-# A line behind # has the default; where that is in capitals there is none. Take the # away to set another value.
-# Its mode is 600, since a header may have a token.
+# A line after # has the default; one in capitals has none. Take the # away to set another value. Then
+#   totxegun config check --config @SYSCONFDIR@/totxegun/totxegun.toml --data /var/lib/totxegun
+# says whether the service starts with it; systemctl reload totxegun applies what can change while it runs, and the log names
+# what needs a restart.
+#
+# Everybody may read this file: passwords and headers with tokens are in files of their own, which it names.
 """
+
+
+# What the key of a setting begins with that is in the sink's table.
+TABLE = "sink."
 
 
 # Its names, and what the program says of it.
@@ -80,28 +88,40 @@ def version() -> tuple[str, str]:
 # The settings
 
 
-def settings(serve: dict[str, Any]) -> str:
-    """A line of text for each variable, and a line with its default, behind #."""
-    out = [SETTINGS_HEAD]
+def settings(serve: dict[str, Any], places: dict[str, str]) -> str:
+    """Lines of text for each setting, and a line with its default, after #. The table of the sink comes last, as TOML wants it."""
+    out = [SETTINGS_HEAD.replace("@SYSCONFDIR@", places["SYSCONFDIR"])]
+    those = [option for option in serve["options"] if option["key"]]
     heading = None
-    for option in serve["options"]:
-        if not option["variable"]:
+    for option in those:
+        if option["key"].startswith(TABLE):
             continue
         if option["heading"] != heading:
             heading = option["heading"]
             out.append(f"\n# {heading}\n")
-        out.append(setting(option))
+        out.append(setting(option, option["key"]))
+    out.append("\n[sink]\n")
+    out += [setting(option, option["key"].removeprefix(TABLE)) for option in those if option["key"].startswith(TABLE)]
     return "\n".join(out)
 
 
-def setting(option: dict[str, Any]) -> str:
+def setting(option: dict[str, Any], key: str) -> str:
     help_line = option["help"].replace("\n", " ")
-    if option["long"] == "data":
-        return f"# {help_line}. The unit gives it, so this line changes nothing.\n#{option['variable']}=/var/lib/totxegun\n"
     if option["one_of"]:
         help_line += f" [{' or '.join(option['one_of'])}]"
-    default = option["default"] or (option["value"] if option["value"] else "false")
-    return f"# {help_line}\n#{option['variable']}={default}\n"
+    default = option["default"] or option["value"]
+    if key == "data":
+        help_line, default = f"{help_line}. The unit gives it, so this line changes nothing", "/var/lib/totxegun"
+    text = textwrap.fill(help_line, 110, initial_indent="# ", subsequent_indent="# ", break_long_words=False, break_on_hyphens=False)
+    return f"{text}\n#{key} = {in_toml(default, option['list'])}\n"
+
+
+def in_toml(value: str | None, is_list: bool) -> str:
+    if value is None:
+        return "false"
+    if is_list:
+        return json.dumps(value.split(","))
+    return value if value.isdecimal() else json.dumps(value)
 
 
 # --------------------------------------------------------------------------------------------------------------------
@@ -245,7 +265,7 @@ def main(words: list[str]) -> int:
         files = pages(line, serve, texts, places)
     except Wrong as why:
         sys.exit(f"tools/pages.py: {why}")
-    files["totxegun.env"] = settings(serve)
+    files["totxegun.toml"] = settings(serve, places)
     files["totxegun.bash"] = printed(program, "completion")
     files["_totxegun"] = printed(program, "zsh")
     files["totxegun.fish"] = printed(program, "fish")

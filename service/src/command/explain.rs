@@ -34,6 +34,9 @@ pub struct Options {
     sender: Option<String>,
     #[command(flatten)]
     form: Form,
+    /// A file of settings, as the service has it: those of reading count
+    #[arg(long, env = super::config::VARIABLE, value_name = "FILE")]
+    config: Option<PathBuf>,
     #[command(flatten)]
     reading: OfReading,
 }

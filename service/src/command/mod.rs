@@ -7,6 +7,7 @@ mod amend;
 mod ask;
 mod check;
 mod client;
+mod config;
 mod explain;
 mod export;
 mod late;
@@ -21,7 +22,6 @@ mod reading;
 mod retention;
 mod series;
 mod serve;
-mod settings;
 mod status;
 mod store;
 mod table;
@@ -34,7 +34,7 @@ use crate::service::Ended;
 use crate::sinks::periods::Period;
 use anyhow::Context;
 use clap::error::{ContextKind, ContextValue};
-use clap::{Args, Parser, Subcommand};
+use clap::{Args, FromArgMatches, Parser, Subcommand};
 use serde::Serialize;
 use std::fmt::Display;
 use std::io::{ErrorKind, Write};
@@ -57,6 +57,9 @@ struct Line {
 enum Command {
     /// Takes posts and delivers what they add up to, until SIGTERM or SIGINT
     Serve(Box<serve::Options>),
+    /// Says whether settings can be used, and where each comes from
+    #[command(subcommand)]
+    Config(config::Command),
     /// Shows how the running service is
     Status(ask::Shown),
     /// Shows what a SQLite sink has: a line for each series
@@ -126,7 +129,14 @@ enum Command {
 pub fn run() -> ExitCode {
     crate::log::end_by_panics();
     // A faulty one ends here, with status 2.
-    let line = Line::try_parse().unwrap_or_else(|error| without_secrets(error).exit());
+    let line = match config::parse(std::env::args_os().collect()) {
+        Ok(parsed) => Line::from_arg_matches(&parsed.matches).unwrap_or_else(|error| error.exit()),
+        Err(config::Faulty::Line(error)) => error.exit(),
+        Err(config::Faulty::File(why)) => {
+            crate::complain(format_args!("{why}"));
+            return ExitCode::from(FAULTY);
+        }
+    };
     match line.command.run().and_then(|answer| Ok(show(&answer)?)) {
         Ok(()) => ExitCode::SUCCESS,
         Err(failure) => {
@@ -160,6 +170,7 @@ impl Command {
     fn run(self) -> Result<Vec<u8>, Ended> {
         match self {
             Command::Serve(options) => options.run().map(|()| Vec::new()),
+            Command::Config(command) => command.run(),
             Command::Status(shown) => Ok(client::shown(&shown, "/status", |status| status::text(&status))?),
             Command::Totals(options) => Ok(totals::run(&options)?),
             Command::Flush(at) => Ok(ask::flush(&at)?),

@@ -1,9 +1,10 @@
 //! `totxegun print`: what is made from the command line's own definition. A package has it as the completion of bash,
 //! zsh and fish, and in its pages and settings.
 
+use super::config::{is_setting, key};
 use super::Line;
 use anyhow::Result;
-use clap::{Arg, Command, CommandFactory, ValueEnum};
+use clap::{Arg, ArgAction, Command, CommandFactory, ValueEnum};
 use clap_complete::{generate, Shell};
 use serde::Serialize;
 
@@ -71,6 +72,10 @@ struct Word {
     one_of: Vec<String>,
     default: Option<String>,
     variable: Option<String>,
+    /// What it is in a file of settings; none if it is in none.
+    key: Option<String>,
+    /// Whether it may be given again.
+    list: bool,
     heading: Option<String>,
     required: bool,
     help: String,
@@ -96,6 +101,7 @@ impl Word {
         let values = arg.get_possible_values();
         let defaults = arg.get_default_values().iter();
         let default = defaults.map(|it| it.to_string_lossy().into_owned()).collect::<Vec<_>>();
+        let of_file = arg.get_long().filter(|name| is_setting(name));
         Word {
             long: arg.get_long().map(str::to_string),
             value: has_value
@@ -103,6 +109,8 @@ impl Word {
                 .flatten(),
             one_of: values.iter().filter(|_| has_value).map(|it| it.get_name().to_string()).collect(),
             default: (!default.is_empty() && has_value).then(|| default.join(",")),
+            key: of_file.filter(|_| arg.get_env().is_some()).map(key),
+            list: matches!(arg.get_action(), ArgAction::Append),
             variable: arg.get_env().map(|it| it.to_string_lossy().into_owned()),
             heading: arg.get_help_heading().map(str::to_string),
             required: arg.is_required_set(),

@@ -48,6 +48,10 @@ pub(super) struct OfReading {
 }
 
 impl OfReading {
+    pub fn profile(&self) -> Profile {
+        self.cumulative
+    }
+
     pub fn clock(&self) -> Clock {
         Clock { most_ahead: self.most_ahead.0, most_behind: self.most_behind.0 }
     }

@@ -1,12 +1,12 @@
 //! `totxegun serve`: its options, and its run.
 
+use super::config::{self, unknown_setting};
 use super::of_book::OfBook;
 use super::of_receivers::{OfPass, OfSink};
 use super::of_senders::OfSenders;
 use super::of_store::OfStore;
 use super::reading::OfReading;
 use super::retention::OfRetention;
-use super::settings::unknown_setting;
 use super::values::{operator, orders_at, place, size, time, time_or, MayBeNone, SOCKET};
 use super::version::Versions;
 use super::Ended;
@@ -18,7 +18,7 @@ use crate::metrics::Metrics;
 use crate::otlp::Reason;
 use crate::post_reports::ReportOptions;
 use crate::runs;
-use crate::service::{self, Operate, Settings};
+use crate::service::{self, Live, Operate, Settings};
 use crate::sinks::Address;
 use anyhow::{anyhow, bail, Context};
 use clap::builder::{PossibleValuesParser, TypedValueParser};
@@ -28,7 +28,7 @@ use std::path::{Path, PathBuf};
 use std::sync::Arc;
 use std::time::Duration;
 use tracing::level_filters::LevelFilter;
-use tracing_subscriber::{filter::Targets, prelude::*};
+use tracing_subscriber::{filter::Targets, prelude::*, reload, Registry};
 
 /// Threads of all that no sender waits for: checkpoints, the delivery, operators.
 const BACKGROUND: usize = 2;
@@ -49,6 +49,9 @@ const LEAST_LATE: u64 = 1 << 20;
 
 #[derive(Args)]
 pub struct Options {
+    /// A file of settings in TOML: its keys are these options' names, and [sink] is a table. The environment comes before it, and the command line before that
+    #[arg(long, env = config::VARIABLE, value_name = "FILE")]
+    config: Option<PathBuf>,
     /// The folder of all files; it is made where there is none
     #[arg(long, env = "TOTXEGUN_DATA", value_name = "DIR")]
     data: PathBuf,
@@ -101,6 +104,9 @@ pub struct Options {
     /// What is meant to be left out, and so is counted by itself and not alerted on
     #[arg(long, env = "TOTXEGUN_EXPECT_FOREIGN", value_name = "CAUSE", value_delimiter = ',', value_parser = causes())]
     expect_foreign: Vec<Reason>,
+    /// What the log has: `debug` also what is only for a fault of the service
+    #[arg(long, env = "TOTXEGUN_LOG_LEVEL", value_name = "LEVEL", default_value = "info", value_parser = levels())]
+    log_level: LevelFilter,
     /// Writes each line of the log as a JSON object, with `time`, `level`, `text` and what it is about
     #[arg(long, env = "TOTXEGUN_LOG_JSON")]
     log_json: bool,
@@ -161,8 +167,13 @@ fn look_at_settings() -> Result<(), Ended> {
 }
 
 /// What gets into the log. Libraries warn of single frames and headers that a sender may send at any rate.
-fn told() -> Targets {
-    Targets::new().with_target("totxegun", LevelFilter::INFO).with_default(LevelFilter::ERROR)
+fn told(level: LevelFilter) -> Targets {
+    Targets::new().with_target("totxegun", level).with_default(LevelFilter::ERROR)
+}
+
+fn levels() -> impl TypedValueParser<Value = LevelFilter> {
+    let levels = PossibleValuesParser::new(["error", "warn", "info", "debug"]);
+    levels.try_map(|level| level.parse::<LevelFilter>())
 }
 
 impl Options {
@@ -172,7 +183,8 @@ impl Options {
         let metrics = Arc::new(Metrics::new().context("metrics")?);
         let log = log::start(metrics.log_lines_lost.clone(), log::Form::new(self.log_json))
             .context("no thread could be started for the log")?;
-        tracing_subscriber::registry().with(log::Events(log).with_filter(told())).init();
+        let (filter, level) = reload::Layer::<_, Registry>::new(told(self.log_level));
+        tracing_subscriber::registry().with(log::Events(log).with_filter(filter)).init();
         let most_files = raise_open_files();
         tracing::info!("{Versions}");
         look_at_settings()?;
@@ -186,11 +198,37 @@ impl Options {
             .thread_keep_alive(IDLE)
             .enable_all();
         let runtime = building.build().context("no threads could be started")?;
-        let ended = runtime.block_on(service::run(self.settings(most_files, metrics)?));
+        let ended = runtime.block_on(service::run(Settings {
+            reload: config::reload(level, &metrics).map_err(Ended::Line)?,
+            ..self.settings(most_files, metrics.clone())?
+        }));
         runtime.shutdown_background(); // who still waits for a disk or a sender is not waited for
         ended?;
         log::finish();
         Ok(())
+    }
+
+    /// Passes if a start with these options would listen, and open its folder.
+    pub fn check(self) -> Result<(), Ended> {
+        look_at_settings()?;
+        let metrics = Arc::new(Metrics::new().context("metrics")?);
+        self.settings(u64::MAX, metrics).map(drop)
+    }
+
+    /// What SIGHUP may change: `config::LIVE` names these options.
+    pub fn live(&self) -> Live {
+        Live {
+            of_each: self.of_senders.of_each(),
+            report_options: ReportOptions {
+                log_foreign: self.log_foreign as usize,
+                expected: self.expect_foreign.clone(),
+                profile: self.of_reading.profile(),
+            },
+        }
+    }
+
+    pub fn level(&self) -> Targets {
+        told(self.log_level)
     }
 
     /// How many connections senders may have, where this process may have so many open files. One that nobody posts on
@@ -209,7 +247,7 @@ impl Options {
     }
 
     fn settings(self, most_files: u64, metrics: Arc<Metrics>) -> Result<Settings, Ended> {
-        let most_connections = self.connections(most_files);
+        let (most_connections, live) = (self.connections(most_files), self.live());
         core::bound_memory(self.of_book.memory());
         metrics.limit_series(self.of_book.most_series);
         let data = absolute(&self.data)?;
@@ -256,7 +294,8 @@ impl Options {
             listen_grpc: self.listen_grpc,
             operate,
             behind_proxy: self.of_senders.behind_proxy,
-            of_each: self.of_senders.of_each(),
+            live,
+            reload: Box::new(|| None),
             sink,
             retention,
             new_sink: self.new_sink,
@@ -266,11 +305,6 @@ impl Options {
             clock,
             across: self.never_across,
             runs: self.of_runs,
-            report_options: ReportOptions {
-                log_foreign: self.log_foreign as usize,
-                expected: self.expect_foreign,
-                profile: reading.profile,
-            },
             pass,
             reading,
             most_bytes: usize::try_from(self.most_bytes).unwrap_or(usize::MAX),
@@ -328,7 +362,7 @@ mod tests {
     /// Else who reaches an address could fill the disk by it.
     #[test]
     fn no_warning_of_a_library_is_logged() {
-        let is_told = |target: &str, level| told().would_enable(target, &level);
+        let is_told = |target: &str, level| told(LevelFilter::INFO).would_enable(target, &level);
         assert!(is_told("totxegun::slot", Level::INFO) && !is_told("totxegun::slot", Level::DEBUG));
         assert!(!is_told("h2::proto::ping_pong", Level::WARN) && is_told("h2", Level::ERROR));
     }

@@ -76,7 +76,7 @@ metrics! {
         pub handshakes: IntCounterVec = "handshakes_total" ["outcome"] of ["done", "failed", "late"],
             "TLS handshakes of senders, by how they ended";
         pub stale_files: IntGaugeVec = "stale_files" ["option"],
-            "1 while the file of an option has changed and can't be used: what it had before is used";
+            "1 while the file of an option has changed and is not used, since it can't be, or since a setting needs a restart";
         // What must never be.
         pub faults: IntCounterVec = "faults_total" ["kind"] of ["reading", "owner", "replay", "points_rejected_by_sink"],
             "Points that the sink rejected, and faults of the program";

@@ -68,14 +68,14 @@ impl Reporter {
     /// For each reason, points of a sender that are not taken are in the log once an hour, with the first metric among them.
     pub(super) async fn tell_rejected(&self, sender: &str, source: &Source, all: &Causes, off: OffClock) {
         let is_due = |reason: &Reason| {
-            let is_expected = self.options.expected.contains(reason);
+            let is_expected = self.options.now().expected.contains(reason);
             !is_expected && locked(&self.logged).rejected.is_due(&(sender.to_string(), *reason))
         };
         let due: Vec<(Reason, u64)> = all.iter().filter(|(reason, _)| is_due(reason)).collect();
         if due.is_empty() {
             return;
         }
-        let profile = self.options.profile;
+        let profile = self.options.now().profile;
         let reasons: Vec<Reason> = due.iter().map(|(reason, _)| *reason).collect();
         let first_of = move |body: &[u8]| {
             let mut first = BTreeMap::new();
@@ -123,13 +123,13 @@ impl Reporter {
     }
 
     pub(super) fn may_tell_more(&self, sender: &str) -> bool {
-        if self.options.log_foreign == 0 {
+        if self.options.now().log_foreign == 0 {
             return false;
         }
         let (mut logged, sender) = (locked(&self.logged), sender.to_string());
         logged.foreign.is_due(&sender);
         let of = logged.foreign.get_mut(&sender);
-        of.is_some_and(|of| of.reasons.len() < self.options.log_foreign && of.read < MOST_READ)
+        of.is_some_and(|of| of.reasons.len() < self.options.now().log_foreign && of.read < MOST_READ)
     }
 
     /// Nobody who posts waits while a body is read: one at a time is.
@@ -137,8 +137,8 @@ impl Reporter {
         let sender = sender.to_string();
         let known = |logged: &mut Logged| logged.foreign.get_mut(&sender).map(|of| of.reasons.clone());
         let mut reasons = known(&mut locked(&self.logged)).unwrap_or_default();
-        foreign_points(body, self.options.profile, |point| {
-            let is_expected = |cause| self.options.expected.contains(&cause);
+        foreign_points(body, self.options.now().profile, |point| {
+            let is_expected = |cause| self.options.now().expected.contains(&cause);
             if point.cause.is_some_and(is_expected) || (self.pass.is_some() && point.is_passed()) {
                 return false;
             }
@@ -146,7 +146,7 @@ impl Reporter {
             if reasons.insert(told.clone()) {
                 tracing::warn!(sender, reason, "points of {sender} are not taken: {told}");
             }
-            reasons.len() >= self.options.log_foreign
+            reasons.len() >= self.options.now().log_foreign
         });
         if let Some(of) = locked(&self.logged).foreign.get_mut(&sender) {
             of.read += 1;

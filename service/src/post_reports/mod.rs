@@ -7,19 +7,22 @@
 
 mod activity;
 mod logged;
+mod options;
 mod texts;
 
 pub use activity::{OfReason, OfSender, SenderActivity};
+pub use options::ReportOptions;
 pub(crate) use texts::{late, named, of_another, of_twice, twice, Interval, SERIES_SHOWN};
 
 use crate::intake::{Hears, Taker};
 use crate::metrics::Metrics;
 use crate::otlp::series::SeriesKey;
-use crate::otlp::{point_at, Causes, Original, Outcome, Profile, Reason, RejectedPoint, Rejection, NO_NAME};
+use crate::otlp::{point_at, Causes, Original, Outcome, Reason, RejectedPoint, Rejection, NO_NAME};
 use crate::pass::Pass;
 use crate::slot::{is_sender, Request, Slot, Source};
 use crate::work::Readers;
 use logged::Logged;
+use options::Changing;
 use std::sync::atomic::{AtomicBool, Ordering::Relaxed};
 use std::sync::{Arc, Mutex};
 use texts::{of_late, of_other_writer};
@@ -36,24 +39,13 @@ pub struct Reported<T> {
 
 /// What reports all slots' posts.
 pub struct Reporter {
-    options: ReportOptions,
+    options: Changing,
     metrics: Arc<Metrics>,
     activity: Arc<SenderActivity>,
     pass: Option<Arc<Pass>>,
     readers: Readers,
     is_reading: AtomicBool,
     logged: Mutex<Logged>,
-}
-
-/// What is told of foreign points.
-#[derive(Clone, Debug, Default)]
-pub struct ReportOptions {
-    /// How many reasons of each sender are in the log.
-    pub log_foreign: usize,
-    /// What is meant to be left out: it is counted by itself, and not told.
-    pub expected: Vec<Reason>,
-    /// Which points are not foreign.
-    pub profile: Profile,
 }
 
 /// Says the owner of a series, which is known once that was forwarded.
@@ -80,7 +72,7 @@ impl<T: Taker> Reported<T> {
         match report {
             Report::Foreign => self.reporter.tell_reasons(sender, &body),
             Report::OtherWriter(place) => {
-                if let Some((_, series)) = point_at(&body, self.reporter.options.profile, place) {
+                if let Some((_, series)) = point_at(&body, self.reporter.options.now().profile, place) {
                     self.reporter.tell_owner(sender, series, &*self.owner);
                 }
             }
@@ -97,7 +89,7 @@ impl Reporter {
         pass: Option<Arc<Pass>>,
     ) -> Arc<Reporter> {
         Arc::new(Reporter {
-            options,
+            options: Changing::new(options),
             metrics,
             activity,
             pass,
@@ -105,6 +97,11 @@ impl Reporter {
             is_reading: AtomicBool::new(false),
             logged: Mutex::new(Logged::default()),
         })
+    }
+
+    /// Reports by these from now on.
+    pub fn set_options(&self, options: ReportOptions) {
+        self.options.set(options);
     }
 
     fn report(&self, sender: &str, outcome: &Outcome) -> Option<Report> {
@@ -148,7 +145,7 @@ impl Reporter {
                 };
                 let causes = causes.and(&known);
                 let all = causes.clone().and(&Causes::of_clocks(off));
-                self.metrics.rejected(sender, &all.clone().and(&refused), &self.options.expected);
+                self.metrics.rejected(sender, &all.clone().and(&refused), &self.options.now().expected);
                 self.tell_rejected(sender, source, &all, off).await;
                 Outcome::taken_but(0, off, causes).without(parts)
             }
@@ -164,7 +161,7 @@ impl Reporter {
 
     /// What a refusal for a point says beside its own words.
     async fn more(&self, source: &Source, point: RejectedPoint) -> Option<String> {
-        let (profile, place) = (self.options.profile, point.place);
+        let (profile, place) = (self.options.now().profile, point.place);
         let Some(frontier) = point.frontier else {
             return self.read(source, move |body| of_other_writer(body, profile, place)).await?;
         };
@@ -176,7 +173,7 @@ impl Reporter {
 
     /// Why so many points were not taken, without those that are handed on.
     async fn causes(&self, source: &Source, original: Option<Original>, foreign: u64) -> Causes {
-        let profile = self.options.profile;
+        let profile = self.options.now().profile;
         let (Some(pass), Some(original)) = (&self.pass, original) else {
             let find = move |body: &[u8]| Causes::of(body, profile, foreign);
             let causes = self.read(source, find).await;

@@ -20,6 +20,8 @@ const KEEPALIVE: Duration = Duration::from_secs(30);
 pub struct Server {
     config: Config,
     tls: ClientFiles,
+    /// The file of passwords, if it is not that of the environment.
+    passfile: Option<PathBuf>,
 }
 
 impl Server {
@@ -37,7 +39,7 @@ impl Server {
         if !rest.starts_with("//") {
             return Err("`//` is missing".into());
         }
-        let (written, tls) = without_tls(rest)?;
+        let (written, tls, passfile) = without_files(rest)?;
         let mut config = Config::from_str(&written).map_err(|error| error.to_string())?;
         if config.get_user().is_none() {
             return Err("there is no user".into());
@@ -64,7 +66,7 @@ impl Server {
         if config.get_connect_timeout().is_none() {
             config.connect_timeout(CONNECT);
         }
-        Ok(Server { config, tls })
+        Ok(Server { config, tls, passfile })
     }
 
     /// Where it is, whoever comes to it.
@@ -102,7 +104,7 @@ impl Server {
         }
         if let Some(password) = std::env::var_os("PGPASSWORD") {
             config.password(password.as_encoded_bytes());
-        } else if let Some(password) = passfile::password(&config) {
+        } else if let Some(password) = passfile::password(&config, self.passfile.as_deref()) {
             config.password(password);
         }
         config
@@ -137,10 +139,10 @@ impl Server {
     }
 }
 
-/// An address without what is read here alone of its TLS, for a library that knows `require`.
-fn without_tls(rest: &str) -> Result<(String, ClientFiles), String> {
+/// An address without what is read here alone, for a library that knows `require`: the files of its TLS, and that of passwords.
+fn without_files(rest: &str) -> Result<(String, ClientFiles, Option<PathBuf>), String> {
     let (place, query) = rest.split_once('?').unwrap_or((rest, ""));
-    let (mut tls, mut others) = (ClientFiles::default(), Vec::new());
+    let (mut tls, mut passfile, mut others) = (ClientFiles::default(), None, Vec::new());
     for pair in query.split('&') {
         let (name, value) = pair.split_once('=').unwrap_or((pair, ""));
         match (name, value) {
@@ -153,11 +155,12 @@ fn without_tls(rest: &str) -> Result<(String, ClientFiles), String> {
             ("sslrootcert", file) => tls.roots = Some(path(file)?),
             ("sslcert", file) => tls.certificate = Some(path(file)?),
             ("sslkey", file) => tls.key = Some(path(file)?),
+            ("passfile", file) => passfile = Some(path(file)?),
             _ => others.push(pair),
         }
     }
     match tls.certificate.is_some() == tls.key.is_some() {
-        true => Ok((format!("postgres:{place}?{}", others.join("&")), tls)),
+        true => Ok((format!("postgres:{place}?{}", others.join("&")), tls, passfile)),
         false => Err("`sslcert` and `sslkey` go together: name both files".into()),
     }
 }
@@ -165,7 +168,7 @@ fn without_tls(rest: &str) -> Result<(String, ClientFiles), String> {
 fn path(written: &str) -> Result<PathBuf, String> {
     let text = percent_encoding::percent_decode_str(written).decode_utf8();
     let text = text.ok().filter(|text| !text.is_empty());
-    text.map(|text| PathBuf::from(&*text)).ok_or_else(|| "a file of its TLS has no name in UTF-8".into())
+    text.map(|text| PathBuf::from(&*text)).ok_or_else(|| "a file that it names has no name in UTF-8".into())
 }
 
 /// Hosts to each of which there can be the TLS that is asked for.
@@ -239,6 +242,19 @@ mod tests {
             Server::read("//u@h/d?sslmode=require&sslrootcert=%2Fa%20b&sslcert=c&sslkey=k").expect("one");
         let file = |name: &str| Some(PathBuf::from(name));
         assert_eq!(server.tls, ClientFiles { roots: file("/a b"), certificate: file("c"), key: file("k") });
+    }
+
+    #[test]
+    fn a_file_of_passwords_is_that_of_its_address() {
+        let folder = tempfile::tempdir().unwrap();
+        let file = folder.path().join("passwords");
+        std::fs::write(&file, "h:*:*:u:of the file\n").unwrap();
+        std::fs::set_permissions(&file, std::os::unix::fs::PermissionsExt::from_mode(0o600)).unwrap();
+        let password =
+            |rest: &str| Server::read(rest).expect(rest).config().get_password().map(<[u8]>::to_vec);
+        assert_eq!(password(&format!("//u@h/d?passfile={}", file.display())), Some(b"of the file".to_vec()));
+        assert_eq!(password("//u:own@h/d?passfile=/none"), Some(b"own".to_vec()));
+        assert_eq!(password("//u@h/d?passfile=/none"), None);
     }
 
     #[test]

@@ -1,4 +1,4 @@
-//! The file of passwords, as libpq has it: `~/.pgpass`, or where PGPASSFILE says.
+//! The file of passwords, as libpq has it: what the address says by `passfile`, or else PGPASSFILE, or `~/.pgpass`.
 //!
 //! A line is `HOST:PORT:DATABASE:USER:PASSWORD`, of which each of the first four may be `*`; a backslash is before a colon or
 //! backslash that belongs to a field. The first line that fits counts. Who is no longer alone to read it is not believed.
@@ -16,9 +16,9 @@ const FOLDERS: [&str; 2] = ["/var/run/postgresql", "/tmp"];
 /// It was said that others may read the file.
 static TOLD: Once = Once::new();
 
-/// For the first host of a connection.
-pub(super) fn password(config: &Config) -> Option<String> {
-    let file = file()?;
+/// For the first host of a connection, of the file that its address names, or else of the environment's.
+pub(super) fn password(config: &Config, named: Option<&Path>) -> Option<String> {
+    let file = named.map(Path::to_path_buf).or_else(file)?;
     let about = std::fs::metadata(&file).ok().filter(std::fs::Metadata::is_file)?;
     if about.mode() & 0o077 != 0 {
         TOLD.call_once(|| {

@@ -58,8 +58,6 @@ pub struct Settings {
     pub door: Door,
     /// Others may reach these addresses although strangers can post there.
     pub behind_proxy: bool,
-    /// What a sender may have that has no share of its own.
-    pub of_each: Share,
     pub sink: Address,
     /// How long the sink keeps what it has.
     pub retention: Retention,
@@ -74,7 +72,9 @@ pub struct Settings {
     /// What a forwarded point never covers two of.
     pub across: Across,
     pub runs: runs::Options,
-    pub report_options: ReportOptions,
+    pub live: Live,
+    /// Reads them anew, and says what can't change while the service runs. None if they can't be used.
+    pub reload: Box<dyn Fn() -> Option<Live> + Send + Sync>,
     /// Who gets points that are outside the profile.
     pub pass: Option<Arc<Pass>>,
     pub most_bytes: usize,
@@ -86,6 +86,14 @@ pub struct Settings {
     /// So many fit.
     pub most_series: usize,
     pub metrics: Arc<Metrics>,
+}
+
+/// Settings that may change while the service runs.
+#[derive(Clone, Default)]
+pub struct Live {
+    /// What a sender may have that has no share of its own.
+    pub of_each: Share,
+    pub report_options: ReportOptions,
 }
 
 impl Settings {
@@ -144,6 +152,8 @@ impl From<FolderFault> for Ended {
 /// Runs the service until it is told to end: then all that was taken is in the outbox, or in the journal.
 pub async fn run(settings: Settings) -> Result<(), Ended> {
     let mut signals = Signals::new()?;
+    // One that comes during the start is handled after it.
+    let mut hangup = received(SignalKind::hangup())?;
     let supervisor = Supervisor::from_environment();
     let senders = Senders::bind(&settings).await?;
     let readers = Readers::bind(&settings).await?;
@@ -166,9 +176,17 @@ pub async fn run(settings: Settings) -> Result<(), Ended> {
     tracing::info!("senders post to {}, operators {}", senders.shown(), operators.shown());
     let mut running = parts.start(&settings, senders, operators);
     units.get_or_init(|| running.at_work.units().clone());
-    let ended = tokio::select! {
-        cause = running.ended() => Err(cause),
-        () = signals.ending() => Ok(()),
+    let ended = loop {
+        tokio::select! {
+            cause = running.ended() => break Err(cause),
+            () = signals.ending() => break Ok(()),
+            _ = hangup.recv() => {
+                let settings = settings.clone();
+                if let Some(live) = blocking(move || (settings.reload)()).await {
+                    running.live.set(live);
+                }
+            }
+        }
     };
     watched.abort();
     supervisor.stopping(running.ends_within());
@@ -213,6 +231,10 @@ async fn of_store(
     }
 }
 
+fn received(kind: SignalKind) -> Result<Signal, Ended> {
+    Ok(signal(kind).context("signals can't be received")?)
+}
+
 /// The signals that end the service.
 struct Signals {
     terminate: Signal,
@@ -221,8 +243,10 @@ struct Signals {
 
 impl Signals {
     fn new() -> Result<Signals, Ended> {
-        let one = |kind| signal(kind).context("signals can't be received");
-        Ok(Signals { terminate: one(SignalKind::terminate())?, interrupt: one(SignalKind::interrupt())? })
+        Ok(Signals {
+            terminate: received(SignalKind::terminate())?,
+            interrupt: received(SignalKind::interrupt())?,
+        })
     }
 
     /// Returns once one has come.

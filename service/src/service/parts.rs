@@ -2,7 +2,7 @@
 
 use super::instance::Joining;
 use super::operators::Operators;
-use super::running::Running;
+use super::running::{Lively, Running};
 use super::senders::Senders;
 use super::sink::{InFolder, InStore, Remembers, Told};
 use super::unit::{Files, Opened};
@@ -93,7 +93,7 @@ impl Parts {
         let (at_work, ends) = AtWork::new(units.clone());
         let (metrics, activity) = (settings.metrics.clone(), Arc::<SenderActivity>::default());
         let reporter = Reporter::new(
-            settings.report_options.clone(),
+            settings.live.report_options.clone(),
             metrics.clone(),
             activity.clone(),
             settings.pass.clone(),
@@ -102,7 +102,7 @@ impl Parts {
         // Of series that are there already.
         self.shared.shares.begin(Rules {
             most_series: settings.most_series as u64,
-            of_each: settings.of_each,
+            of_each: settings.live.of_each.into(),
             tokens: settings.door.tokens(),
             profile: settings.reading.profile,
             owned: Box::new(units.clone()),
@@ -157,6 +157,7 @@ impl Parts {
             at_work,
             ends,
             joined,
+            live,
             _threads: threads,
         }
     }

@@ -3,10 +3,12 @@
 use super::instance::Joined;
 use super::unit::{cause, End};
 use super::units::{AtWork, Ending, Ends};
-use super::Ended;
+use super::{Ended, Live};
 use crate::cluster::beats::LEAVES_WITHIN;
 use crate::files::Fault;
 use crate::intake::Threads;
+use crate::post_reports::Reporter;
+use crate::shares::Shares;
 use std::sync::Arc;
 use std::time::Duration;
 use tokio::sync::watch;
@@ -29,8 +31,22 @@ pub(super) struct Running {
     pub ends: Ends,
     /// None where a folder has all.
     pub joined: Option<Joined>,
+    pub live: Lively,
     /// A post that is under way has its thread until the keepers have ended: who is answered 200 by then is told so.
     pub _threads: Arc<Threads>,
+}
+
+/// Whom changed settings concern.
+pub(super) struct Lively {
+    pub reporter: Arc<Reporter>,
+    pub shares: Arc<Shares>,
+}
+
+impl Lively {
+    pub fn set(&self, live: Live) {
+        self.reporter.set_options(live.report_options);
+        self.shares.set_of_each(live.of_each);
+    }
 }
 
 impl Running {
@@ -113,6 +129,7 @@ mod tests {
     use super::super::unit::Unit;
     use super::*;
     use crate::latch::Latch;
+    use crate::metrics::Metrics;
     use crate::operate;
     use std::future::Future;
     use std::sync::atomic::{AtomicBool, Ordering::Relaxed};
@@ -133,6 +150,15 @@ mod tests {
             at_work,
             ends,
             joined: None,
+            live: Lively {
+                reporter: Reporter::new(
+                    Default::default(),
+                    Metrics::new().unwrap().into(),
+                    Arc::default(),
+                    None,
+                ),
+                shares: Arc::default(),
+            },
             _threads: threads,
         }
     }

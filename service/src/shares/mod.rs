@@ -20,7 +20,7 @@ use bytes::Bytes;
 use count::{Counted, Has};
 use serde::{Deserialize, Serialize};
 use std::future::Future;
-use std::sync::{Arc, Mutex, OnceLock, Weak};
+use std::sync::{Arc, Mutex, OnceLock, PoisonError, Weak};
 use std::time::{Duration, Instant};
 
 /// How often it is looked whether series came or went.
@@ -145,6 +145,13 @@ impl Shares {
         self.counted.count(&*rules.owned);
         if self.rules.set(rules).is_ok() {
             tokio::spawn(count(Arc::downgrade(self)));
+        }
+    }
+
+    /// What each sender may have from now on that has no share of its own.
+    pub fn set_of_each(&self, share: Share) {
+        if let Some(rules) = self.rules.get() {
+            *rules.of_each.write().unwrap_or_else(PoisonError::into_inner) = share;
         }
     }
 

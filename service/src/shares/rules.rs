@@ -4,7 +4,7 @@ use crate::identity::Tokens;
 use crate::otlp::series::{Profile, SeriesKey};
 use crate::reloaded::Reloaded;
 use std::collections::HashMap;
-use std::sync::Arc;
+use std::sync::{Arc, PoisonError, RwLock};
 
 /// The most points a second that may be named.
 pub const MOST_POINTS: u64 = 1_000_000_000_000;
@@ -38,7 +38,7 @@ pub struct Rules {
     /// Of the service.
     pub most_series: u64,
     /// Of each sender that has none of its own.
-    pub of_each: Share,
+    pub of_each: RwLock<Share>,
     /// Whose are its own.
     pub tokens: Option<Arc<Reloaded<Tokens>>>,
     /// Which points have a series.
@@ -49,7 +49,7 @@ pub struct Rules {
 impl Rules {
     pub fn of(&self, sender: &str) -> Share {
         let own = self.tokens.as_ref().and_then(|tokens| tokens.now().share(sender));
-        own.unwrap_or_default().or(self.of_each)
+        own.unwrap_or_default().or(*self.of_each.read().unwrap_or_else(PoisonError::into_inner))
     }
 
     /// How many series one sender may have where others have some too: a tenth is left to them.

@@ -95,7 +95,7 @@ fn service(of_each: Share) -> Service {
     shares.counted.count(&flushed);
     let rules = Rules {
         most_series: 100,
-        of_each,
+        of_each: of_each.into(),
         profile: crate::otlp::Profile::Deltas,
         tokens: None,
         owned: Box::new(flushed.clone()),

@@ -1,5 +1,6 @@
 //! The command line, by the program itself: what it prints, and the status that it ends with.
 
+mod config;
 mod tokens;
 
 use std::process::{Command, Output, Stdio};
@@ -52,6 +53,7 @@ fn help_names_each_command_and_option() {
     for command in [
         "serve",
         "status",
+        "config",
         "totals",
         "flush",
         "checkpoint",

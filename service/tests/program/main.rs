@@ -13,6 +13,7 @@ mod log_form;
 mod memory;
 mod numbers;
 mod pages;
+mod reload;
 mod repeats;
 mod sender_attribute;
 mod shares;

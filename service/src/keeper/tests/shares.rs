@@ -31,7 +31,7 @@ impl Run {
         let run = Run::begin_runs(path, Options::default()).await;
         run.slot.shares.begin(Rules {
             most_series: 10_000,
-            of_each: Share { series: None, points: Some(1) },
+            of_each: Share { series: None, points: Some(1) }.into(),
             tokens: None,
             profile: Profile::AlsoCumulative,
             owned: Box::new(Unflushed),

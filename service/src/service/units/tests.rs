@@ -5,6 +5,7 @@ mod reach;
 
 use super::super::operators::Operate;
 use super::super::unit::tests::{no_disk, over, unit};
+use super::super::Live;
 use super::*;
 use crate::core::Across;
 use crate::files::drive::{self, memory::Store};
@@ -17,7 +18,6 @@ use crate::metrics::Metrics;
 use crate::operate::{Acts, Desk, Others, Pulse};
 use crate::otlp::series::{forwarded, Value};
 use crate::otlp::{slot_of, Clock, Encoding, Outcome, Reading, Reason, Resources};
-use crate::shares::Share;
 use crate::sinks::{Address, Answer, Fate, Forwarded, Keys, Retention};
 use bytes::Bytes;
 use hyper::{Body, Request};
@@ -62,7 +62,6 @@ fn settings(place: &Path) -> Settings {
         operate: Operate { tcp: None, socket: PathBuf::new(), tokens: None },
         door: Door::default(),
         behind_proxy: false,
-        of_each: Share::default(),
         sink: Address::Sqlite(PathBuf::new()),
         retention: Retention::default(),
         new_sink: false,
@@ -73,7 +72,8 @@ fn settings(place: &Path) -> Settings {
         clock: Clock::default(),
         across: Across::None,
         runs: crate::runs::Options::default(),
-        report_options: crate::post_reports::ReportOptions::default(),
+        live: Live::default(),
+        reload: Box::new(|| None),
         pass: None,
         most_bytes: 64 << 20,
         max_late: 1 << 20,
@@ -106,7 +106,8 @@ impl Service {
         let place = settings.data.clone();
         let shared = Arc::new(Shared::new(metrics.clone(), settings.clock));
         let sink = Arc::<Taken>::default();
-        let reporter = Reporter::new(settings.report_options.clone(), metrics.clone(), Arc::default(), None);
+        let reporter =
+            Reporter::new(settings.live.report_options.clone(), metrics.clone(), Arc::default(), None);
         let slots = Slots::several(Resources::new(SLOTS, reading.clone()), None);
         let of_desk = operate::Units::of(SLOTS);
         let (at_work, ends) = AtWork::new(of_desk.clone());

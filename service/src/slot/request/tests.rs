@@ -52,7 +52,7 @@ async fn a_long_post_of_who_has_all_of_its_share_is_looked_at_beside_others() {
     let (other, done) = std::sync::mpsc::channel();
     shared.shares.begin(Rules {
         most_series: 10,
-        of_each: Share { series: Some(1), points: None },
+        of_each: Share { series: Some(1), points: None }.into(),
         tokens: None,
         profile: Profile::Deltas,
         owned: Box::new(Slow(Mutex::new(done))),
@@ -88,7 +88,7 @@ async fn no_sender_comes_over_its_share_of_series_by_one_post() {
     let shared = Shared::of_test();
     shared.shares.begin(Rules {
         most_series: 10,
-        of_each: Share { series: Some(3), points: None },
+        of_each: Share { series: Some(3), points: None }.into(),
         tokens: None,
         profile: Profile::Deltas,
         owned: Box::new(Nothing),

@@ -1,5 +1,6 @@
 //! Settings of the environment that no option reads: a misspelled one would be left out in silence.
 
+use super::nearest;
 use clap::Command;
 use std::collections::BTreeSet;
 
@@ -28,7 +29,7 @@ fn known(line: &Command) -> BTreeSet<String> {
 }
 
 fn said(name: &str, known: &BTreeSet<String>) -> String {
-    let nearest = known.iter().min_by_key(|it| strsim::levenshtein(it, name)).map_or("", String::as_str);
+    let nearest = nearest(name, known.iter());
     format!("{name} is set, and is no setting: take it out, or write {nearest} if that is meant")
 }
 
@@ -38,7 +39,7 @@ mod tests {
     use clap::CommandFactory;
 
     fn unknown(set: &[&str]) -> Option<String> {
-        unknown_setting(&super::super::Line::command(), set.iter().map(|name| name.to_string()))
+        unknown_setting(&super::super::super::Line::command(), set.iter().map(|name| name.to_string()))
     }
 
     #[test]

@@ -1,0 +1,249 @@
+//! The settings of `serve`: the command line comes before the environment, and that before the file of `--config`. And
+//! `totxegun config`, which says whether they can be used, and where each comes from.
+
+mod environment;
+mod file;
+mod reload;
+mod secret;
+#[cfg(test)]
+mod tests;
+
+use secret::without_password;
+
+pub use environment::unknown_setting;
+pub use file::{is_setting, key};
+pub use reload::reload;
+
+use super::{line, serve, Ended, Line};
+use anyhow::anyhow;
+use clap::error::{ContextKind, ContextValue};
+use clap::parser::ValueSource;
+use clap::{ArgMatches, CommandFactory, FromArgMatches, Subcommand};
+use std::collections::{BTreeMap, BTreeSet};
+use std::ffi::{OsStr, OsString};
+use std::fmt::Write;
+use std::path::PathBuf;
+
+/// The variable that names the file.
+pub const VARIABLE: &str = "TOTXEGUN_CONFIG";
+
+/// A command line that was read, with what the file of settings adds to it.
+pub struct Parsed {
+    pub matches: ArgMatches,
+    /// The file, if one was named, and the options that it sets.
+    file: Option<(PathBuf, BTreeSet<String>)>,
+}
+
+/// Why a command line can't be used.
+pub enum Faulty {
+    Line(clap::Error),
+    File(String),
+}
+
+/// Reads a command line, and the file of settings if it names one.
+pub fn parse(mut words: Vec<OsString>) -> Result<Parsed, Faulty> {
+    let command = Line::command();
+    let file = match file_of(&words, &command) {
+        None => None,
+        Some((path, of_file)) => {
+            let of_file = of_file.map_err(Faulty::File)?;
+            let given: BTreeSet<String> = of_file.keys().cloned().collect();
+            words.extend(of_file.into_values().flatten());
+            Some((path, given))
+        }
+    };
+    match command.try_get_matches_from(words) {
+        Ok(matches) => Ok(Parsed { matches, file }),
+        Err(error) => Err(match file.and_then(|(path, given)| in_file(&error, &path, &given)) {
+            Some(why) => Faulty::File(why),
+            None => Faulty::Line(super::without_secrets(error)),
+        }),
+    }
+}
+
+/// What the file that the words or the environment name says of the options that neither sets.
+fn file_of(words: &[OsString], command: &clap::Command) -> Option<(PathBuf, Result<file::Words, String>)> {
+    let ran = command.find_subcommand(words.get(1)?)?;
+    let variable = ran.get_arguments().find(|option| option.get_long() == Some(file::OPTION))?.get_env()?;
+    let path = value(words, file::OPTION).or_else(|| std::env::var_os(variable))?;
+    let serve = command.find_subcommand("serve")?;
+    let read = file::read(path.as_ref(), serve).map(|mut found| {
+        found.retain(|option, _| {
+            let own = ran.get_arguments().find(|own| own.get_long() == Some(option));
+            let is_set = |own: &clap::Arg| own.get_env().and_then(std::env::var_os).is_some();
+            own.is_some_and(|own| !is_given(words, option) && !is_set(own))
+        });
+        found
+    });
+    Some((path.into(), read))
+}
+
+fn is_given(words: &[OsString], option: &str) -> bool {
+    let (alone, with_value) = (format!("--{option}"), format!("--{option}="));
+    words.iter().any(|word| *word == *alone || word.as_encoded_bytes().starts_with(with_value.as_bytes()))
+}
+
+/// The last value of an option among the words.
+fn value(words: &[OsString], option: &str) -> Option<OsString> {
+    let alone = format!("--{option}");
+    let next = words.iter().skip(1).map(Some).chain([None]);
+    let of = |(word, next): (&OsString, Option<&OsString>)| match word.to_str()?.strip_prefix(&alone)? {
+        "" => next.cloned(),
+        rest => rest.strip_prefix('=').map(OsString::from),
+    };
+    words.iter().zip(next).filter_map(of).last()
+}
+
+/// What is wrong with a value of the file, with its key; none if another one is meant.
+fn in_file(error: &clap::Error, path: &std::path::Path, given: &BTreeSet<String>) -> Option<String> {
+    let Some(ContextValue::String(shown)) = error.get(ContextKind::InvalidArg) else {
+        return None;
+    };
+    let option = shown.trim_start_matches('-').split(' ').next().filter(|option| given.contains(*option))?;
+    let Some(ContextValue::String(_)) = error.get(ContextKind::InvalidValue) else {
+        return None;
+    };
+    let why = std::error::Error::source(error).map_or_else(
+        || error.to_string().lines().next().unwrap_or_default().trim_start_matches("error: ").to_string(),
+        ToString::to_string,
+    );
+    Some(format!("{}: `{}`: {why}", path.display(), key(option)))
+}
+
+/// The known name that is nearest to another.
+pub(super) fn nearest<'k>(name: &str, known: impl Iterator<Item = &'k String>) -> &'k str {
+    known.min_by_key(|it| strsim::levenshtein(it, name)).map_or("", String::as_str)
+}
+
+#[derive(Subcommand)]
+pub enum Command {
+    /// Says whether a service starts with these options, and what is wrong; listens at none of its addresses
+    Check(Words),
+    /// Shows each setting, and whether the command line, the environment or the file says it; no secrets
+    Show(Words),
+}
+
+#[derive(clap::Args)]
+pub struct Words {
+    /// The options of `serve`, as --config FILE
+    #[arg(value_name = "OPTION", trailing_var_arg = true, allow_hyphen_values = true)]
+    words: Vec<OsString>,
+}
+
+impl Command {
+    pub fn run(self) -> Result<Vec<u8>, Ended> {
+        match self {
+            Command::Check(words) => {
+                let (options, _) = options(words.words)?;
+                options.check()?;
+                Ok(line("a service starts with these settings, if it may listen at its addresses"))
+            }
+            Command::Show(words) => Ok(shown(&options(words.words)?.1)?.into()),
+        }
+    }
+}
+
+/// What `serve` would be told.
+fn options(words: Vec<OsString>) -> Result<(serve::Options, Parsed), Ended> {
+    let of_serve = ["totxegun", "serve"].map(OsString::from);
+    let parsed = parse(of_serve.into_iter().chain(words).collect()).map_err(|why| match why {
+        Faulty::Line(error) => {
+            Ended::Line(anyhow!("{}", error.to_string().trim_start_matches("error: ").trim_end()))
+        }
+        Faulty::File(why) => Ended::Line(anyhow!(why)),
+    })?;
+    let (_, of_serve) = parsed.matches.subcommand().ok_or_else(|| anyhow!("there is no command"))?;
+    let options = serve::Options::from_arg_matches(of_serve).map_err(|why| anyhow!("{why}"))?;
+    Ok((options, parsed))
+}
+
+/// Each setting of a service, as it would be in a file.
+pub type Values = BTreeMap<String, Vec<OsString>>;
+
+/// Those of a service with this process' command line, with its options. So a change of the file shows.
+pub fn read_again() -> Result<(serve::Options, Values), String> {
+    let parsed = parse(std::env::args_os().collect()).map_err(|why| match why {
+        Faulty::Line(error) => error.to_string(),
+        Faulty::File(why) => why,
+    })?;
+    let (_, of_serve) = parsed.matches.subcommand().ok_or("there is no command")?;
+    let options = serve::Options::from_arg_matches(of_serve).map_err(|why| why.to_string())?;
+    Ok((options, values(of_serve)))
+}
+
+fn values(matches: &ArgMatches) -> Values {
+    let command = Line::command();
+    let serve = command.find_subcommand("serve");
+    let of = |(option, arg): (&str, &clap::Arg)| (option.to_string(), raw(matches, arg));
+    serve.map(|serve| file::settings(serve).map(of).collect()).unwrap_or_default()
+}
+
+fn raw(matches: &ArgMatches, arg: &clap::Arg) -> Vec<OsString> {
+    let id = arg.get_id().as_str();
+    if !arg.get_action().takes_values() {
+        return vec![if matches.get_flag(id) { "true" } else { "false" }.into()];
+    }
+    matches.get_raw(id).map(|all| all.map(OsStr::to_os_string).collect()).unwrap_or_default()
+}
+
+/// Each setting as a line of a file of settings, with where it comes from.
+fn shown(parsed: &Parsed) -> anyhow::Result<String> {
+    let command = Line::command();
+    let (Some(serve), Some((_, matches))) = (command.find_subcommand("serve"), parsed.matches.subcommand())
+    else {
+        return Ok(String::new());
+    };
+    let (mut top, mut sink) = (String::new(), String::from("[sink]\n"));
+    for (option, arg) in file::settings(serve) {
+        let key = key(option);
+        let (to, key) = match key.strip_prefix("sink.") {
+            Some(key) => (&mut sink, key),
+            None => (&mut top, &*key),
+        };
+        match matches.value_source(arg.get_id().as_str()) {
+            None => writeln!(to, "# {key} is not set")?,
+            Some(source) => {
+                let value = as_toml(arg, &raw(matches, arg));
+                writeln!(to, "{key} = {value} # {}", source_shown(source, option, arg, parsed.file.as_ref()))?
+            }
+        }
+    }
+    Ok(top + &sink)
+}
+
+fn source_shown(
+    source: ValueSource,
+    option: &str,
+    arg: &clap::Arg,
+    file: Option<&(PathBuf, BTreeSet<String>)>,
+) -> String {
+    let variable = || arg.get_env().unwrap_or_default().to_string_lossy().into_owned();
+    match (source, file) {
+        (ValueSource::CommandLine, Some((path, given))) if given.contains(option) => {
+            path.display().to_string()
+        }
+        (ValueSource::CommandLine, _) => "command line".into(),
+        (ValueSource::EnvVariable, _) => format!("environment, {}", variable()),
+        _ => "default".into(),
+    }
+}
+
+/// As the file has it. A password is not shown.
+fn as_toml(arg: &clap::Arg, values: &[OsString]) -> String {
+    let one = |value: &OsString| {
+        let text = value.to_string_lossy();
+        match (text.parse::<i64>(), arg.get_action().takes_values()) {
+            (_, false) => text.into_owned(),
+            (Ok(number), _) => number.to_string(),
+            _ if arg.is_hide_env_values_set() => toml::Value::from(without_password(&text)).to_string(),
+            _ => toml::Value::from(text.into_owned()).to_string(),
+        }
+    };
+    match (arg.get_action(), values) {
+        (clap::ArgAction::Append, values) => {
+            format!("[{}]", values.iter().map(one).collect::<Vec<_>>().join(", "))
+        }
+        (_, [value, ..]) => one(value),
+        (_, []) => "\"\"".into(),
+    }
+}

@@ -1,0 +1,89 @@
+//! What SIGHUP does: the settings are read anew, what can change does, and what can't is named in the log.
+
+use super::{key, read_again, Values};
+use crate::metrics::Metrics;
+use crate::service::Live;
+use anyhow::{anyhow, Result};
+use std::sync::{Mutex, PoisonError};
+use tracing_subscriber::{filter::Targets, reload::Handle, Registry};
+
+/// The options that SIGHUP may change. Contents of files of certificates and tokens are read anew without it.
+const LIVE: [&str; 5] = ["log-level", "log-foreign", "expect-foreign", "sender-series", "sender-points"];
+
+/// Reads the settings anew, and returns those that the service changes by itself. Without settings that can be used it goes on with
+/// those that it has.
+pub fn reload(
+    level: Handle<Targets, Registry>,
+    metrics: &Metrics,
+) -> Result<Box<dyn Fn() -> Option<Live> + Send + Sync>> {
+    let (_, started) = read_again().map_err(|why| anyhow!(why))?;
+    let (used, stale) = (Mutex::new(started.clone()), metrics.stale_files.with_label_values(&["--config"]));
+    Ok(Box::new(move || match read_again() {
+        Ok((options, found)) => {
+            let mut used = used.lock().unwrap_or_else(PoisonError::into_inner);
+            let (live, fixed) = (changed(&used, &found, true), changed(&started, &found, false));
+            *used = found;
+            tell(&live, &fixed);
+            stale.set(i64::from(!fixed.is_empty()));
+            // It fails only if the log has ended.
+            let _ = level.reload(options.level());
+            Some(options.live())
+        }
+        Err(reason) => {
+            stale.set(1);
+            tracing::warn!(reason, "SIGHUP: the settings can't be used, and stay as they were: {reason}");
+            None
+        }
+    }))
+}
+
+/// The settings that differ, as the file calls them: those that may change, or the others.
+fn changed(before: &Values, now: &Values, is_live: bool) -> Vec<String> {
+    let differ = now.iter().filter(|(option, values)| before.get(*option) != Some(values));
+    let those = differ.filter(|(option, _)| LIVE.contains(&option.as_str()) == is_live);
+    those.map(|(option, _)| key(option)).collect()
+}
+
+fn tell(live: &[String], fixed: &[String]) {
+    if live.is_empty() && fixed.is_empty() {
+        return tracing::info!("SIGHUP: no setting has changed");
+    }
+    if !live.is_empty() {
+        let settings = live.join(", ");
+        tracing::info!(settings, "SIGHUP: {settings} changed, and count from now on");
+    }
+    if !fixed.is_empty() {
+        let settings = fixed.join(", ");
+        tracing::warn!(
+            settings,
+            "SIGHUP: {settings} changed, which needs a restart: systemctl restart totxegun"
+        );
+    }
+}
+
+#[cfg(test)]
+mod tests {
+    use super::*;
+    use crate::command::Line;
+    use clap::CommandFactory;
+
+    #[test]
+    fn what_changed_is_named_as_the_file_does() {
+        let values = |pairs: &[(&str, &str)]| -> Values {
+            pairs.iter().map(|(option, value)| (option.to_string(), vec![value.into()])).collect()
+        };
+        let before = values(&[("log-level", "info"), ("sink", "sqlite:a"), ("threads", "4")]);
+        let now = values(&[("log-level", "debug"), ("sink", "sqlite:b"), ("threads", "4")]);
+        assert_eq!(changed(&before, &now, true), ["log-level"]);
+        assert_eq!(changed(&before, &now, false), ["sink.address"]);
+    }
+
+    #[test]
+    fn what_may_change_is_an_option() {
+        let line = Line::command();
+        let serve = line.find_subcommand("serve").unwrap();
+        for option in LIVE {
+            assert!(serve.get_arguments().any(|it| it.get_long() == Some(option)), "{option}");
+        }
+    }
+}

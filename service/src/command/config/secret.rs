@@ -1,0 +1,41 @@
+//! What of an address is a secret.
+
+/// Whether an address has a password, before its host or in its query.
+pub fn has_password(address: &str) -> bool {
+    let (place, query) = address.split_once('?').unwrap_or((address, ""));
+    let user = place.split_once("//").and_then(|(_, rest)| Some(rest.rsplit_once('@')?.0));
+    user.is_some_and(|user| user.contains(':')) || query.split('&').any(|pair| pair.starts_with("password="))
+}
+
+/// An address without its password, and without its query, which may have a token.
+pub fn without_password(address: &str) -> String {
+    let (place, query) = address.split_once('?').map_or((address, ""), |(place, _)| (place, "?.."));
+    let parts = place.split_once("//").and_then(|(scheme, rest)| Some((scheme, rest.rsplit_once('@')?)));
+    match parts {
+        Some((scheme, (user, host))) => {
+            let user = user.split(':').next().unwrap_or_default();
+            format!("{scheme}//{user}@{host}{query}")
+        }
+        None => place.to_string() + query,
+    }
+}
+
+#[cfg(test)]
+mod tests {
+    use super::*;
+
+    #[test]
+    fn a_password_is_found_and_not_shown() {
+        for (address, has, shown) in [
+            ("sqlite:/a/b.db", false, "sqlite:/a/b.db"),
+            ("postgres://u@h:5432/d", false, "postgres://u@h:5432/d"),
+            ("postgres://u:secret@h:5432/d", true, "postgres://u@h:5432/d"),
+            ("postgres://u:se@cr:et@h/d", true, "postgres://u@h/d"),
+            ("postgres://u@h/d?sslmode=require&password=secret", true, "postgres://u@h/d?.."),
+            ("postgres://u@h/d?passfile=/etc/f", false, "postgres://u@h/d?.."),
+            ("https://h:4318/v1/metrics?key=secret", false, "https://h:4318/v1/metrics?.."),
+        ] {
+            assert_eq!((has_password(address), &*without_password(address)), (has, shown), "{address}");
+        }
+    }
+}

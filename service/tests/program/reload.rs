@@ -1,0 +1,90 @@
+//! SIGHUP: what can change does, what can't is named, and no post is lost or counted twice meanwhile.
+
+use super::support::*;
+use std::path::Path;
+use std::sync::atomic::{AtomicBool, Ordering::Relaxed};
+use std::thread::JoinHandle;
+
+const TIMES: usize = 20;
+
+/// A sender that posts until it is told to stop: how often it was answered 200.
+fn sender(service: &Service, name: &'static str, stop: &'static AtomicBool) -> JoinHandle<i64> {
+    let listen = service.listen.clone();
+    std::thread::spawn(move || {
+        let mut taken = 0;
+        while !stop.load(Relaxed) {
+            let body = points(&[name], 20 + 10 * taken as u64, 1);
+            let (status, text) = asked(&listen, "POST", "/v1/metrics", name, &body).unwrap();
+            assert_eq!(status, 200, "{text}");
+            taken += 1;
+        }
+        taken
+    })
+}
+
+fn write(path: &Path, text: &str) {
+    std::fs::write(path, text).unwrap();
+}
+
+#[test]
+fn nothing_is_lost_while_settings_change() {
+    static STOP: AtomicBool = AtomicBool::new(false);
+    let place = Place::new();
+    let path = place.folder.path().join("totxegun.toml");
+    write(&path, "log-level = \"info\"\n");
+    let service = place.serve_with(&["--config", path.to_str().unwrap(), "--sink", &place.sink()]);
+    let senders = ["a", "b", "c"].map(|name| sender(&service, name, &STOP));
+    for time in 0..TIMES {
+        let points = 1_000_000 + time;
+        write(&path, &format!("log-level = \"info\"\nsender-points = {points}\n"));
+        signal(service.pid(), "HUP");
+        until("it is read", || place.log().matches("SIGHUP: sender-points changed").count() > time);
+    }
+    STOP.store(true, Relaxed);
+    let taken = senders.map(|sender| sender.join().unwrap());
+    assert!(taken.iter().all(|taken| *taken > 0), "{taken:?}");
+    let all: i64 = taken.iter().sum();
+    assert_eq!(service.order("/flush").0, 200);
+    until("all is there", || place.totals_if_any().values().sum::<i64>() >= all);
+    assert_eq!(place.totals().values().sum::<i64>(), all);
+    assert_eq!(service.end(), Some(0));
+}
+
+#[test]
+fn what_needs_a_restart_is_named_and_a_fault_changes_nothing() {
+    let place = Place::new();
+    let path = place.folder.path().join("totxegun.toml");
+    write(&path, "threads = 2\n");
+    let service = place.serve_with(&["--config", path.to_str().unwrap(), "--sink", &place.sink()]);
+    let said = |text: &str, wanted: &str| {
+        write(&path, text);
+        signal(service.pid(), "HUP");
+        until(wanted, || place.log().contains(wanted));
+    };
+    said("threads = 3\nkeep-hours = \"7d\"\n", "SIGHUP: keep-hours, threads changed, which needs a restart");
+    said("threads = 2\nsender-points = 1\n", "SIGHUP: sender-points changed, and count from now on");
+    // A minute's at once.
+    let many = |time: u64| {
+        asked(&service.listen, "POST", "/v1/metrics", "a", &points(&["a"], 20 + 10 * time, 1)).unwrap().0
+    };
+    let answers: Vec<u16> = (0..80).map(many).collect();
+    assert!(answers.contains(&429), "{answers:?}");
+    said("thread = 2\n", "no setting `thread`");
+    said("threads = 2\nlog-level = \"error\"\n", "SIGHUP: log-level, sender-points changed");
+    assert_eq!(many(99), 200);
+    let stale = service.metrics();
+    assert!(stale.contains("totxegun_stale_files{option=\"--config\"} 0"), "{stale}");
+    assert_eq!(service.end(), Some(0));
+    assert!(!place.log().contains("ended\n"), "{}", place.log());
+}
+
+/// It would have ended the service.
+#[test]
+fn a_service_without_a_file_goes_on() {
+    let place = Place::new();
+    let service = place.serve();
+    signal(service.pid(), "HUP");
+    until("it is said", || place.log().contains("SIGHUP: no setting has changed"));
+    assert!(service.is_ready());
+    assert_eq!(service.end(), Some(0));
+}
