@@ -248,7 +248,7 @@ def is_open(connection: socket.socket) -> bool:
 
 def readers(target: Target) -> None:
     """Every page that may be read at TCP, one after another."""
-    pages = ["/", "/series", "/totals", "/status", "/metrics", "/report", "/ready", "/health"]
+    pages = ["/", "/series", "/totals", "/status", "/metrics", "/report", "/readyz", "/healthz"]
     while not target.over.is_set():
         for page in pages:
             ask(target.operate, "GET", page, seconds=10)

@@ -52,6 +52,7 @@ PLACES = {
     "usr/share/doc/totxegun/examples/haproxy.cfg": 0o644,
     "usr/share/doc/totxegun/examples/alerts.yml": 0o644,
     "usr/share/doc/totxegun/examples/dashboard.json": 0o644,
+    "usr/share/doc/totxegun/examples/totxegun.yaml": 0o644,
 }
 # The most that the unit may be exposed, as systemd counts it.
 EXPOSURE = 1.2
@@ -119,7 +120,7 @@ def serve(checks: Checks, what: str, root: str, folder: str, settings: str | Non
         service = subprocess.Popen([f"{root}{words[0]}", *words[1:]], env=environment, stdin=subprocess.DEVNULL, stdout=out,
                                    stderr=out)
     try:
-        is_ready = wait_until(lambda: service.poll() is not None or ask(operate, "GET", "/ready", seconds=2)[0] == 200)
+        is_ready = wait_until(lambda: service.poll() is not None or ask(operate, "GET", "/readyz", seconds=2)[0] == 200)
         if not is_ready or service.poll() is not None:
             checks.true(f"{what}: it serves", False, text_of(log)[-2000:])
             return
@@ -190,7 +191,7 @@ def look_at_group(checks: Checks, program: str, root: str, folder: str) -> None:
     service = subprocess.Popen([program, *words], env=without_settings(), stdin=subprocess.DEVNULL, stderr=subprocess.DEVNULL,
                                umask=0o077, user=user, group=group, extra_groups=[])
     try:
-        checks.true("it serves", wait_until(lambda: ask(operate, "GET", "/ready", seconds=2)[0] == 200), "not ready")
+        checks.true("it serves", wait_until(lambda: ask(operate, "GET", "/readyz", seconds=2)[0] == 200), "not ready")
         now = time.time_ns()
         headers = {"Content-Type": "application/json", "x-sender": "A"}
         ask(listen, "POST", "/v1/metrics", (POINT % (now - 10_000_000_000, now)).encode(), headers)

@@ -171,7 +171,7 @@ def earlier(deb: str, folder: str) -> str:
 
 
 def is_ready() -> bool:
-    return ask(OPERATE, "GET", "/ready", seconds=2)[0] == 200
+    return ask(OPERATE, "GET", "/readyz", seconds=2)[0] == 200
 
 
 def install(checks: Checks, debian: Debian, what: str, deb: str) -> None:
@@ -267,7 +267,7 @@ def compare(checks: Checks, debian: Debian, senders: list[Sender]) -> None:
 def purge(checks: Checks, debian: Debian, before: set[str]) -> None:
     status, said = debian.said("dpkg", "--purge", "totxegun")
     checks.true("a purge says what stays", status == 0 and "/var/lib/private/totxegun stays" in said, said)
-    checks.true("nothing serves after it", wait_until(lambda: ask(OPERATE, "GET", "/ready", seconds=2)[0] is None, 10), said)
+    checks.true("nothing serves after it", wait_until(lambda: ask(OPERATE, "GET", "/readyz", seconds=2)[0] is None, 10), said)
     checks.same("it leaves nothing but the data", [], sorted(debian.files() - before))
     checks.true("and leaves that", os.path.isfile(f"{debian.root}/var/lib/private/totxegun/metrics.db"), said)
 

@@ -10,7 +10,7 @@ Senders post sums and histograms, in JSON and protobuf, packed or not, on connec
 until it is answered; now and then one posts to another's series, and is refused. Meanwhile the service is killed, also twice
 in a row; it is stopped and goes on; senders are quarantined and released; the sink of OTLP answers late, 503, 400, not at
 all, or takes a request and loses its answer. With --stalls, which needs root, its folder is on a file system of its own that
-is frozen for 1 to 30 seconds now and then: `/health` answers meanwhile, `/ready` says why no posts are taken, and sometimes
+is frozen for 1 to 30 seconds now and then: `/healthz` answers meanwhile, `/readyz` says why no posts are taken, and sometimes
 the service is killed before the disk goes on.
 
 At the end a repeat of what was taken is answered as the first time, SIGTERM ends the service within ten seconds with status 0,
@@ -124,13 +124,13 @@ class Trouble:
 
     def look(self, seconds: float, is_written: bool) -> None:
         """What must be said while the disk has been still for so long."""
-        status, _ = self.service.asked("GET", "/health", 2)
+        status, _ = self.service.asked("GET", "/healthz", 2)
         if status != 200:
-            self.silences.append(f"/health {status} after {seconds:.1f} s")
+            self.silences.append(f"/healthz {status} after {seconds:.1f} s")
         if seconds > SEEN_AFTER and is_written:
-            status, text = self.service.asked("GET", "/ready", 2)
+            status, text = self.service.asked("GET", "/readyz", 2)
             if status != 503 or NO_ANSWER not in text:
-                self.silences.append(f"/ready {status} {text!r} after {seconds:.1f} s")
+                self.silences.append(f"/readyz {status} {text!r} after {seconds:.1f} s")
 
     def flush(self) -> None:
         self.service.order("/flush", 5)

@@ -85,7 +85,7 @@ frontend senders
     default_backend instances
 backend instances
     balance roundrobin
-    option httpchk GET /ready
+    option httpchk GET /readyz
     default-server check port {operate} inter 500ms fall 2 rise 1
 """
 

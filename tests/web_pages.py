@@ -6,7 +6,7 @@
 A page of another origin tries every route with every method that a page has: fetch with and without CORS, a form, an image, a
 script, a frame. So does one by a rebound name: its own address is the service's from the second connection on, as where a
 name is made to mean this machine once the page is there; what it asks for has its own origin then. No answer is shown to
-either but that of `/health` and `/ready`, nobody is quarantined or released, nothing is flushed, sent again or thrown away,
+either but that of `/healthz`, `/readyz` and `/startupz`, nobody is quarantined or released, nothing is flushed, sent again or thrown away,
 and `acts.jsonl` has no line. The service takes orders over TCP by token, of which the pages have none; a page that has one
 is refused too. Without Chromium all is left out, with status 77.
 
@@ -34,8 +34,8 @@ SECRET = "s3cret-of-a-letter"
 # As `Route::of` has them.
 ROUTES = [("POST", path) for path in ("/flush", "/checkpoint", "/quarantine/A", "/lift/B", f"/dead/{KEY}/resend", f"/dead/{KEY}/drop")]
 ROUTES += [("GET", path) for path in ("/report", "/metrics", "/totals", "/status", "/dead", f"/dead/{KEY}", "/", "/series", "/page.js",
-                                      "/health", "/ready")]
-FOR_ALL = ("/health", "/ready")
+                                      "/healthz", "/readyz", "/startupz")]
+FOR_ALL = ("/healthz", "/readyz", "/startupz")
 PAGE = """<!doctype html><title>none</title><body><pre id=told></pre><script>
 const routes = %s, place = "%s", token = "%s", told = [];
 async function go() {

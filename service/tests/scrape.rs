@@ -40,7 +40,7 @@ fn serve(data: &Path, sink: &[&str]) -> Service {
         .unwrap();
     let service = Service { child, listen, operate, data: data.to_path_buf() };
     let begun = Instant::now();
-    while !matches!(asked(&service.operate, "GET", "/ready", ""), Some((200, _))) {
+    while !matches!(asked(&service.operate, "GET", "/readyz", ""), Some((200, _))) {
         assert!(begun.elapsed() < Duration::from_secs(60), "it is not ready");
         std::thread::sleep(Duration::from_millis(20));
     }
@@ -168,7 +168,7 @@ fn one_page_of_totals_is_on_its_way_at_a_time() {
     assert_eq!(&begin, b"HTTP/1.1 200");
     let (status, text) = asked(&service.operate, "GET", "/totals", "").unwrap();
     assert!(status == 503 && text.contains("another reader"), "{status} {} bytes", text.len());
-    assert_eq!(asked(&service.operate, "GET", "/ready", "").unwrap().0, 200);
+    assert_eq!(asked(&service.operate, "GET", "/readyz", "").unwrap().0, 200);
     drop(slow);
     let (status, page) = asked(&service.operate, "GET", "/totals", "").unwrap();
     assert!(status == 200 && page.len() > 3_000 * 4_000, "{status} {} bytes", page.len());
@@ -179,7 +179,7 @@ fn one_page_of_totals_is_on_its_way_at_a_time() {
 fn a_head_is_that_of_its_page() {
     let folder = tempfile::tempdir().unwrap();
     let service = serve(&folder.path().join("data"), &[]);
-    for path in ["/ready", "/health", "/status", "/metrics", "/totals"] {
+    for path in ["/readyz", "/healthz", "/status", "/metrics", "/totals"] {
         let head = asked(&service.operate, "HEAD", path, "");
         assert_eq!(head, Some((200, String::new())), "{path}");
     }

@@ -121,7 +121,7 @@ class Service:
         return ask(at, method, path, body, seconds=seconds, host=self.host)
 
     def is_ready(self) -> bool:
-        return self.asked("GET", "/ready", 2)[0] == 200
+        return self.asked("GET", "/readyz", 2)[0] == 200
 
     def wait_ready(self, seconds: float = SECONDS) -> bool:
         """Whether it took posts within so many seconds; not where it ended."""

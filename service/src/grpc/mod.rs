@@ -1,12 +1,14 @@
-//! OTLP over gRPC: one unary method over HTTP/2, for senders that speak nothing else.
+//! OTLP over gRPC: its one unary method over HTTP/2, for senders that speak nothing else.
 //!
 //! A message goes the way of a body that came over HTTP: the same reader, slot, journal and bound of memory, so the
 //! same answers. `message` takes it out of its frame, `reply` says what became of it as gRPC does, `connections` serves,
-//! and `guard` ends a connection that floods, or whose headers (`block`) the library must not read.
+//! and `guard` ends a connection that floods, or whose headers (`block`) the library must not read. `health` is what orchestrators
+//! ask.
 
 mod block;
 mod connections;
 mod guard;
+mod health;
 mod message;
 mod reply;
 mod timeout;
@@ -33,6 +35,9 @@ static ENCODING: HeaderName = HeaderName::from_static("grpc-encoding");
 async fn answer<T: Taker>(intake: Arc<Intake<T>>, who: &Who, request: Request<Body>) -> Response<Body> {
     let began = Instant::now();
     let (parts, mut body) = request.into_parts();
+    if health::is_asked(&parts) {
+        return health::answer(&intake, &parts, &mut body).await;
+    }
     let is_grpc = is_grpc(&parts.headers);
     let (call, limit) = (call(&parts, who), timeout::of(&parts.headers));
     drop(parts); // they may be long, are in no budget, and a call may last

@@ -25,24 +25,40 @@ pub(super) struct Duration {
 }
 
 pub async fn response(outcome: &Outcome) -> Response<Body> {
-    let mut response = Response::new(Body::empty());
-    let headers = response.headers_mut();
-    headers.insert(CONTENT_TYPE, HeaderValue::from_static("application/grpc"));
     match outcome {
-        Outcome::Taken { .. } => *response.body_mut() = taken(outcome).await,
-        Outcome::Refused(rejection) => put_refusal(headers, rejection),
+        Outcome::Taken { .. } => message(&outcome.body(Encoding::Protobuf)).await,
+        Outcome::Refused(rejection) => {
+            let mut response = empty();
+            put_refusal(response.headers_mut(), rejection);
+            response
+        }
     }
-    response
 }
 
 /// A message, and the status behind it. Both find room: nothing else is sent so.
-async fn taken(outcome: &Outcome) -> Body {
+pub async fn message(message: &[u8]) -> Response<Body> {
     let (mut sender, body) = Body::channel();
-    let _ = sender.try_send_data(framed(&outcome.body(Encoding::Protobuf)));
+    let _ = sender.try_send_data(framed(message));
     let mut trailers = HeaderMap::new();
     put(&mut trailers, "grpc-status", "0");
     let _ = sender.send_trailers(trailers).await;
-    body
+    let mut response = empty();
+    *response.body_mut() = body;
+    response
+}
+
+/// A status alone.
+pub fn failed(code: i32, why: &str) -> Response<Body> {
+    let mut response = empty();
+    put(response.headers_mut(), "grpc-status", &code.to_string());
+    put(response.headers_mut(), "grpc-message", why);
+    response
+}
+
+fn empty() -> Response<Body> {
+    let mut response = Response::new(Body::empty());
+    response.headers_mut().insert(CONTENT_TYPE, HeaderValue::from_static("application/grpc"));
+    response
 }
 
 fn framed(message: &[u8]) -> Bytes {

@@ -15,6 +15,7 @@ use hyper::body::HttpBody;
 use prost::Message;
 use std::future::Future;
 use std::io::Write;
+use std::sync::atomic::{AtomicBool, Ordering::Relaxed};
 use std::sync::Mutex;
 use std::time::Duration;
 use tokio::io::AsyncReadExt;
@@ -22,6 +23,7 @@ use tokio::net::{TcpListener, TcpStream};
 use tokio::sync::watch;
 
 mod frames;
+mod health;
 mod slow;
 
 /// Keeps what it is given, and answers as it was told, or never.
@@ -63,6 +65,7 @@ struct Served {
     address: std::net::SocketAddr,
     kept: Arc<Kept>,
     budget: Arc<Budget>,
+    is_available: Arc<AtomicBool>,
     stop: watch::Sender<bool>,
     task: tokio::task::JoinHandle<()>,
 }
@@ -83,6 +86,9 @@ impl Served {
             budget.clone(),
             metrics,
         );
+        let is_available = Arc::new(AtomicBool::new(true));
+        let available = is_available.clone();
+        intake.set_available(move || available.load(Relaxed));
         let listener = TcpListener::bind("127.0.0.1:0").await.unwrap();
         let address = listener.local_addr().unwrap();
         let limits =
@@ -91,7 +97,7 @@ impl Served {
         let threads = Arc::new(Threads::new(2).unwrap());
         let shared = Shared::new(limits, door, Arc::new(intake), stopped);
         let task = tokio::spawn(spread::<Grpc, _>(Arc::new(listener), shared, threads));
-        Served { address, kept, budget, stop, task }
+        Served { address, kept, budget, is_available, stop, task }
     }
 
     async fn start() -> Served {

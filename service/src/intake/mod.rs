@@ -43,7 +43,7 @@ use head::{Head, Packing};
 use post::{Asked, AskedPart, Post};
 use refusal::{Refusal, Turned};
 use std::future::Future;
-use std::sync::Arc;
+use std::sync::{Arc, OnceLock};
 use std::time::Duration;
 use tokio::io::{AsyncRead, AsyncWrite};
 use tokio::task::JoinSet;
@@ -116,7 +116,11 @@ pub struct Intake<T> {
     pub(crate) metrics: Arc<Metrics>,
     readers: Readers,
     patience: Duration,
+    /// Says whether posts are taken.
+    available: OnceLock<Box<Available>>,
 }
+
+type Available = dyn Fn() -> bool + Send + Sync;
 
 impl<T: Taker> Intake<T> {
     pub fn of(
@@ -126,7 +130,18 @@ impl<T: Taker> Intake<T> {
         budget: Arc<Budget>,
         metrics: Arc<Metrics>,
     ) -> Intake<T> {
-        Intake { slots, hears, reading, budget, metrics, readers: Readers::new(READERS), patience: PATIENCE }
+        let (readers, available) = (Readers::new(READERS), OnceLock::new());
+        Intake { slots, hears, reading, budget, metrics, readers, patience: PATIENCE, available }
+    }
+
+    /// Says, once, by what it is told whether posts are taken.
+    pub fn set_available(&self, available: impl Fn() -> bool + Send + Sync + 'static) {
+        let _ = self.available.set(Box::new(available));
+    }
+
+    /// Whether posts are taken, for who asks before it posts.
+    pub fn is_available(&self) -> bool {
+        self.available.get().is_some_and(|available| available())
     }
 
     /// With another time that a body may take.

@@ -252,6 +252,7 @@ impl Fresh<'_> {
     }
 
     fn say_progress(&mut self) {
+        self.slot.set_ungrouped(self.filled.posts);
         if self.shown.elapsed() >= PROGRESS {
             self.shown = Instant::now();
             let (slot, posts) = (self.slot.number(), self.filled.posts);

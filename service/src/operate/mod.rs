@@ -101,6 +101,7 @@ enum Route {
     Totals,
     Health,
     Ready,
+    Startup,
     Status,
     Letters,
     Late,
@@ -126,8 +127,9 @@ impl Route {
             ["report"] => (Method::GET, Route::Report),
             ["metrics"] => (Method::GET, Route::Metrics),
             ["totals"] => (Method::GET, Route::Totals),
-            ["health"] => (Method::GET, Route::Health),
-            ["ready"] => (Method::GET, Route::Ready),
+            ["healthz"] => (Method::GET, Route::Health),
+            ["readyz"] => (Method::GET, Route::Ready),
+            ["startupz"] => (Method::GET, Route::Startup),
             ["status"] => (Method::GET, Route::Status),
             ["dead"] => (Method::GET, Route::Letters),
             ["late"] => (Method::GET, Route::Late),
@@ -211,7 +213,7 @@ impl Desk {
     /// Why a request is refused as one of a web page.
     fn stranger(&self, route: &Route, request: &Request<Body>) -> Option<String> {
         match route {
-            Route::Health | Route::Ready => None,
+            Route::Health | Route::Ready | Route::Startup => None,
             // Where other machines come, a scrape may be by any name.
             Route::Metrics if !self.is_local => None,
             // Our pages may ask for what shows one and changes nothing.
@@ -248,6 +250,10 @@ impl Desk {
             Route::Ready => match self.unavailable() {
                 None => reply(200, TEXT, "ready\n"),
                 Some(why) => message(503, why.text()),
+            },
+            Route::Startup => match self.starting() {
+                None => reply(200, TEXT, "started\n"),
+                Some(how_far) => message(503, &how_far),
             },
             Route::Status => match serde_json::to_vec(&self.status_of_all().await) {
                 Ok(status) => reply(200, JSON, status),
@@ -316,8 +322,9 @@ mod tests {
             ("/report", Method::GET, local),
             ("/metrics", Method::GET, read),
             ("/totals", Method::GET, read),
-            ("/health", Method::GET, read),
-            ("/ready", Method::GET, read),
+            ("/healthz", Method::GET, read),
+            ("/readyz", Method::GET, read),
+            ("/startupz", Method::GET, read),
             ("/status", Method::GET, read),
             ("/dead", Method::GET, order),
             ("/late", Method::GET, order),
@@ -368,6 +375,8 @@ mod tests {
             "//",
             "/v1/metrics",
             "/flush/",
+            "/health",
+            "/ready",
             "/renew",
             "/quarantine",
             "/close",

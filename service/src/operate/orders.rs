@@ -2,8 +2,9 @@
 
 use super::reach::{Answer, Command};
 use super::{reply, Desk, Unit, TEXT};
+use crate::command::values::{bytes_shown, counted};
 use crate::otlp::Reason;
-use crate::slot::is_sender;
+use crate::slot::{is_sender, Phase};
 use crate::work::blocking;
 use hyper::{Body, Response};
 use serde_json::json;
@@ -36,6 +37,19 @@ impl Desk {
             true => Some(Reason::NoOwner),
             false => self.units.unavailable(),
         }
+    }
+
+    /// Whether posts of any slot are taken.
+    pub fn is_available(&self) -> bool {
+        self.unavailable().is_none()
+    }
+
+    /// Why a start is not done: how far it is. None once each book here has all of its journal, whatever comes later.
+    pub(super) fn starting(&self) -> Option<String> {
+        let units = self.units.all();
+        let begun = units.iter().map(|unit| &unit.slot).find(|slot| slot.phase() == Phase::Recovering)?;
+        let (posts, bytes) = (counted(begun.ungrouped(), "post"), bytes_shown(begun.journal.size().0));
+        Some(format!("recovering: {posts} of the journal so far, which has {bytes}"))
     }
 
     /// Has each slot do what is asked, wherever it is.

@@ -137,6 +137,9 @@ impl Parts {
             begun: Instant::now(),
         };
         let desk = Arc::new(desk);
+        let of_health = Arc::downgrade(&desk);
+        intake.set_available(move || of_health.upgrade().is_some_and(|desk| desk.is_available()));
+        let live = Lively { reporter: reporter.clone(), shares: self.shared.shares.clone() };
         let joined = joining.zip(settings.store.as_ref()).map(|(joining, of)| {
             let of_instance = Units {
                 settings: settings.clone(),

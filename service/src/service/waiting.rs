@@ -115,7 +115,7 @@ impl Elsewhere for NoStore {
 impl Handler for NoStore {
     async fn answer(self: Arc<Self>, request: Request<Body>) -> Response<Body> {
         match request.uri().path() {
-            "/health" => reply(200, "text/plain; charset=utf-8", "ok\n"),
+            "/healthz" => reply(200, "text/plain; charset=utf-8", "ok\n"),
             _ => message(503, Reason::StoreSilent.text()),
         }
     }

@@ -87,7 +87,7 @@ fn programs_ask_as_before() {
         assert_eq!(curl(&service, "GET", path, &prometheus).0, 200, "{path}");
     }
     // A probe by another name.
-    for path in ["/health", "/ready"] {
+    for path in ["/healthz", "/readyz", "/startupz"] {
         assert_eq!(curl(&service, "GET", path, &["Host: totxegun:4319"]).0, 200, "{path}");
     }
     let said = service.said(&["flush"]);

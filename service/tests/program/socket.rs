@@ -52,7 +52,7 @@ fn orders_are_taken_at_the_socket_alone() {
         assert!(is_refused, "{path}: {answer}");
     }
     assert_eq!(place.totals_if_any().len(), 0, "nothing was flushed");
-    for path in ["/metrics", "/totals", "/health", "/ready", "/status"] {
+    for path in ["/metrics", "/totals", "/healthz", "/readyz", "/status"] {
         assert_eq!(service.asked_for(path).unwrap().0, 200, "{path}");
     }
     for (words, said) in [

@@ -153,7 +153,7 @@ impl Service {
     }
 
     pub fn is_ready(&self) -> bool {
-        matches!(self.asked_for("/ready"), Some((200, _)))
+        matches!(self.asked_for("/readyz"), Some((200, _)))
     }
 
     pub fn asked_for(&self, path: &str) -> Option<(u16, String)> {

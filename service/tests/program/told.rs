@@ -105,7 +105,7 @@ fn letters_that_take_long_hold_up_nothing_else() {
         std::thread::sleep(Duration::from_millis(300));
         let (answered, answer) = std::sync::mpsc::channel();
         let asked = &service;
-        scope.spawn(move || answered.send(asked.asked_for("/health")));
+        scope.spawn(move || answered.send(asked.asked_for("/healthz")));
         let health = answer.recv_timeout(Duration::from_secs(3));
         let mut write = std::fs::OpenOptions::new();
         write.write(true).custom_flags(nix::libc::O_NONBLOCK); // it fails where nobody reads
@@ -187,7 +187,7 @@ fn a_disk_without_room_is_told() {
     let filling = service.root().join(disk.strip_prefix("/").unwrap()).join("filling");
     std::fs::write(&filling, vec![0; 20 << 20]).unwrap();
     until("posts are refused", || service.post("A", &points(&["a"], 110, 5)).unwrap().0 == 503);
-    let (status, text) = service.asked_for("/ready").unwrap();
+    let (status, text) = service.asked_for("/readyz").unwrap();
     assert!(status == 503 && text.contains("no room for the journal"), "{text}");
     assert!(service.metrics().contains("totxegun_ready 0"));
     let socket = format!("unix:{}", service.reached().display());

@@ -32,7 +32,7 @@ fn a_start_without_memory_for_its_journal_delivers_and_shows_and_takes_no_posts(
     assert!(place.log().contains("give a greater --book-memory"), "{}", place.log());
     let (status, text) = second.post("A", &points(&["m1"], 200, 5)).unwrap();
     assert!(status == 503 && text.contains("the book does not take what the journal has"), "{status} {text}");
-    let (status, text) = second.asked_for("/ready").unwrap();
+    let (status, text) = second.asked_for("/readyz").unwrap();
     assert!(status == 503 && text.contains("no memory"), "{status} {text}");
     let (status, text) = second.order("/flush");
     assert!(status == 503 && text.contains("no memory"), "{status} {text}");
@@ -46,6 +46,17 @@ fn a_start_without_memory_for_its_journal_delivers_and_shows_and_takes_no_posts(
 
     // All of it is there for one with as much memory as before.
     let third = start(&["--sink", &sink], "160MiB");
+    let mut seen = Vec::new();
+    until("it has started", || {
+        let (status, text) = third.asked_for("/startupz").unwrap_or_default();
+        if status == 503 {
+            seen.push(text);
+        }
+        status == 200
+    });
+    let says_how_far =
+        |text: &String| text.contains("recovering: ") && text.contains(" of the journal so far, which has ");
+    assert!(!seen.is_empty() && seen.iter().all(says_how_far), "{seen:?}");
     until("it is ready", || third.is_ready());
     third.drain();
     third.has_no_fault();

@@ -29,7 +29,7 @@ async fn served(connections: usize, length: usize) -> Served {
     Served { address, stop, serving }
 }
 
-const REQUEST: &[u8] = b"GET /health HTTP/1.1\r\nHost: a\r\nConnection: close\r\n\r\n";
+const REQUEST: &[u8] = b"GET /healthz HTTP/1.1\r\nHost: a\r\nConnection: close\r\n\r\n";
 
 impl Served {
     async fn connected(&self) -> TcpStream {
@@ -51,7 +51,7 @@ async fn idle_connections_are_closed_where_another_waits() {
     let served = served(3, 1).await;
     let new = served.connected().await;
     let mut used = served.connected().await;
-    used.write_all(b"GET /health HTTP/1.1\r\nHost: a\r\n\r\n").await.unwrap();
+    used.write_all(b"GET /healthz HTTP/1.1\r\nHost: a\r\n\r\n").await.unwrap();
     assert!(used.read(&mut [0; 1024]).await.unwrap() > 0);
     let third = served.connected().await;
     assert!(served.ask().await > 0);

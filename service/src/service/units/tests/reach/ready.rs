@@ -6,7 +6,7 @@ use super::*;
 #[tokio::test]
 async fn an_instance_is_ready_while_it_takes_posts_of_any_slot() {
     let both = Both::new().await;
-    let ready = || both.a.ask("GET", "/ready");
+    let ready = || both.a.ask("GET", "/readyz");
     assert_eq!(ready().await, (200, "ready\n".into()));
     for slot in [0, 2] {
         both.a.desk.units.get(slot).unwrap().slot.stop();
@@ -16,6 +16,7 @@ async fn an_instance_is_ready_while_it_takes_posts_of_any_slot() {
     of_a.knows(&[(0, here.clone()), (1, Whose::Nobody), (2, here.clone())]);
     let (status, why) = ready().await;
     assert!(status == 503 && why.contains("stopping"), "{status} {why}");
+    assert_eq!(both.a.ask("GET", "/startupz").await, (200, "started\n".into()), "an end is no start");
     both.b.units.hand_over(1).await.unwrap();
     both.a.open(1).await;
     of_a.knows(&[(0, here.clone()), (1, here.clone()), (2, here)]);
@@ -24,15 +25,15 @@ async fn an_instance_is_ready_while_it_takes_posts_of_any_slot() {
     let (status, why) = ready().await;
     assert!(status == 503 && why.contains("stopping"), "{status} {why}");
     let (new, of_new) = instance("c", &folder(), &both.net);
-    let (status, why) = new.ask("GET", "/ready").await;
+    let (status, why) = new.ask("GET", "/readyz").await;
     assert!(
         status == 503 && why.contains(Reason::StoreSilent.text()),
         "before its first beat: {status} {why}"
     );
     of_new.knows(&[(0, Whose::Nobody), (1, Whose::Nobody)]);
-    let (status, why) = new.ask("GET", "/ready").await;
+    let (status, why) = new.ask("GET", "/readyz").await;
     assert!(status == 503 && why.contains(Reason::NoOwner.text()), "before its first slot: {status} {why}");
     new.open(0).await;
     of_new.knows(&[(0, Whose::Here { term: 1 }), (1, Whose::Nobody)]);
-    assert_eq!(new.ask("GET", "/ready").await.0, 200);
+    assert_eq!(new.ask("GET", "/readyz").await.0, 200);
 }

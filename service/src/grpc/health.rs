@@ -1,0 +1,53 @@
+//! `grpc.health.v1`: whether posts are taken, as orchestrators and balancers ask. No name is needed: it says what `/readyz` does.
+
+use super::{is_grpc, message, reply, timeout};
+use crate::intake::{Intake, Taker};
+use hyper::http::request::Parts;
+use hyper::{Body, Response};
+use prost::Message;
+
+const CHECK: &str = "/grpc.health.v1.Health/Check";
+/// What is asked about: the whole, or its one service.
+const SERVICES: [&str; 2] = ["", "opentelemetry.proto.collector.metrics.v1.MetricsService"];
+
+#[derive(Clone, PartialEq, Message)]
+pub(super) struct HealthCheckRequest {
+    #[prost(string, tag = "1")]
+    pub service: String,
+}
+
+#[derive(Clone, PartialEq, Message)]
+pub(super) struct HealthCheckResponse {
+    #[prost(int32, tag = "1")]
+    pub status: i32,
+}
+
+pub(super) const SERVING: i32 = 1;
+pub(super) const NOT_SERVING: i32 = 2;
+/// Codes of gRPC.
+const INVALID_ARGUMENT: i32 = 3;
+const NOT_FOUND: i32 = 5;
+
+/// `Watch` is not had: a client that gets UNIMPLEMENTED asks by `Check`.
+pub fn is_asked(parts: &Parts) -> bool {
+    parts.uri.path() == CHECK && is_grpc(&parts.headers)
+}
+
+pub async fn answer<T: Taker>(intake: &Intake<T>, parts: &Parts, body: &mut Body) -> Response<Body> {
+    let mut hold = intake.budget.hold();
+    let received = tokio::time::timeout(timeout::of(&parts.headers), message::receive(body, &mut hold)).await;
+    let asked = match received {
+        Ok(Ok(message)) if !message.is_packed => HealthCheckRequest::decode(message.bytes).ok(),
+        _ => None,
+    };
+    match asked {
+        None => reply::failed(INVALID_ARGUMENT, "send one HealthCheckRequest, not packed"),
+        Some(asked) if !SERVICES.contains(&asked.service.as_str()) => {
+            reply::failed(NOT_FOUND, "ask for the empty name, or for the service of metrics")
+        }
+        Some(_) => {
+            let status = if intake.is_available() { SERVING } else { NOT_SERVING };
+            reply::message(&HealthCheckResponse { status }.encode_to_vec()).await
+        }
+    }
+}

@@ -1,0 +1,132 @@
+#!/usr/bin/env python3
+"""The files for Kubernetes in operate/kubernetes, as far as they can be tried without a cluster.
+
+    tests/kubernetes.py TOTXEGUN
+
+They are parsed, and what they name is there: labels, volumes, ports, the Secret's files. Their settings start a service, with its
+folders in another place, and each port of the pod is one at which it listens. The service is asked for each probe, which answers
+200. Without PyYAML or openssl all is left out, with status 77.
+
+Each line is one check; the last line counts those that passed and failed, and the status is 0 where none failed.
+"""
+import os
+import re
+import subprocess
+import sys
+import tempfile
+from typing import Any
+
+from testing import ROOT
+from testing.checks import Checks
+from testing.loopback import free_port
+from testing.service import ask, wait_until
+from testing.shipped import missing
+from tooling.files import text_of, write
+
+FILE = f"{ROOT}/operate/kubernetes/totxegun.yaml"
+PROBES = ("startupProbe", "readinessProbe", "livenessProbe")
+
+
+def documents() -> dict[str, Any]:
+    """Each by its kind, of which there is one."""
+    import yaml
+    found = [it for it in yaml.safe_load_all(text_of(FILE)) if it]
+    kinds = {it["kind"]: it for it in found}
+    if len(kinds) != len(found):
+        raise OSError("a kind is there twice")
+    return kinds
+
+
+def look_at_names(checks: Checks, kinds: dict[str, Any]) -> None:
+    wanted = {"ConfigMap", "StatefulSet", "Service", "PodDisruptionBudget", "NetworkPolicy"}
+    checks.same("each is there once", wanted, set(kinds))
+    of_set = kinds["StatefulSet"]["spec"]
+    labels = of_set["template"]["metadata"]["labels"]
+    selectors = [of_set["selector"]["matchLabels"], kinds["Service"]["spec"]["selector"],
+                 kinds["PodDisruptionBudget"]["spec"]["selector"]["matchLabels"],
+                 kinds["NetworkPolicy"]["spec"]["podSelector"]["matchLabels"]]
+    checks.same("all are about the same pod", [labels] * 4, selectors)
+    checks.same("the set is under its service", kinds["Service"]["metadata"]["name"], of_set["serviceName"])
+    pod = of_set["template"]["spec"]
+    (container,) = pod["containers"]
+    ports = {it["name"] for it in container["ports"]}
+    named = {it["targetPort"] for it in kinds["Service"]["spec"]["ports"]}
+    named |= {it["port"] for rule in kinds["NetworkPolicy"]["spec"]["ingress"] for it in rule["ports"]}
+    named |= {container[probe]["httpGet"]["port"] for probe in PROBES}
+    checks.same("each port that is named is the pod's", ports, named)
+    volumes = {it["name"] for it in pod["volumes"]} | {it["metadata"]["name"] for it in of_set["volumeClaimTemplates"]}
+    checks.same("each mount has its volume", volumes, {it["name"] for it in container["volumeMounts"]})
+    checks.same("the image is of this version", f"totxegun:{text_of(f'{ROOT}/VERSION').strip()}", container["image"])
+    of_map = next(it for it in pod["volumes"] if "configMap" in it)["configMap"]["name"]
+    checks.same("the settings are mounted", kinds["ConfigMap"]["metadata"]["name"], of_map)
+
+
+def secrets() -> list[str]:
+    """The files of the Secret, as the head of the file has it made."""
+    return re.findall(r"--from-file=(\S+)", text_of(FILE))
+
+
+def with_own_places(kinds: dict[str, Any], folder: str) -> tuple[str, dict[str, int]]:
+    """The settings with folders in another place and free ports, and these by those of the file."""
+    text = kinds["ConfigMap"]["data"]["totxegun.toml"]
+    ports = {port: free_port() for port in re.findall(r'"0\.0\.0\.0:(\d+)"', text)}
+    for port, free in ports.items():
+        text = text.replace(f'"0.0.0.0:{port}"', f'"127.0.0.1:{free}"')
+    return text.replace("/etc/totxegun/secret", folder).replace("/var/lib/totxegun", f"{folder}/data"), ports
+
+
+def look_at_settings(checks: Checks, program: str, kinds: dict[str, Any], folder: str) -> None:
+    names = secrets()
+    text = kinds["ConfigMap"]["data"]["totxegun.toml"]
+    of_secret = re.findall(r'"/etc/totxegun/secret/(\S+)"', text)
+    checks.same("the Secret has the files that the settings name", sorted(names), sorted(of_secret))
+    (container,) = kinds["StatefulSet"]["spec"]["template"]["spec"]["containers"]
+    mounts = {it["mountPath"]: it["name"] for it in container["volumeMounts"]}
+    checks.same("they are where it is mounted", "secret", mounts["/etc/totxegun/secret"])
+    checks.same("the folder is the volume's", ("data", True), (mounts["/var/lib/totxegun"], 'data = "/var/lib/totxegun"' in text))
+    make = ["openssl", "req", "-x509", "-newkey", "ec", "-pkeyopt", "ec_paramgen_curve:prime256v1", "-nodes", "-subj", "/CN=h"]
+    subprocess.run([*make, "-keyout", f"{folder}/tls.key", "-out", f"{folder}/tls.crt"], check=True, capture_output=True)
+    write(f"{folder}/tokens", subprocess.run([program, "token", "shop"], check=True, capture_output=True, text=True).stdout)
+    settings, ports = with_own_places(kinds, folder)
+    write(f"{folder}/totxegun.toml", settings)
+    own = {str(it["containerPort"]) for it in container["ports"]}
+    checks.same("the pod's ports are those of the settings", own, set(ports))
+    environment = {it["name"]: it["value"] for it in container["env"]}
+    options = subprocess.run([program, "serve", "--help"], capture_output=True, text=True, check=True).stdout
+    checks.same("each variable is an option's", [], [name for name in environment if f"[env: {name}" not in options])
+    words = [program, *container["args"][:-1], f"{folder}/totxegun.toml"]
+    checks.same("it is started by its settings", ["serve", "--config"], container["args"][:-1])
+    with open(f"{folder}/log", "wb") as log:
+        # The port of --listen is the environment's, as in the image.
+        listen = f"127.0.0.1:{ports['4318']}"
+        service = subprocess.Popen(words, env={**os.environ, **environment, "TOTXEGUN_LISTEN": listen}, stdout=log, stderr=log)
+    try:
+        port = {it["name"]: ports[str(it["containerPort"])] for it in container["ports"]}
+        for probe in PROBES:
+            asked = container[probe]["httpGet"]
+            is_answered = wait_until(lambda: ask(port[asked["port"]], "GET", asked["path"], seconds=2)[0] == 200, 30)
+            checks.true(f"{probe} is answered 200", is_answered, text_of(f"{folder}/log")[-1500:])
+    finally:
+        service.terminate()
+        checks.same("it ends in time", 0, service.wait(kinds["StatefulSet"]["spec"]["template"]["spec"]["terminationGracePeriodSeconds"]))
+
+
+def main(program: str) -> int:
+    checks = Checks()
+    needs = missing(["openssl"])
+    try:
+        import yaml  # noqa: F401
+    except ImportError:
+        needs = [*needs, "python3-yaml"]
+    if checks.has("the files for Kubernetes", *needs):
+        kinds = documents()
+        look_at_names(checks, kinds)
+        with tempfile.TemporaryDirectory(prefix="kubernetes-") as folder:
+            look_at_settings(checks, program, kinds, folder)
+    return checks.end()
+
+
+if __name__ == "__main__":
+    if len(sys.argv) != 2:
+        sys.exit(f"usage: {sys.argv[0]} TOTXEGUN")
+    sys.exit(main(os.path.abspath(sys.argv[1])))
