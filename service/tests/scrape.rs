@@ -185,3 +185,16 @@ fn a_head_is_that_of_its_page() {
     }
     assert_eq!(asked(&service.operate, "HEAD", "/flush", "").unwrap().0, 405);
 }
+
+/// What waited while the sink was down comes at once; its time says when it was counted.
+#[test]
+fn a_sample_has_the_time_of_its_series_where_that_is_asked_for() {
+    let folder = tempfile::tempdir().unwrap();
+    let service = serve(&folder.path().join("data"), &["--totals-timestamps"]);
+    service.post(1_700_000_000_123_456_789, 5);
+    service.order("flush");
+    until_it_is_delivered(&service);
+    let (_, page) = asked(&service.operate, "GET", "/totals", "").unwrap();
+    let line = page.lines().find(|line| line.starts_with("orders_total{")).unwrap();
+    assert!(line.ends_with("} 5 1700000000123"), "{line}");
+}

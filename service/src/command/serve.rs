@@ -15,6 +15,7 @@ use crate::files::Durability;
 use crate::identity;
 use crate::log;
 use crate::metrics::Metrics;
+use crate::operate::Times;
 use crate::otlp::Reason;
 use crate::post_reports::ReportOptions;
 use crate::runs;
@@ -80,6 +81,9 @@ pub struct Options {
     /// Names of operators and digests of their tokens, as `totxegun token NAME` makes them: their orders are taken over TCP too
     #[arg(long, env = "TOTXEGUN_OPERATE_TOKENS", value_name = "FILE")]
     operate_tokens: Option<PathBuf>,
+    /// Gives each sample of /totals the time at which the last interval of its series ended, in the place of the scrape's
+    #[arg(long, env = "TOTXEGUN_TOTALS_TIMESTAMPS")]
+    totals_timestamps: bool,
     /// Where to deliver: sqlite:PATH, postgres://USER@HOST:PORT/DB, http://HOST:PORT/PATH or https://HOST/PATH [default: sqlite:DIR/metrics.db]
     #[arg(long, env = "TOTXEGUN_SINK", value_name = "ADDRESS", hide_env_values = true)]
     sink: Option<Address>,
@@ -312,6 +316,10 @@ impl Options {
             most_connections,
             threads: usize::from(self.threads),
             most_series: self.of_book.most_series as usize,
+            totals_times: match self.totals_timestamps {
+                true => Times::OfIntervals,
+                false => Times::None,
+            },
             metrics,
         })
     }

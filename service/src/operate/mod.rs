@@ -35,7 +35,7 @@ pub use reach::Others;
 pub use status::{DatabaseStatus, Pulse, Status};
 pub use store_health::StoreHealth;
 pub use tcp::AtTcp;
-pub use totals::Totals;
+pub use totals::{Times, Totals};
 pub use units::{Undelivered, Unit, Units};
 pub(crate) use web::is_ours;
 

@@ -24,7 +24,7 @@ use crate::files::{Durability, Fault, Folder, FolderFault};
 use crate::identity::Door;
 use crate::keeper::{Settings as Keeping, Trouble};
 use crate::metrics::Metrics;
-use crate::operate::Units;
+use crate::operate::{Times, Units};
 use crate::otlp::{Clock, Reading};
 use crate::pass::Pass;
 use crate::post_reports::ReportOptions;
@@ -85,6 +85,8 @@ pub struct Settings {
     pub threads: usize,
     /// So many fit.
     pub most_series: usize,
+    /// What time the samples of `/totals` have.
+    pub totals_times: Times,
     pub metrics: Arc<Metrics>,
 }
 

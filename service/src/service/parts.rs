@@ -123,7 +123,7 @@ impl Parts {
             shares: self.shared.shares.clone(),
             acts: self.acts,
             sink: self.sink,
-            totals: Totals::of(&settings.sink),
+            totals: Totals::of(&settings.sink, settings.totals_times),
             pulse: Pulse::begin(metrics.clone()),
             metrics,
             budget: self.budget,

@@ -10,6 +10,7 @@ mod sent;
 pub(super) mod tests;
 
 pub(super) use labels::identity;
+pub use page::Times;
 
 use super::{message, reply, Desk, PROMETHEUS};
 use crate::sinks::postgres::{self, Server};
@@ -32,6 +33,7 @@ const PATIENCE: Duration = Duration::from_secs(10);
 /// The sink that is read.
 pub struct Totals {
     source: Source,
+    times: Times,
     /// One reads the sink at a time.
     turn: Arc<Semaphore>,
     /// One page is on its way at a time.
@@ -46,14 +48,14 @@ enum Source {
 
 impl Totals {
     /// None where the sink can't be read.
-    pub fn of(sink: &Address) -> Option<Totals> {
+    pub fn of(sink: &Address, times: Times) -> Option<Totals> {
         let source = match sink {
             Address::Sqlite(path) => Source::Sqlite(path.clone()),
             Address::Postgres(server) => Source::Postgres(server.clone()),
             Address::Otlp { .. } => return None,
         };
         let [turn, page] = [(); 2].map(|()| Arc::new(Semaphore::new(1)));
-        Some(Totals { source, turn, page })
+        Some(Totals { source, times, turn, page })
     }
 
     /// What came of a series in each hour from this one on (since 1970); none where the sink has no hours yet.
@@ -98,7 +100,7 @@ impl Totals {
             let seconds = PATIENCE.as_secs();
             return Err(format!("another reader has had a page of totals for {seconds} s: ask again"));
         };
-        Ok(sent::sent(self.read(Ok).await?, turn))
+        Ok(sent::sent(self.read(Ok).await?, self.times, turn))
     }
 }
 

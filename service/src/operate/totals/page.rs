@@ -29,8 +29,27 @@ fn all_names(name: &str, kind: Kind) -> Vec<String> {
     names
 }
 
+/// What time each sample has.
+#[derive(Clone, Copy, Debug, PartialEq, Eq)]
+pub enum Times {
+    /// That of the scrape.
+    None,
+    /// When the last interval of its series ended.
+    OfIntervals,
+}
+
+impl Times {
+    /// Behind a value, in milliseconds since 1970.
+    fn of(self, series: &SeriesTotal) -> String {
+        match self {
+            Times::None => String::new(),
+            Times::OfIntervals => format!(" {}", series.end_ns / 1_000_000),
+        }
+    }
+}
+
 /// Writes a sink's totals in Prometheus' text form, series by series: no more than a line of it is held.
-pub fn write(totals: &[SeriesTotal], to: &mut impl Write) -> io::Result<()> {
+pub fn write(totals: &[SeriesTotal], times: Times, to: &mut impl Write) -> io::Result<()> {
     let mut families = Families::new();
     for series in totals {
         let name = names::metric(&series.name, &series.unit, series.kind);
@@ -39,7 +58,7 @@ pub fn write(totals: &[SeriesTotal], to: &mut impl Write) -> io::Result<()> {
     let mut used = HashSet::from([TARGET.to_string()]);
     for ((kind, name), series) in &families {
         let name = free(name, *kind, &mut used);
-        family(to, &name, *kind, series)?;
+        family(to, &name, *kind, series, times)?;
     }
     targets(to, totals)
 }
@@ -54,15 +73,21 @@ fn free(name: &str, kind: Kind, used: &mut HashSet<String>) -> String {
     name
 }
 
-fn family(to: &mut impl Write, name: &str, kind: Kind, series: &[&SeriesTotal]) -> io::Result<()> {
+fn family(
+    to: &mut impl Write,
+    name: &str,
+    kind: Kind,
+    series: &[&SeriesTotal],
+    times: Times,
+) -> io::Result<()> {
     let sources: BTreeSet<(&str, &str)> =
         series.iter().map(|one| (one.name.as_str(), one.unit.as_str())).collect();
     head(to, name, kind, &sources)?;
     for one in series {
         let labels = labels::of_series(one);
         match &one.histogram {
-            Some(histogram) => buckets(to, name, &labels, one, histogram)?,
-            None => line(to, name, &labels::written(&labels, None), one.total)?,
+            Some(histogram) => buckets(to, name, &labels, (one, histogram), &times.of(one))?,
+            None => line(to, name, &labels::written(&labels, None), one.total, &times.of(one))?,
         }
     }
     Ok(())
@@ -86,22 +111,22 @@ fn buckets(
     to: &mut impl Write,
     name: &str,
     labels: &Labels,
-    series: &SeriesTotal,
-    histogram: &Histogram,
+    (series, histogram): (&SeriesTotal, &Histogram),
+    time: &str,
 ) -> io::Result<()> {
     let bucket = format!("{name}_bucket");
     let mut below = 0;
     for (bound, count) in histogram.bounds.iter().zip(&histogram.buckets) {
         below += count.0;
-        line(to, &bucket, &labels::written(labels, Some(&bound.to_string())), below)?;
+        line(to, &bucket, &labels::written(labels, Some(&bound.to_string())), below, time)?;
     }
-    line(to, &bucket, &labels::written(labels, Some("+Inf")), histogram.count)?;
+    line(to, &bucket, &labels::written(labels, Some("+Inf")), histogram.count, time)?;
     let labels = labels::written(labels, None);
     // The sum of a part of the points would give a mean that is none.
     if histogram.points_without_sum == 0 {
-        line(to, &format!("{name}_sum"), &labels, series.total)?;
+        line(to, &format!("{name}_sum"), &labels, series.total, time)?;
     }
-    line(to, &format!("{name}_count"), &labels, histogram.count)
+    line(to, &format!("{name}_count"), &labels, histogram.count, time)
 }
 
 fn targets(to: &mut impl Write, totals: &[SeriesTotal]) -> io::Result<()> {
@@ -114,9 +139,9 @@ fn targets(to: &mut impl Write, totals: &[SeriesTotal]) -> io::Result<()> {
         return Ok(());
     }
     writeln!(to, "# HELP {TARGET} Attributes of the resources\n# TYPE {TARGET} gauge")?;
-    targets.iter().try_for_each(|labels| line(to, TARGET, labels, 1))
+    targets.iter().try_for_each(|labels| line(to, TARGET, labels, 1, ""))
 }
 
-fn line(to: &mut impl Write, name: &str, labels: &str, value: impl Display) -> io::Result<()> {
-    writeln!(to, "{name}{labels} {value}")
+fn line(to: &mut impl Write, name: &str, labels: &str, value: impl Display, time: &str) -> io::Result<()> {
+    writeln!(to, "{name}{labels} {value}{time}")
 }

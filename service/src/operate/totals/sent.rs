@@ -1,7 +1,7 @@
 //! A page on its way to its reader. What it is made of is held until the reader has it: so there is one at a time, it has so
 //! long, and no more of its text is there than a few parts.
 
-use super::page;
+use super::page::{self, Times};
 use crate::sinks::sql::totals::SeriesTotal;
 use bytes::Bytes;
 use hyper::body::Sender;
@@ -20,14 +20,14 @@ const READ: Duration = match cfg!(test) {
 const PART: usize = 64 << 10;
 
 /// A page of these series, which is made while it is read. The turn ends with it.
-pub fn sent(series: Vec<SeriesTotal>, turn: OwnedSemaphorePermit) -> Body {
+pub fn sent(series: Vec<SeriesTotal>, times: Times, turn: OwnedSemaphorePermit) -> Body {
     let (parts, made) = mpsc::channel(1);
     let (sender, body) = Body::channel();
     tokio::spawn(send(made, sender));
     tokio::task::spawn_blocking(move || {
         let mut to = BufWriter::with_capacity(PART, Parts(parts));
         // What fails is that nobody reads any further.
-        let _ = page::write(&series, &mut to).and_then(|()| to.flush());
+        let _ = page::write(&series, times, &mut to).and_then(|()| to.flush());
         drop((series, turn));
     });
     body
@@ -76,7 +76,7 @@ mod tests {
             series("a", "", Kind::Monotonic, 1, json!({ "n": number, "text": "x".repeat(PART) }))
         };
         let turn = turns.clone().acquire_owned().await.unwrap();
-        (sent((0..20).map(made).collect(), turn), turns)
+        (sent((0..20).map(made).collect(), Times::None, turn), turns)
     }
 
     #[tokio::test]

@@ -2,7 +2,7 @@
 
 use super::labels::identity;
 use super::names::{label, metric};
-use super::page::write;
+use super::page::{write, Times};
 use crate::sinks::sql::exact::Exact;
 use crate::sinks::sql::totals::{Histogram, Kind, SeriesTotal};
 use serde_json::{json, Map, Value};
@@ -42,7 +42,7 @@ fn histogram(name: &str, bounds: &[i64], buckets: &[i128], points_without_sum: u
 
 fn page(totals: &[SeriesTotal]) -> String {
     let mut page = Vec::new();
-    write(totals, &mut page).unwrap();
+    write(totals, Times::None, &mut page).unwrap();
     String::from_utf8(page).unwrap()
 }
 
@@ -280,4 +280,26 @@ fn promtool_finds_nothing() {
     let output = promtool.wait_with_output().unwrap();
     let said = String::from_utf8_lossy(&output.stdout) + String::from_utf8_lossy(&output.stderr);
     assert!(output.status.success() && said.is_empty(), "{said}\n{page}");
+}
+
+/// Of a histogram all lines have the time. What is no series' has none.
+#[test]
+fn a_sample_has_the_time_of_its_series_last_interval() {
+    let mut one = series("a", "", Kind::Monotonic, 7, json!({}));
+    one.end_ns = 1_700_000_000_123_456_789;
+    one.resource = object(json!({ "service.name": "shop", "host": "h" }));
+    let mut other = histogram("wait", &[5], &[1, 2], 0);
+    other.end_ns = 1_700_000_010_000_000_000;
+    let mut page = Vec::new();
+    write(&[one, other], Times::OfIntervals, &mut page).unwrap();
+    let page = String::from_utf8(page).unwrap();
+    let ends = |name: &str| -> Vec<&str> {
+        let lines = page.lines().filter(|line| line.starts_with(name));
+        lines.map(|line| line.rsplit("} ").next().unwrap()).collect()
+    };
+    assert_eq!(ends("a_total{"), ["7 1700000000123"]);
+    assert_eq!(ends("wait_seconds_bucket{"), ["1 1700000010000", "3 1700000010000"]);
+    assert_eq!(ends("wait_seconds_sum"), ["77 1700000010000"]);
+    assert_eq!(ends("wait_seconds_count"), ["3 1700000010000"]);
+    assert_eq!(ends("target_info{"), ["1"]);
 }

@@ -80,6 +80,7 @@ fn settings(place: &Path) -> Settings {
         most_connections: 8,
         threads: 1,
         most_series: 1000,
+        totals_times: operate::Times::None,
         metrics: Arc::new(Metrics::new().unwrap()),
     }
 }
