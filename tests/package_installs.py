@@ -45,6 +45,7 @@ PLACES = {
     "etc/totxegun/totxegun.toml": 0o644,
     "usr/share/doc/totxegun/README.md": 0o644,
     "usr/share/doc/totxegun/OPERATING.md": 0o644,
+    "usr/share/doc/totxegun/COLLECTOR.md": 0o644,
     "usr/share/doc/totxegun/QUERIES.md": 0o644,
     "usr/share/doc/totxegun/SEVERAL_MACHINES.md": 0o644,
     "usr/share/doc/totxegun/FORMATS.md": 0o644,

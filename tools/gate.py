@@ -69,6 +69,8 @@ SERVICE_STEPS: tuple[tuple[str, list[str], int], ...] = (
     ("two_networks.py", ["4"], 40),
     ("web_pages.py", [], 40),
     ("grpc_calls.py", [], 30),
+    ("kubernetes.py", [], 10),
+    ("collector.py", [], 10),
     ("clients.py", [], 30),
     ("unit_tasks.py", [], 5),
     ("package_installs.py", [], 15),
