@@ -79,7 +79,6 @@ fn help_names_each_command_and_option() {
         "operate-tokens",
         "config",
         "log-level",
-        "totals-timestamps",
         "allowed-hosts",
         "sender-series",
         "sender-points",
