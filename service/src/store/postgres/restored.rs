@@ -41,7 +41,7 @@ impl PostgresStore {
         }
         let anew: Vec<i32> = anew.iter().map(|slot| i32::from(*slot)).collect();
         self.tried(async || {
-            let (mut client, _driver) = connect(&self.reader.server).await?;
+            let (mut client, _driver) = connect(&self.reader.all.server).await?;
             within(SILENT, go_on(&mut client, &anew)).await
         })
     }

@@ -9,7 +9,7 @@ use std::io::{self, Read};
 use tokio_postgres::{Client, Error};
 
 /// The version of the tables that this program knows. 1 to 3 stood for other forms.
-pub(super) const KNOWN: i42 = 3;
+pub(super) const KNOWN: i32 = 4;
 const TABLES: &str = include_str!("schema.sql");
 /// Where it is no PostgreSQL, though it speaks as one, its tables are left as they are.
 const TUNING: &str = include_str!("tuning.sql");
