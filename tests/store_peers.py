@@ -357,7 +357,7 @@ def try_clock(checks: Checks, program: str, folder: str, store: Store, sink: Otl
     checks.true("two have their slots", settled(store, "a", "b"), [one.last_lines(), other.last_lines()])
     clock.set(23 * SECOND // 2)
     checks.true("one whose clock is wrong hands all over", settled(store, "a"), [store.owners(), other.last_lines()])
-    ready = other.asked("GET", "/ready")
+    ready = other.asked("GET", "/readyz")
     checks.true("it is not ready, and says why", ready[0] == 503 and b"the clock of this instance is wrong" in ready[1], ready)
     wrong = "this instance's clock is 11 s ahead of those of the others and the store"
     checks.true("the log says by how much", wrong in other.last_lines(50), other.last_lines())
@@ -407,7 +407,7 @@ def try_copies(checks: Checks, program: str, folder: str, _: Store, sink: OtlpSi
         pair.primary.ask("alter system set synchronous_standby_names = ''")
         pair.primary.ask("select pg_reload_conf()")
         begun = time.monotonic()
-        checks.true("that no standby is named is seen", wait_until(lambda: one.asked("GET", "/ready")[0] == 503, 10), one.last_lines())
+        checks.true("that no standby is named is seen", wait_until(lambda: one.asked("GET", "/readyz")[0] == 503, 10), one.last_lines())
         took = time.monotonic() - begun
         checks.true("within a second", took < 1, took)
         status, text = post(one.listen, request("r1", 1))
