@@ -5,10 +5,12 @@
 
 The programs have each kind of instrument, and nothing is set but where they post: so their points are cumulative. At the end
 their own counts, the database's and Prometheus' are the same, by series and bucket; their gauges are at the other receiver; no
-alert of operate/ has fired; and the picture of the run is drawn. What is missing is said, and left out with status 77.
+alert of operate/ has fired; each query of operate/dashboard.json that is not of several machines has rows; and the picture of the
+run is drawn. What is missing is said, and left out with status 77.
 
 Each line is one check; the last line counts those that passed and failed, and the status is 0 where none failed.
 """
+import json
 import os
 import shutil
 import subprocess
@@ -16,6 +18,7 @@ import sys
 import tempfile
 import xml.dom.minidom
 
+from testing import ROOT
 from testing.checks import Checks
 from testing.database import initdb
 from testing.service import ask
@@ -58,11 +61,21 @@ def look(checks: Checks, play: Play, folder: str) -> None:
         told = subprocess.run(["promtool", "check", "metrics"], input=page, capture_output=True, check=False)
         lines = [line for line in (told.stdout + told.stderr).splitlines() if path == "/metrics" or not line.endswith(BASE_UNIT)]
         checks.same(f"promtool says nothing of {path}, but to count in base units what senders do not", (200, []), (status, lines))
+    look_at_dashboard(checks, play)
     checks.same("the service found nothing that must not be", [], play.service.faults())
     play.write_samples(f"{folder}/samples.json")
     draw(f"{folder}/samples.json", f"{folder}/picture.svg")
     drawn = xml.dom.minidom.parse(f"{folder}/picture.svg").getElementsByTagName("path")
     checks.true("the picture is drawn", len(drawn) >= 5, len(drawn))
+
+
+def look_at_dashboard(checks: Checks, play: Play) -> None:
+    with open(f"{ROOT}/operate/dashboard.json", encoding="utf-8") as file:
+        panels = [panel for panel in json.load(file)["panels"] if not panel["title"].startswith("Several machines")]
+    queries = [target["expr"] for panel in panels for target in panel["targets"]]
+    made = {query: query.replace("$__rate_interval", "30s").replace("$job", "totxegun").replace("$instance", ".*") for query in queries}
+    empty = [query for query, asked in made.items() if not play.prometheus.found(asked)]
+    checks.same(f"each of {len(queries)} queries of the dashboard has rows", [], empty)
 
 
 def look_at_others(checks: Checks, play: Play) -> None:
