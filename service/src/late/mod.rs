@@ -116,14 +116,10 @@ impl Writer {
         self.state.bytes.store(self.segments.bytes(), Relaxed);
         for refusals in queued {
             let points = refusals.count();
-            let lines = refusals.lines();
-            let kept = match self.segments.append(&lines) {
-                Ok(()) => lines.len() as u64,
-                Err(error) => {
-                    self.warn(&error);
-                    0
-                }
-            };
+            let (kept, written) = self.segments.append(refusals.lines());
+            if let Err(error) = written {
+                self.warn(&error);
+            }
             for (outcome, points) in [("kept", kept), ("not_kept", points - kept)] {
                 self.metrics.late_points.with_label_values(&[outcome]).inc_by(points);
             }

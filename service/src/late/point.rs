@@ -78,21 +78,18 @@ impl Refusals {
     }
 
     /// A line for each, in their order.
-    pub(super) fn lines(&self) -> Vec<Vec<u8>> {
-        let at = seconds();
-        let (mut lines, mut last) = (Vec::with_capacity(self.why.len()), None);
-        for (point, why) in self.points.each().zip(&self.why) {
+    pub(super) fn lines(&self) -> impl Iterator<Item = Vec<u8>> + '_ {
+        let (at, mut last) = (seconds(), None);
+        self.points.each().zip(&self.why).filter_map(move |(point, why)| {
             // Points of a series mostly stand together.
             let series = match last.take() {
-                Some((number, series)) if number == point[0] => Some(series),
-                _ => only(&self.names.text(point[0])),
+                Some((number, series)) if number == point[0] => series,
+                _ => only(&self.names.text(point[0]))?,
             };
-            let Some(series) = series else { continue };
             let line = self.late(&series, point, *why, at).and_then(|late| late.line());
-            lines.extend(line);
             last = Some((point[0], series));
-        }
-        lines
+            line
+        })
     }
 
     fn late(

@@ -4,13 +4,15 @@
 use super::LatePoint;
 use std::collections::VecDeque;
 use std::fs::{File, OpenOptions};
-use std::io::{BufRead, BufReader, Error, ErrorKind, Read, Result, Seek, SeekFrom, Write};
+use std::io::{BufRead, BufReader, ErrorKind, Read, Result, Seek, SeekFrom, Write};
 use std::os::unix::fs::{DirBuilderExt, OpenOptionsExt};
 use std::path::{Path, PathBuf};
 
 /// So many segments have all that is kept: with the oldest so much of it goes.
 const SEGMENTS: u64 = 8;
 const SUFFIX: &str = ".jsonl";
+/// So many bytes of lines are made before they are written: each has all of its series' text.
+const MAX_WRITE: u64 = 1 << 20;
 
 /// A segment, by its number, and how long it is.
 type Segment = (u64, u64);
@@ -38,33 +40,47 @@ impl Segments {
         self.all.iter().map(|(_, bytes)| bytes).sum()
     }
 
-    /// Puts these lines behind the others, each with its end of line. After an error some of them may be there.
-    pub fn append(&mut self, lines: &[Vec<u8>]) -> Result<()> {
-        let mut left = lines;
-        while let Some(first) = left.first() {
-            let room = self.room(first.len() as u64)?;
-            let (mut part, mut count) = (Vec::new(), 0);
-            while let Some(line) =
-                left.get(count).filter(|line| count == 0 || (part.len() + line.len()) as u64 <= room)
-            {
-                part.extend_from_slice(line);
-                count += 1;
+    /// Puts these lines behind the others, each with its end of line: how many, and why it was not all. A line that no segment has room
+    /// for is passed over, and so is what follows once they are together as long as a segment: one post does not take the others' room.
+    pub fn append(&mut self, lines: impl Iterator<Item = Vec<u8>>) -> (u64, Result<()>) {
+        let of_one = self.max_bytes / SEGMENTS;
+        let (mut written, mut bytes) = (0, 0);
+        let (mut part, mut count) = (Vec::new(), 0);
+        let short = lines.filter(|line| line.len() as u64 <= of_one);
+        let fits = |line: &Vec<u8>| {
+            bytes += line.len() as u64;
+            bytes <= of_one
+        };
+        for line in short.take_while(fits) {
+            if !part.is_empty() && (part.len() + line.len()) as u64 > MAX_WRITE.min(of_one) {
+                if let Err(error) = self.put(&part) {
+                    return (written, Err(error));
+                }
+                (written, count) = (written + count, 0);
+                part.clear();
             }
-            self.write(&part)?;
-            left = &left[count..];
+            part.extend(line);
+            count += 1;
         }
-        Ok(())
+        match self.put(&part) {
+            Ok(()) => (written + count, Ok(())),
+            error => (written, error),
+        }
     }
 
-    /// How many bytes the last segment still takes; a new one is begun if that is less than these.
-    fn room(&mut self, bytes: u64) -> Result<u64> {
-        let of_one = self.max_bytes / SEGMENTS;
-        if bytes > of_one {
-            return Err(Error::other("a point is longer than an eighth of --max-late"));
+    fn put(&mut self, part: &[u8]) -> Result<()> {
+        if part.is_empty() {
+            return Ok(());
         }
-        let last = self.all.back().copied().filter(|(_, length)| length + bytes <= of_one);
-        if let Some((_, length)) = last {
-            return Ok(of_one - length);
+        self.make_room(part.len() as u64)?;
+        self.write(part)
+    }
+
+    /// Begins a new segment unless the last one takes so many bytes.
+    fn make_room(&mut self, bytes: u64) -> Result<()> {
+        let of_one = self.max_bytes / SEGMENTS;
+        if self.all.back().is_some_and(|(_, length)| length + bytes <= of_one) {
+            return Ok(());
         }
         self.file = None;
         let number = self.all.back().map_or(1, |(number, _)| number + 1);
@@ -79,7 +95,7 @@ impl Segments {
                 _ => drop(self.all.pop_front()),
             }
         }
-        Ok(of_one)
+        Ok(())
     }
 
     fn write(&mut self, part: &[u8]) -> Result<()> {

@@ -64,7 +64,7 @@ fn the_oldest_goes_first() {
         }
         let count = 1 + random.below(30);
         let lines: Vec<Vec<u8>> = (next..next + count).map(line).collect();
-        segments.append(&lines).unwrap();
+        assert_eq!(append(&mut segments, lines), count);
         next += count;
         let bytes: u64 =
             std::fs::read_dir(&folder).unwrap().map(|entry| entry.unwrap().metadata().unwrap().len()).sum();
@@ -85,11 +85,11 @@ fn the_oldest_goes_first() {
 fn a_line_that_was_cut_costs_no_other() {
     let place = tempfile::tempdir().unwrap();
     let folder = place.path().join("late");
-    Segments::new(folder.clone(), 1 << 20).append(&[line(1), line(2)]).unwrap();
+    append(&mut Segments::new(folder.clone(), 1 << 20), [line(1), line(2)]);
     let file = folder.join("0000000001.jsonl");
     let bytes = std::fs::read(&file).unwrap();
     std::fs::write(&file, &bytes[..bytes.len() - 9]).unwrap();
-    Segments::new(folder.clone(), 1 << 20).append(&[line(3)]).unwrap();
+    append(&mut Segments::new(folder.clone(), 1 << 20), [line(3)]);
     assert_eq!(read(&folder), [1, 3]);
 }
 
@@ -106,14 +106,46 @@ fn what_can_t_be_written_is_counted() {
         metrics: metrics.clone(),
         rate_limit: RateLimit::every(WARN_EVERY),
     };
-    assert!(writer.segments.append(&[line(1)]).is_err());
+    assert!(writer.segments.append([line(1)].into_iter()).1.is_err());
     std::fs::remove_file(&folder).unwrap();
-    writer.segments.append(&[line(2)]).unwrap();
+    append(&mut writer.segments, [line(2)]);
     assert_eq!(read(&folder), [2]);
     std::fs::remove_dir_all(&folder).unwrap();
     assert!(read(&folder).is_empty());
-    let long = Segments::new(folder, 1000).append(&[vec![b'x'; 200]]);
-    assert!(long.unwrap_err().to_string().contains("--max-late"));
+}
+
+fn append(segments: &mut Segments, lines: impl IntoIterator<Item = Vec<u8>>) -> u64 {
+    let (written, result) = segments.append(lines.into_iter());
+    result.unwrap();
+    written
+}
+
+/// One that no segment has room for costs no other.
+#[test]
+fn a_line_that_is_too_long_is_passed_over() {
+    let place = tempfile::tempdir().unwrap();
+    let folder = place.path().join("late");
+    let mut segments = Segments::new(folder.clone(), 8000);
+    assert_eq!(append(&mut segments, [line(1), vec![b'x'; 1001], line(2)]), 2);
+    assert_eq!(read(&folder), [1, 2]);
+}
+
+/// Lines are made as they are written: else a post of many points of a series with a long text would take gigabytes.
+#[test]
+fn of_one_post_no_more_is_made_than_a_segment_has_room_for() {
+    let place = tempfile::tempdir().unwrap();
+    let folder = place.path().join("late");
+    let mut segments = Segments::new(folder.clone(), 8000);
+    append(&mut segments, [line(1)]);
+    let mut made = 0;
+    let lines = (10..1_000_000).map(|number| {
+        made += 1;
+        line(number)
+    });
+    let written = append(&mut segments, lines);
+    assert_eq!(written, 1000 / line(10).len() as u64);
+    assert_eq!(made, written + 1);
+    assert_eq!(read(&folder)[0], 1, "what others have is there still");
 }
 
 /// A thread that stands still holds nobody up: what it has no room for is counted as not kept.

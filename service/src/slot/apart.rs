@@ -120,7 +120,7 @@ impl Slot {
         let put = match (taken, refused.first()) {
             (0, Some(first)) if duplicates == 0 => {
                 drop(book);
-                refused.keep(self, &sender, &names);
+                posted.late = Some(refused.take_kept(self, &sender, &names));
                 return Err(first);
             }
             (0, _) => {
@@ -142,7 +142,7 @@ impl Slot {
                 Put { duplicates, ..put? }
             }
         };
-        refused.keep(self, &sender, &names);
+        posted.late = Some(refused.take_kept(self, &sender, &names));
         let named = refused.named(&names, |point| posted.left_out.place_of(point));
         Ok(Put { journalled: put.journalled.without_refused(named), ..put })
     }

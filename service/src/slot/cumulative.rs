@@ -131,10 +131,7 @@ impl Slot {
                     }
                     self.count_put(&making.sender, &put);
                     let Making { refused, sender, by, .. } = &mut making;
-                    if put.journalled.is_for_good() {
-                        refused.keep(self, sender, &by.names);
-                    }
-                    return Ok(put.journalled);
+                    return Ok(put.journalled.with_late(Some(refused.take_kept(self, sender, &by.names))));
                 }
                 None => landed.await,
             }

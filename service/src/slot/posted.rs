@@ -3,6 +3,7 @@
 
 use super::numbers::{ByNumber, Numbers, Request, Source};
 use crate::core::{Core, Read, Refused};
+use crate::late::Refusals;
 use crate::otlp::{OffClock, Window};
 use bytes::Bytes;
 use std::mem::take;
@@ -17,6 +18,8 @@ pub struct Posted {
     pub left_out: LeftOut,
     /// What it was read from, where it may have to be read again.
     pub source: Option<Source>,
+    /// The points that its series refused at the last try.
+    pub late: Option<Refusals>,
 }
 
 /// Points that are off by their clock.
@@ -30,7 +33,7 @@ pub struct LeftOut {
 
 impl Posted {
     pub fn whole(read: Read) -> Posted {
-        Posted { read, left_out: LeftOut::default(), source: None }
+        Posted { read, left_out: LeftOut::default(), source: None, late: None }
     }
 }
 
@@ -129,7 +132,7 @@ impl RequestReader<'_> {
     fn read_points(&self, sender: String, mut by: ByNumber) -> Result<Posted, Refused> {
         let left_out = LeftOut::of(&mut by, &self.window);
         let read = self.core.read_points(sender, by.points, by.names, by.foreign)?;
-        Ok(Posted { read, left_out, source: None })
+        Ok(Posted { read, left_out, source: None, late: None })
     }
 }
 

@@ -77,14 +77,10 @@ impl RefusedPoints {
         same.count = count;
     }
 
-    /// Keeps them, once nothing more comes of their post: if it were repeated, one of them might be taken. The last room of a disk is
-    /// not for them.
-    pub fn keep(&mut self, slot: &Slot, sender: &str, names: &Arc<Names>) {
+    /// Takes what is to be kept of them.
+    pub fn take_kept(&mut self, slot: &Slot, sender: &str, names: &Arc<Names>) -> Refusals {
         let (points, why) = (take(&mut self.points), take(&mut self.why));
-        match slot.free_space.is_left() {
-            true => slot.late.keep(Refusals::new(sender, names, points, why, &slot.outbox)),
-            false => slot.late.count_lost(points.count() as u64),
-        }
+        Refusals::new(sender, names, points, why, &slot.outbox)
     }
 
     /// The first of all, as the book says it of a post that it refuses whole.
@@ -104,5 +100,19 @@ impl RefusedPoints {
             Some((of.count, rejection.and(&of.refusal.advice(&series, of.interval))))
         };
         self.by_reason.iter().filter_map(told).collect()
+    }
+}
+
+impl Slot {
+    /// Keeps refused points of a post that is answered so: not before it is, and only if nothing more comes of the post, since a repeat
+    /// of it may have one of them taken. The last room of a disk is not for them.
+    pub(super) fn keep_late(&self, refusals: Refusals, answer: &Outcome) {
+        if !matches!(answer.status(), 200 | 400 | 413) {
+            return;
+        }
+        match self.free_space.is_left() {
+            true => self.late.keep(refusals),
+            false => self.late.count_lost(refusals.count()),
+        }
     }
 }

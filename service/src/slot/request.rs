@@ -73,7 +73,13 @@ impl Slot {
             }
         };
         match said {
-            Ok(journalled) => journalled.durable(&self.journal).await,
+            Ok(journalled) => {
+                let (outcome, late) = journalled.durable(&self.journal).await;
+                if let Some(late) = late {
+                    self.keep_late(*late, &outcome);
+                }
+                outcome
+            }
             Err(why) => why.into(),
         }
     }
@@ -149,7 +155,7 @@ impl Slot {
                     // To look for duplicates costs more than to take points.
                     claim.keep(put.points + put.duplicates, all);
                     self.count_put(&posted.read.post.sender, &put);
-                    return Ok(put.journalled);
+                    return Ok(put.journalled.with_late(posted.late));
                 }
                 Err(Refused::InFlight) => landed.await,
                 Err(refused)
@@ -163,7 +169,7 @@ impl Slot {
                     }
                     let refused = refused.placed(|point| posted.left_out.place_of(point));
                     let outcome = self.refusal(&posted.read, refused);
-                    return Ok(Journalled::behind_all(outcome, &self.journal));
+                    return Ok(Journalled::behind_all(outcome, &self.journal).with_late(posted.late));
                 }
             }
         }

@@ -7,6 +7,7 @@
 
 use super::posted::Posted;
 use crate::files::{Journal, Lost, Ticket};
+use crate::late::Refusals;
 use crate::otlp::{Causes, OffClock, Outcome, Reason, Rejection};
 
 /// What may be said once the journal is durable up to a place.
@@ -14,6 +15,8 @@ use crate::otlp::{Causes, OffClock, Outcome, Reason, Rejection};
 pub(super) struct Journalled {
     ticket: Ticket,
     outcome: Outcome,
+    /// What its series refused of it.
+    late: Option<Box<Refusals>>,
 }
 
 impl Journalled {
@@ -23,12 +26,13 @@ impl Journalled {
         Journalled {
             ticket: journal.append(post, names),
             outcome: Outcome::taken_but(post.foreign, posted.left_out.off, Causes::default()),
+            late: None,
         }
     }
 
     /// What nothing was taken of now, as where the book refused it: all that it took before is waited for.
     pub fn behind_all(said: impl Into<Outcome>, journal: &Journal) -> Journalled {
-        Journalled { ticket: journal.now(), outcome: said.into() }
+        Journalled { ticket: journal.now(), outcome: said.into(), late: None }
     }
 
     /// The same of a post of which so many points are outside the profile, and others off by their clock or were not taken
@@ -44,16 +48,17 @@ impl Journalled {
         self
     }
 
-    /// Whether its sender has no reason to repeat the post.
-    pub fn is_for_good(&self) -> bool {
-        matches!(self.outcome.status(), 200 | 400 | 413)
+    /// The same of a post that has these refused points.
+    pub fn with_late(mut self, late: Option<Refusals>) -> Journalled {
+        self.late = late.map(Box::new);
+        self
     }
 
-    /// Waits until it may be said.
-    pub async fn durable(self, journal: &Journal) -> Outcome {
+    /// Waits until it may be said: with the points that are kept then.
+    pub async fn durable(self, journal: &Journal) -> (Outcome, Option<Box<Refusals>>) {
         match journal.durable(self.ticket).await {
-            Ok(()) => self.outcome,
-            Err(Lost) => Reason::SlotMoves.into(),
+            Ok(()) => (self.outcome, self.late),
+            Err(Lost) => (Reason::SlotMoves.into(), None),
         }
     }
 }

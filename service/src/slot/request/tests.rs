@@ -127,6 +127,17 @@ async fn half_a_post_ends_the_slot_alone_where_it_is_in_a_store() {
     assert_eq!(slot.phase(), Phase::Lost);
     assert_eq!(slot.journal.failure(), Some(NO_REST));
     let told = Journalled::behind_all(Refused::BadSender, &slot.journal);
-    let told = told.durable(&slot.journal).await;
+    let (told, _) = told.durable(&slot.journal).await;
     assert_eq!(told.reason(), Some(Reason::SlotMoves));
+}
+
+/// Another instance may have taken none of it: who repeats the post there may have a point taken that would be kept here.
+#[tokio::test]
+async fn what_is_refused_of_a_post_of_a_lost_slot_is_not_kept() {
+    let slot = Slot::in_memory(&Shared::of_test());
+    slot.note_refusal(slot.core.lock(), Refused::HalfTaken);
+    let names = crate::core::Names::new().unwrap();
+    let late = crate::late::Refusals::new("A", &names, Default::default(), Vec::new(), &slot.outbox);
+    let told = Journalled::behind_all(Refused::BadSender, &slot.journal).with_late(Some(late));
+    assert!(told.durable(&slot.journal).await.1.is_none());
 }
