@@ -39,7 +39,7 @@ pub struct OfSink {
 #[command(next_help_heading = "Options of --pass")]
 pub struct OfPass {
     /// Hands points that are outside the profile to another OTLP receiver, http://HOST:PORT or https://HOST, at most once: so they are no fault
-    #[arg(long, env = "TOTXEGUN_PASS", value_name = "ADDRESS")]
+    #[arg(long, env = "TOTXEGUN_PASS", value_name = "ADDRESS", hide_env_values = true)]
     pass: Option<String>,
     /// As --sink-header-file, for it
     #[arg(long, env = "TOTXEGUN_PASS_HEADER_FILE", value_name = "FILE")]

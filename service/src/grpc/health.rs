@@ -27,6 +27,7 @@ pub(super) const NOT_SERVING: i32 = 2;
 /// Codes of gRPC.
 const INVALID_ARGUMENT: i32 = 3;
 const NOT_FOUND: i32 = 5;
+const UNAVAILABLE: i32 = 14;
 
 /// `Watch` is not had: a client that gets UNIMPLEMENTED asks by `Check`.
 pub fn is_asked(parts: &Parts) -> bool {
@@ -36,10 +37,13 @@ pub fn is_asked(parts: &Parts) -> bool {
 pub async fn answer<T: Taker>(intake: &Intake<T>, parts: &Parts, body: &mut Body) -> Response<Body> {
     let mut hold = intake.budget.hold();
     let received = tokio::time::timeout(timeout::of(&parts.headers), message::receive(body, &mut hold)).await;
-    let asked = match received {
-        Ok(Ok(message)) if !message.is_packed => HealthCheckRequest::decode(message.bytes).ok(),
-        _ => None,
+    let Ok(Ok(message)) = received else {
+        return reply::failed(
+            UNAVAILABLE,
+            "the request did not come whole, or there is no room for it: ask again",
+        );
     };
+    let asked = if message.is_packed { None } else { HealthCheckRequest::decode(message.bytes).ok() };
     match asked {
         None => reply::failed(INVALID_ARGUMENT, "send one HealthCheckRequest, not packed"),
         Some(asked) if !SERVICES.contains(&asked.service.as_str()) => {

@@ -234,7 +234,7 @@ fn as_toml(arg: &clap::Arg, values: &[OsString]) -> String {
         let text = value.to_string_lossy();
         match (text.parse::<i64>(), arg.get_action().takes_values()) {
             (_, false) => text.into_owned(),
-            (Ok(number), _) => number.to_string(),
+            (Ok(number), _) if number.to_string() == text => number.to_string(),
             _ if arg.is_hide_env_values_set() => toml::Value::from(without_password(&text)).to_string(),
             _ => toml::Value::from(text.into_owned()).to_string(),
         }

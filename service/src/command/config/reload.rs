@@ -56,7 +56,7 @@ fn tell(live: &[String], fixed: &[String]) {
         let settings = fixed.join(", ");
         tracing::warn!(
             settings,
-            "SIGHUP: {settings} changed, which needs a restart: systemctl restart totxegun"
+            "SIGHUP: {settings} changed, which needs a restart: if totxegun config check finds no fault, systemctl restart totxegun"
         );
     }
 }
