@@ -42,7 +42,7 @@ fn a_start_refuses_what_is_no_store_or_another_or_can_lose() {
         let told = format!("of format version {other}, and this totxegun reads 4 alone: ");
         refused(&one, Copies::Two, "a", &told);
     }
-    server.ask(&versions(3));
+    server.ask(&versions(4));
     // A start would wait: nobody is there, so no commit ends.
     let store = PostgresStore::look_into(&address(&one).unwrap(), Copies::Two).unwrap();
     assert_eq!(wait(store.copies()).unwrap(), Some(1));
