@@ -38,9 +38,9 @@ FOLDER = f"{OUT}/wrong"
 # As tests are compiled: quickly, and what one copy has built is for the next.
 PROGRAM = f"{FOLDER}/service/target/debug/totxegun"
 CARGO = f"{FOLDER}/tools/cargo"
-# What is copied of service/, and what its build reads beside it.
+# What is copied of service/, and what the build of its program and tests reads beside it.
 PARTS = ("Cargo.toml", "Cargo.lock", "build.rs", "rustfmt.toml", "clippy.toml", "src", "tests")
-BESIDE = ("VERSION",)
+BESIDE = ("VERSION", "docs/FORMATS.md")
 # The library that a copy is linked with.
 BOOK = os.path.abspath(os.environ.get("TOTXEGUN_BOOK") or f"{ROOT}/book")
 # How often a test is run at most. The load has another seed each time, after its seconds.
@@ -63,6 +63,7 @@ def copy_service() -> None:
     """The service as it is, beside what earlier copies have built."""
     os.makedirs(f"{FOLDER}/service", exist_ok=True)
     os.makedirs(f"{FOLDER}/tools", exist_ok=True)
+    os.makedirs(f"{FOLDER}/docs", exist_ok=True)
     shutil.copy(f"{ROOT}/tools/cargo", CARGO)
     for path in BESIDE:
         shutil.copy(f"{ROOT}/{path}", f"{FOLDER}/{path}")
