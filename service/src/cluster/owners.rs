@@ -224,7 +224,10 @@ impl Owners {
     }
 
     fn drop_lost(&mut self) -> Vec<Step> {
-        let is_later = |slot: u16, term: u64| self.rows.iter().any(|row| row.slot == slot && row.term > term);
+        // A store that was set back may have given another the same term.
+        let is_anothers = |row: &Row, term: u64| row.term > term || row.term == term && row.owner != self.me;
+        let is_later =
+            |slot: u16, term: u64| self.rows.iter().any(|row| row.slot == slot && is_anothers(row, term));
         // What is being opened or closed finds that by itself.
         let is_lost =
             |slot: &u16, mine: &mut Mine| mine.phase == Phase::Serving && is_later(*slot, mine.term);

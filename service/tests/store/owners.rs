@@ -109,7 +109,7 @@ fn who_had_a_slot_writes_no_more_though_nothing_is_left_of_the_next_owner() {
         (0..5).for_each(|_| assert!(first.round()));
         let link = server.ask(&format!("select link from totxegun_store.slot where slot = {slot}"));
         if is_handed_over {
-            wait(store.release(slot, first.drive.term())).unwrap();
+            wait(store.release(slot, first.drive.term(), "next")).unwrap();
         }
         let (next, found) = take(&store, slot);
         assert!(found == first.synced && !found.is_empty());
@@ -228,12 +228,32 @@ fn beats_go_up_and_a_slot_is_given_away() {
     assert_eq!(wait(store.instances()).unwrap().0.len(), 2, "it comes back");
     wait(store.leave("c")).unwrap();
     assert_eq!(wait(store.take(1, 0, "a")).unwrap(), Some(1));
-    wait(store.release(1, 0)).unwrap();
+    wait(store.release(1, 0, "a")).unwrap();
     assert_eq!(wait(store.slots()).unwrap()[1].owner, "a", "of another term");
-    wait(store.release(1, 1)).unwrap();
+    wait(store.release(1, 1, "b")).unwrap();
+    assert_eq!(wait(store.slots()).unwrap()[1].owner, "a", "of another owner");
+    wait(store.release(1, 1, "a")).unwrap();
     let slot = wait(store.slots()).unwrap().swap_remove(1);
     assert_eq!((slot.term, &slot.owner[..]), (1, ""));
     assert!(store.drive(1, 0).is_err(), "it has another term");
+}
+
+/// A store that was set back has lost the first take, and then given another the same term.
+#[test]
+fn of_two_owners_of_one_term_the_first_neither_opens_the_slot_nor_gives_it_away() {
+    let Some(server) = Server::start("") else { return };
+    make(&server.address());
+    let (first, second) = (open(&server.address(), Copies::One), open(&server.address(), Copies::One));
+    assert_eq!(wait(first.take(3, 0, "a")).unwrap(), Some(1));
+    server.ask("update totxegun_store.slot set term = 0, owner = '', epoch = '' where slot = 3");
+    assert_eq!(wait(second.take(3, 0, "b")).unwrap(), Some(1));
+    assert!(first.drive(3, 1).is_err(), "it would write under the other's epoch");
+    wait(first.release(3, 1, "a")).unwrap();
+    assert_eq!(wait(second.slots()).unwrap()[3].owner, "b");
+    let drive = second.drive(3, 1).unwrap();
+    drive.create(Path::new("f")).unwrap();
+    drive.sync().unwrap();
+    assert!(second.drive(3, 1).is_ok() && first.drive(3, 1).is_err());
 }
 
 /// Whose beats wait for longer is gone for the others, and a page of an operator is not shown meanwhile.

@@ -60,7 +60,7 @@ impl Terms for Member {
     }
 
     async fn release(&self, slot: u16, term: u64) -> Result<(), Silence> {
-        Ok(self.store.release(slot, term).await?)
+        Ok(self.store.release(slot, term, &self.name).await?)
     }
 
     async fn leave(&self) -> Result<(), Silence> {

@@ -29,12 +29,13 @@ pub use state::{Standing, State};
 
 use crate::files::drive::Lost;
 use crate::postgres::identity;
+use crate::work::locked;
 use drive::{on_this_thread, open, Connections, GroupCommitter};
-use session::{within, SILENT};
+use session::{within, Owned, SILENT};
 use shared::Shared;
 use std::collections::BTreeMap;
 use std::future::Future;
-use std::sync::Arc;
+use std::sync::{Arc, Mutex};
 use std::thread;
 use std::time::{Duration, Instant};
 use tokio::runtime::{Builder, Handle, Runtime};
@@ -60,6 +61,8 @@ pub struct PostgresStore {
     /// For writes of slots.
     committer: Arc<GroupCommitter>,
     threads: Arc<Threads>,
+    /// By slot, under which term it was taken here last, and the epoch that was drawn for that.
+    taken: Mutex<BTreeMap<u16, (u64, String)>>,
 }
 
 /// Ends without waiting, from wherever it is dropped.
@@ -153,6 +156,7 @@ impl PostgresStore {
             committer: Arc::new(GroupCommitter::start(&connections, &threads.handle)),
             counts,
             threads,
+            taken: Mutex::default(),
         })
     }
 
@@ -198,9 +202,17 @@ impl PostgresStore {
         &self.counts
     }
 
-    /// The files of a slot that was taken under this term; none where another has it since. It asks until it knows.
+    /// The slot was taken here under this term, and this epoch: another of the same term is another's.
+    fn note_taken(&self, slot: u16, term: u64, epoch: String) {
+        locked(&self.taken).insert(slot, (term, epoch));
+    }
+
+    /// The files of a slot that was taken here under this term; none where another has it since. It asks until it knows.
     pub fn drive(&self, slot: u16, term: u64) -> Result<Arc<PostgresDrive>, Lost> {
-        let opened = self.threads.wait(open(&self.reader, slot.into(), term as i64, &self.counts))?;
+        let taken = locked(&self.taken).get(&slot).cloned();
+        let (_, epoch) = taken.filter(|(taken, _)| *taken == term).ok_or(Lost)?;
+        let of = Owned { slot: slot.into(), term: term as i64, epoch: &epoch };
+        let opened = self.threads.wait(open(&self.reader, &of, &self.counts))?;
         Ok(Arc::new(PostgresDrive::new(opened, &self.committer, &self.reader, &self.threads)))
     }
 

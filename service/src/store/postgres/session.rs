@@ -93,14 +93,13 @@ const PUT: &str = concat!(
 /// What a statement has at most, and a piece.
 const MOST: usize = 16 << 20;
 
-/// None where another has the slot, or its row is locked. Who has just taken it learns its epoch.
+/// None where another has the slot, or its row is locked.
 const RAISE: &str = "with mine as (
-        select slot from totxegun_store.slot where slot = $1 and term = $2 and epoch = coalesce($3::text, epoch)
+        select slot from totxegun_store.slot where slot = $1 and term = $2 and epoch = $3
         for update skip locked
     ) update totxegun_store.slot set link = link + 1 from mine where slot.slot = mine.slot
-    returning slot.link, slot.epoch, slot.begun";
-const IS_OURS: &str =
-    "select count(*) from totxegun_store.slot where slot = $1 and term = $2 and epoch = coalesce($3::text, epoch)";
+    returning slot.link, slot.begun";
+const IS_OURS: &str = "select count(*) from totxegun_store.slot where slot = $1 and term = $2 and epoch = $3";
 
 /// The slots of which these pieces are there, or that another has by now: its checkpoints delete pieces.
 const ARE_THERE: &str =
@@ -115,14 +114,13 @@ const PIECES: &str = "select number, length, bytes from totxegun_store.piece
 pub(super) struct Owned<'a> {
     pub slot: i32,
     pub term: i64,
-    /// None of who has just taken it, and does not know it yet.
-    pub epoch: Option<&'a str>,
+    /// A store that lost what it had committed may have given another the same term.
+    pub epoch: &'a str,
 }
 
 /// What a slot's row says to its owner.
 pub(super) struct SlotRow {
     pub link: i64,
-    pub epoch: String,
     /// It has had files.
     pub begun: bool,
 }
@@ -225,7 +223,7 @@ impl Session {
     pub async fn raise_link(&self, of: &Owned<'_>) -> Result<Option<SlotRow>, Doubt> {
         let key: [&(dyn ToSql + Sync); 3] = [&of.slot, &of.term, &of.epoch];
         if let Some(row) = self.written(self.client.query_opt(RAISE, &key)).await? {
-            return Ok(Some(SlotRow { link: row.get(0), epoch: row.get(1), begun: row.get(2) }));
+            return Ok(Some(SlotRow { link: row.get(0), begun: row.get(1) }));
         }
         let found = within(SILENT, self.client.query_one(IS_OURS, &key)).await?;
         match found.get::<_, i64>(0) {

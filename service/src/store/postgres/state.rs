@@ -189,18 +189,20 @@ impl PostgresStore {
         let taken = self.tried(async || {
             let rows = self.taker.clone().slots().await?;
             let seen = rows.iter().find(|row| row.slot == slot).map_or(0, |row| row.term);
-            let taken = self
-                .taker
-                .write(TAKE, &[&i32::from(slot), &(seen as i64), &MOVER, &id, &draw_epoch()?])
-                .await?;
-            Ok((taken == 1).then_some(seen + 1))
+            let epoch = draw_epoch()?;
+            let taken =
+                self.taker.write(TAKE, &[&i32::from(slot), &(seen as i64), &MOVER, &id, &epoch]).await?;
+            Ok((taken == 1).then_some((seen + 1, epoch)))
         });
-        taken?.ok_or(StoreFault::Meanwhile)
+        let (term, epoch) = taken?.ok_or(StoreFault::Meanwhile)?;
+        self.note_taken(slot, term, epoch);
+        Ok(term)
     }
 
     /// Gives back a slot that was taken so.
     pub fn release_moved(&self, slot: u16, term: u64) -> Result<(), StoreFault> {
-        match self.tried(async || self.taker.write(RELEASE, &[&i32::from(slot), &(term as i64)]).await)? {
+        let release = async || self.taker.write(RELEASE, &[&i32::from(slot), &(term as i64), &MOVER]).await;
+        match self.tried(release)? {
             1 => Ok(()),
             _ => Err(StoreFault::Meanwhile),
         }

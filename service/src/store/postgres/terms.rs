@@ -30,7 +30,9 @@ const SLOTS: &str = "select slot, term, owner from totxegun_store.slot order by 
 const TAKE: &str =
     "update totxegun_store.slot set term = term + 1, link = 0, owner = $3, epoch = $4 where slot = $1 and term = $2
     and exists (select from totxegun_store.cluster where state = 'counts')";
-pub(super) const RELEASE: &str = "update totxegun_store.slot set owner = '' where slot = $1 and term = $2";
+/// After a store has lost a take another may have the same term.
+pub(super) const RELEASE: &str =
+    "update totxegun_store.slot set owner = '' where slot = $1 and term = $2 and owner = $3";
 const LEAVE: &str = "delete from totxegun_store.instance where name = $1";
 /// One that has beaten meanwhile stays.
 const FORGET: &str = "delete from totxegun_store.instance where name = $1 and beat = $2";
@@ -144,15 +146,20 @@ impl PostgresStore {
         let (taker, owner) = (self.taker.clone(), owner.to_string());
         let take = async move {
             let epoch = draw_epoch()?;
-            taker.write(TAKE, &[&i32::from(slot), &(seen as i64), &owner, &epoch]).await
+            let rows = taker.write(TAKE, &[&i32::from(slot), &(seen as i64), &owner, &epoch]).await?;
+            Ok((rows == 1).then_some((seen + 1, epoch)))
         };
-        Ok((self.threads.run(take).await? == 1).then_some(seen + 1))
+        let taken = self.threads.run(take).await?;
+        Ok(taken.map(|(term, epoch)| {
+            self.note_taken(slot, term, epoch);
+            term
+        }))
     }
 
-    /// Says that nobody has the slot, where it has this term. The one who had it writes no more.
-    pub async fn release(&self, slot: u16, term: u64) -> Result<(), Doubt> {
-        let taker = self.taker.clone();
-        let release = async move { taker.write(RELEASE, &[&i32::from(slot), &(term as i64)]).await };
+    /// Says that nobody has the slot, where it has this term and owner. The one who had it writes no more.
+    pub async fn release(&self, slot: u16, term: u64, owner: &str) -> Result<(), Doubt> {
+        let (taker, owner) = (self.taker.clone(), owner.to_string());
+        let release = async move { taker.write(RELEASE, &[&i32::from(slot), &(term as i64), &owner]).await };
         self.threads.run(release).await.map(drop)
     }
 

@@ -27,13 +27,13 @@ pub struct Found {
 }
 
 /// The slot, behind a committed write under its term. It asks until it knows.
-pub async fn open(reader: &Shared, slot: i32, term: i64, counts: &Counts) -> Result<Found, Lost> {
+pub async fn open(reader: &Shared, of: &Owned<'_>, counts: &Counts) -> Result<Found, Lost> {
     let mut backoff = Backoff::default();
-    let of = Owned { slot, term, epoch: None };
+    let Owned { slot, term, epoch } = *of;
     loop {
-        let found = reader.behind_a_write(&of, async |session, row| {
+        let found = reader.behind_a_write(of, async |session, row| {
             let (files, delivered) = read(session, slot, term).await?;
-            let owner = OwnedSlot::new(slot, term, row.epoch, row.link, files);
+            let owner = OwnedSlot::new(slot, term, epoch.into(), row.link, files);
             Ok(Found { owner, delivered, begun: row.begun })
         });
         match found.await {

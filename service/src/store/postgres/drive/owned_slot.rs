@@ -49,7 +49,7 @@ impl OwnedSlot {
 
     /// As its row has it.
     pub fn owned(&self) -> Owned<'_> {
-        Owned { slot: self.slot, term: self.term, epoch: Some(&self.epoch) }
+        Owned { slot: self.slot, term: self.term, epoch: &self.epoch }
     }
 
     /// Nothing is written any more, and callers that wait are told so.
