@@ -190,6 +190,9 @@ impl<S: Store> Run<S> {
 
     async fn run(&self) -> Result<Infallible, End> {
         let mut size = Size::of(&*self.sink);
+        if self.files.tenure().is_some() {
+            self.wait_until_sure(0).await?; // another owner's epochs would be cut off
+        }
         let _later = self.tell_epochs().await?; // before the next request, if it fails
         loop {
             let (waiting, body) = self.unless_stopped(self.files.first()).await??;
