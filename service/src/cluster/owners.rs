@@ -290,7 +290,7 @@ impl Owners {
             owner if owner == self.me => self.is_left_alone_enough(row),
             owner => self.others.is_gone(owner) || self.cut_off.is_left(owner),
         };
-        if !is_free || self.has_namesake() {
+        if !is_free || self.namesake.may_own() {
             return None;
         }
         let slot = row.slot;

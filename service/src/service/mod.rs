@@ -122,7 +122,8 @@ pub enum Ended {
     /// What was taken of the book can't be written.
     #[error("{0}")]
     NoMemory(String),
-    /// Options that contradict each other, or by which strangers could post at an address: no later try does better.
+    /// Options that contradict each other, or by which strangers could post at an address, or the name of another instance: no later
+    /// try does better.
     #[error("{0:#}")]
     Line(anyhow::Error),
     /// With what is wrong and what to do.

@@ -108,7 +108,11 @@ impl Running {
 async fn of_joined(joined: &mut Option<Joined>) -> Ended {
     match joined {
         Some(joined) => tokio::select! {
-            end = &mut joined.beats => cause("the beats", end.map(|ended| ended.map_err(anyhow::Error::from))),
+            end = &mut joined.beats => match end {
+                // A start anew does no better.
+                Ok(Err(later)) => Ended::Line(later.into()),
+                end => cause("the beats", end.map(|ended| ended.map_err(anyhow::Error::from))),
+            },
             end = &mut joined.peer => cause("the peers' address", end.map(Ok::<(), Fault>)),
         },
         None => std::future::pending().await,

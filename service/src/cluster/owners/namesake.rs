@@ -20,11 +20,18 @@ pub(super) struct Namesake {
     /// How often earlier processes had beaten, and how sure it is that one still does.
     earlier: Option<u64>,
     sure_of_earlier: u32,
+    /// Another process has begun under this name since.
+    is_followed: bool,
 }
 
 impl Namesake {
     pub fn is_there(&self) -> bool {
         self.sure >= IS_NAMESAKE
+    }
+
+    /// Whether it may have slots that this one sees under its own name. One that came later ends, and takes nothing.
+    pub fn may_own(&self) -> bool {
+        self.is_there() && !self.is_followed
     }
 
     pub fn unanswered(&mut self) {
@@ -39,6 +46,7 @@ impl Namesake {
     /// What an own beat has read of its row. It adds one: where more was added than was asked for, another adds to it. `life` is the
     /// number of this process.
     pub fn note(&mut self, row: &Instance, life: u64) {
+        self.is_followed = row.life > life;
         let is_earlier = row.life == life && self.earlier.is_some_and(|before| row.earlier > before);
         self.sure_of_earlier = match is_earlier {
             true => self.sure_of_earlier + 1,

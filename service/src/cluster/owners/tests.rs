@@ -264,6 +264,31 @@ fn of_two_with_one_name_none_takes_a_slot_from_the_other() {
     assert_eq!((came_later(&world), world.is_settled()), (vec![false], true), "the one before was killed");
 }
 
+/// As where systemd starts a later one again and again: each ends, and none may have what is free.
+#[test]
+fn a_later_process_of_a_name_keeps_no_slot_from_the_one_before() {
+    let mut world = World::of(11, &["a"]);
+    world.rounds(20);
+    world.join("a");
+    world.rounds(10);
+    assert!(world.nodes[0].owners.has_namesake() && world.nodes[1].owners.came_later());
+    (world.store.rows[3].term, world.store.rows[3].owner) = (2, String::new());
+    world.rounds(10);
+    assert_eq!(world.nodes[0].owners.terms().get(&3), Some(&3));
+    assert!(world.nodes[1].owners.terms().is_empty());
+}
+
+/// As where a store was set back.
+#[test]
+fn a_slot_that_another_has_under_the_same_term_is_dropped() {
+    let mut world = World::of(13, &["a"]);
+    world.rounds(20);
+    let term = world.store.rows[3].term;
+    world.store.rows[3].owner = "z".into();
+    let steps = world.nodes[0].owners.beat(world.store.beat("a", here(), 0, &mut 1));
+    assert_eq!(steps, [Step { act: Act::Drop, slot: 3, term }]);
+}
+
 #[test]
 fn a_slot_that_was_lost_is_dropped_once() {
     let mut world = World::of(13, &["a"]);
