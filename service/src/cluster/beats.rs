@@ -182,11 +182,11 @@ fn tell_clock(before: Option<i64>, now: Option<i64>) {
             let seconds = ahead as f64 / 1e6;
             tracing::error!(
                 seconds,
-                "{}: this instance takes no slots, and hands over what it has, until that is set right, by NTP",
+                "{}: while another's is right this instance takes no slots, and hands over what it has: set it right, by NTP",
                 shown_off(ahead)
             );
         }
-        (Some(_), None) => tracing::info!("this instance's clock is right again: it takes slots"),
+        (Some(_), None) => tracing::info!("this instance's clock is right again"),
         _ => {}
     }
 }

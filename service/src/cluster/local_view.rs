@@ -87,7 +87,7 @@ impl Cluster {
 
     /// Whether its clock is so far off that it may have no slots.
     pub fn is_off_clock(&self) -> bool {
-        self.owners().clock_off().is_some()
+        self.owners().leaves_for_clock()
     }
 
     /// The other instances whose posts are brought somewhere, and where; lost ones only while they have slots.

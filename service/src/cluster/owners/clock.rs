@@ -36,6 +36,12 @@ impl OwnClock {
         self.is_off.then_some(self.ahead)
     }
 
+    /// Whether a clock that is so many microseconds ahead of the store's is right, where this one is off.
+    pub fn is_right(&self, other: i64) -> bool {
+        let best = self.now.unwrap_or_default().saturating_sub(self.ahead);
+        self.most.is_some_and(|most| other.abs_diff(best) <= most.unsigned_abs())
+    }
+
     /// As a beat has found it, and those of the others. It is off if another agrees with more clocks, the store's among them; or with
     /// as many, and that is the store's.
     pub fn note(&mut self, own: Option<i64>, others: impl Iterator<Item = i64>) {

@@ -1,4 +1,4 @@
-//! Whether this instance is a place for slots: not while it ends, nor while its clock is wrong, or most of the others don't reach it.
+//! Whether this instance is a place for slots: not while it ends, nor while its clock is wrong and another's right, or most of the others don't reach it.
 
 use super::cut_off::Reached;
 use super::Owners;
@@ -15,10 +15,14 @@ impl Owners {
         self.ends
     }
 
-    /// By how many microseconds this instance's clock is ahead, if it is so far off that it may have no slots; late, if that is less
-    /// than 0.
+    /// By how many microseconds this instance's clock is ahead, if it is too far off; late, if that is less than 0.
     pub fn clock_off(&self) -> Option<i64> {
         self.clock.off()
+    }
+
+    /// Whether it has no slots for that: another that stays has a clock that is right. One that is alone goes on.
+    pub fn leaves_for_clock(&self) -> bool {
+        self.clock_off().is_some() && self.others.staying_clocks().any(|clock| self.clock.is_right(clock))
     }
 
     /// The others that it reaches just now.
@@ -44,7 +48,7 @@ impl Owners {
 
     /// What the others are told of that; whom too few reach they find by themselves.
     pub(super) fn stay(&self) -> Stay {
-        match self.ends || self.clock.off().is_some() {
+        match self.ends || self.leaves_for_clock() {
             true => Stay::Leaves,
             false => Stay::Here,
         }

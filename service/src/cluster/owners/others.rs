@@ -104,7 +104,13 @@ impl Others {
         self.by_name.values().filter(|other| !other.shown.is_gone).filter_map(|other| other.told.clock)
     }
 
-    /// Whom those reach that may have slots.
+    /// The same of those that may have slots.
+    pub fn staying_clocks(&self) -> impl Iterator<Item = i64> + '_ {
+        let stays = |other: &&Other| !other.shown.is_gone && !other.shown.leaves;
+        self.by_name.values().filter(stays).filter_map(|other| other.told.clock)
+    }
+
+    /// Whom those reach that may have slots; none of one that has not beaten just now: what it said may be so no more.
     pub fn reached(&self) -> impl Iterator<Item = (&str, Option<&BTreeSet<String>>)> {
         let stays = |other: &Other| !other.shown.is_gone && !other.shown.leaves;
         let others = self.by_name.iter().filter(move |(_, other)| stays(other));

@@ -175,16 +175,23 @@ fn who_has_a_wrong_clock_hands_all_over_and_takes_nothing_until_it_is_right() {
     assert!(world.store.rows.iter().all(|row| row.owner != "b" && !row.owner.is_empty()));
     world.rounds(100);
     assert!(world.store.rows.iter().all(|row| row.owner != "b"));
-    // One that comes with such a clock takes none, also if nobody else does.
+    // One that comes with such a clock takes none while another may have them, and all if none is left.
     world.nodes.truncate(1);
-    world.nodes[0].owners.leave();
     world.join("d");
     world.nodes[1].clock = 3_600_000_000;
     world.rounds(60);
-    assert!(world.store.rows.iter().all(|row| row.owner != "d"));
-    world.nodes[1].clock = 0;
-    world.rounds(20);
+    assert!(world.store.rows.iter().all(|row| row.owner == "a"));
+    world.nodes[0].owners.leave();
+    world.rounds(60);
     assert!(world.store.rows.iter().all(|row| row.owner == "d"));
+    assert_eq!(world.nodes[1].owners.clock_off(), Some(3_600_000_000), "it is said all the same");
+    // Of two whose clocks are both wrong, and otherwise, none leaves for the other.
+    world.join("e");
+    world.nodes[2].clock = -3_600_000_000;
+    world.rounds(200);
+    let of = |name: &str| world.store.rows.iter().filter(|row| row.owner == name).count();
+    assert_eq!((of("d"), of("e")), (4, 4));
+    assert!(world.nodes[1..].iter().all(|node| node.owners.clock_off().is_some()));
 }
 
 /// Else its slots would be of no use to anybody for as long as it reaches the store.
