@@ -106,9 +106,9 @@ impl Cluster {
         self.owners().has_reached(names);
     }
 
-    /// Whether it does not reach the owner of a slot whom others reach.
+    /// Whether it does not reach the owner of a slot, and another reaches all owners.
     pub fn misses_owner(&self) -> bool {
-        self.owners().missed_owner().is_some()
+        self.owners().misses_owner()
     }
 
     /// Has the slots looked at again.

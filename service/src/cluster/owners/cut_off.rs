@@ -84,7 +84,7 @@ impl CutOff {
         self.beats.get(name).is_some_and(|beats| *beats >= TAKEN)
     }
 
-    /// Whether others reach it, and this instance does not.
+    /// Whether this instance does not reach it, though it beats, and is not cut off.
     pub fn is_missed(&self, name: &str) -> bool {
         self.missed.get(name).is_some_and(|beats| *beats >= MISSED)
     }

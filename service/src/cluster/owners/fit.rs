@@ -35,10 +35,21 @@ impl Owners {
         self.cut_off.is_cut_off(&self.me)
     }
 
-    /// An owner of a slot that others reach, and this instance does not.
+    /// An owner of a slot that this instance does not reach, though it beats, and is not cut off.
     pub fn missed_owner(&self) -> Option<&str> {
         let owners = self.rows.iter().map(|row| row.owner.as_str());
         owners.into_iter().find(|owner| self.cut_off.is_missed(owner))
+    }
+
+    /// Whether posts had better come by another: it beats just now, and reaches all owners, itself among them. Such a one is ready.
+    pub fn misses_owner(&self) -> bool {
+        let reaches_all = |name: &str, reached: &BTreeSet<String>| {
+            let owners = self.rows.iter().map(|row| row.owner.as_str());
+            let mut owners = owners.filter(|owner| !owner.is_empty() && !self.others.is_gone(owner));
+            owners.all(|owner| owner == name || reached.contains(owner))
+        };
+        self.missed_owner().is_some()
+            && self.others.reached().any(|(name, reached)| reached.is_some_and(|one| reaches_all(name, one)))
     }
 
     /// Whether it is a place for slots.

@@ -247,6 +247,19 @@ fn two_that_do_not_reach_each_other_keep_their_slots_and_say_so() {
     assert_eq!((world.takes, world.hand_overs), before);
     let missed = |name: usize| world.nodes[name].owners.missed_owner();
     assert_eq!([missed(0), missed(1), missed(2)], [Some("b"), Some("a"), None]);
+    assert_eq!([0, 1, 2].map(|name: usize| world.nodes[name].owners.misses_owner()), [true, true, false]);
+}
+
+/// Else all would be not ready at once, and posts would get nowhere.
+#[test]
+fn while_nobody_reaches_all_owners_each_stays_ready() {
+    let mut world = World::of(47, &["a", "b", "c", "d"]);
+    world.rounds(200);
+    world.cut(&["a"], &["b"]);
+    world.cut(&["c"], &["d"]);
+    world.rounds(60);
+    assert!(world.nodes.iter().all(|node| node.owners.missed_owner().is_some()));
+    assert!(world.nodes.iter().all(|node| !node.owners.misses_owner()));
 }
 
 #[test]

@@ -66,9 +66,8 @@ impl Desk {
             seen.clock_off.map(|ahead| format!("{}: set it by NTP", cluster::status::shown_off(ahead)));
         let trouble = seen.has_namesake.then_some(namesake).map(String::from).or(clock);
         let missed = seen.missed_owner.as_ref();
-        let missed = missed.map(|name| {
-            format!("it does not reach instance {name}, as others do: look at the network between them")
-        });
+        let missed =
+            missed.map(|name| format!("it does not reach instance {name}: look at the network between them"));
         let cut_off = "most of the others don't reach it at its --peer, so it has no slots";
         let trouble = trouble.or(seen.is_cut_off.then(|| cut_off.into())).or(missed);
         let trouble = trouble.or(unavailable.map(String::from));
