@@ -2,6 +2,7 @@
 
 use crate::work::locked;
 use std::collections::HashMap;
+use std::sync::atomic::{AtomicU32, Ordering::Relaxed};
 use std::sync::{Arc, Mutex};
 use std::time::Duration;
 use tokio::sync::{watch, Semaphore, SemaphorePermit};
@@ -19,6 +20,10 @@ const KIB: usize = 32 << 10;
 const LEAST_KIB: usize = KIB * 2 / super::internal::PARTS;
 /// After so long without an answer it is said.
 const SILENT_FOR: Duration = Duration::from_secs(10);
+/// So many looks in a row find one not there, until posts for it don't wait for it any more: an answer may be late for once.
+const UNREACHED: u32 = 2;
+/// And so many until the others are told, by which its slots move.
+const TOLD_UNREACHED: u32 = 10;
 /// And shown for so long after the last post that got none.
 const SHOWN: Duration = Duration::from_secs(60);
 
@@ -32,7 +37,9 @@ pub(super) struct Peer {
     kib: Semaphore,
     /// None where it answered last.
     silent: Mutex<Option<Silent>>,
-    /// As it was looked last; it is, before that.
+    /// Looks in a row that found it not there.
+    failed: AtomicU32,
+    /// Not after several of them.
     reached: watch::Sender<bool>,
 }
 
@@ -71,6 +78,7 @@ impl Peers {
                 connections: Semaphore::new(CONNECTIONS),
                 kib: Semaphore::new(KIB),
                 silent: Mutex::default(),
+                failed: AtomicU32::new(0),
                 reached: watch::channel(true).0,
             })
         };
@@ -103,8 +111,13 @@ impl Peer {
         [long, self.connections.acquire_many(connections).await.ok()]
     }
 
-    pub fn has_reached(&self, is_reached: bool) {
+    /// What a look has found: whether the others are told that it is reached.
+    pub fn has_reached(&self, is_reached: bool) -> bool {
+        let failed = if is_reached { 0 } else { self.failed.load(Relaxed).saturating_add(1) };
+        self.failed.store(failed, Relaxed);
+        let is_reached = failed < UNREACHED;
         self.reached.send_if_modified(|reached| std::mem::replace(reached, is_reached) != is_reached);
+        failed < TOLD_UNREACHED
     }
 
     /// Returns once it is not reached.
@@ -127,5 +140,21 @@ impl Peer {
         let before = silent.take().filter(|before| !before.is_over());
         let since = before.map_or(came, |before| before.since);
         silent.insert(Silent { since, last: Instant::now(), why: why.into() }).is_long()
+    }
+}
+
+#[cfg(test)]
+mod tests {
+    use super::*;
+
+    /// Else an answer that is late for once breaks off all posts under way.
+    #[test]
+    fn who_is_late_once_is_reached_and_the_others_are_told_otherwise_after_ten_looks() {
+        let peer = Peers::default().at("a:1");
+        let mut look = |is_there: bool| (peer.has_reached(is_there), *peer.reached.borrow());
+        assert_eq!([false, true, false].map(&mut look), [(true, true); 3]);
+        assert_eq!([false; 8].map(&mut look), [(true, false); 8]);
+        assert_eq!([false; 2].map(&mut look), [(false, false); 2]);
+        assert_eq!(look(true), (true, true));
     }
 }

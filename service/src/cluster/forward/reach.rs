@@ -10,7 +10,7 @@ use tokio::task::JoinSet;
 use tokio::time::{interval, timeout, MissedTickBehavior};
 
 const EVERY: Duration = Duration::from_millis(500);
-/// Who has not answered by then is not reached.
+/// Who has not answered by then was not there.
 const WITHIN: Duration = Duration::from_secs(1);
 
 impl<H: Here> Forward<H> {
@@ -33,13 +33,11 @@ impl<H: Here> Forward<H> {
         }
     }
 
-    /// Whatever it says to that.
+    /// Whatever it says to that. Not before several looks in a row have found it not there.
     async fn reaches(&self, address: &str) -> bool {
         let uri = format!("{}://{address}{PATH}", self.connections.scheme());
         let Ok(request) = Request::get(uri).body(Body::empty()) else { return false };
         let looking = timeout(WITHIN, self.connections.looks().request(request)).await;
-        let is_reached = looking.is_ok_and(|answer| answer.is_ok());
-        self.peers.at(address).has_reached(is_reached);
-        is_reached
+        self.peers.at(address).has_reached(looking.is_ok_and(|answer| answer.is_ok()))
     }
 }

@@ -4,7 +4,7 @@
 use std::cmp::Ordering;
 use std::collections::{BTreeMap, BTreeSet};
 
-/// So many own beats in a row are read that say so, before it counts.
+/// So many more own beats have read so than have not, before it counts.
 const SURE: u32 = super::GONE;
 /// And so many before its slots are taken by others. Before that it hands them over.
 const TAKEN: u32 = 30;
@@ -13,7 +13,7 @@ const MISSED: u32 = super::GONE + 2;
 
 #[derive(Default)]
 pub(super) struct CutOff {
-    /// Own beats that have read so of these in a row.
+    /// Own beats that have read so of these, less those since that have not.
     beats: BTreeMap<String, u32>,
     /// Whom this instance reaches; none before it has tried.
     reached: Option<BTreeSet<String>>,
@@ -57,10 +57,14 @@ impl CutOff {
     /// What an own beat has read of all: whom they reach.
     pub fn note(&mut self, me: &str, all: &Reached<'_>) {
         let found = cut_off(all);
-        self.beats.retain(|name, _| found.contains(name.as_str()));
+        // One good beat among bad ones is no end of them.
+        self.beats.retain(|name, beats| {
+            *beats -= u32::from(!found.contains(name.as_str()));
+            *beats > 0
+        });
         for name in &found {
             let beats = self.beats.entry((*name).into()).or_default();
-            *beats = beats.saturating_add(1);
+            *beats = (*beats + 1).min(TAKEN);
         }
         let is_missed = |name: &str| {
             let is_reached = self.reached.as_ref().is_none_or(|reached| reached.contains(name));
@@ -104,6 +108,19 @@ mod tests {
         let names = ["a", "b", "c", "d"];
         let found = cut_off(&all);
         names.into_iter().filter(|name| found.contains(name)).collect()
+    }
+
+    #[test]
+    fn one_good_beat_among_bad_ones_does_not_begin_anew() {
+        let (none, both) = (BTreeSet::new(), BTreeSet::from(["a".to_string(), "b".to_string()]));
+        let mut cut_off = CutOff::default();
+        let mut note = |reached: &BTreeSet<String>| {
+            cut_off.note("a", &[("a", Some(reached)), ("b", Some(reached))].into());
+            cut_off.is_cut_off("b")
+        };
+        assert_eq!([&none, &none, &none, &none, &none, &both].map(&mut note), [false; 6]);
+        assert_eq!([&none, &none].map(&mut note), [false, true]);
+        assert_eq!([&both, &both].map(&mut note), [false; 2]);
     }
 
     #[test]
