@@ -7,6 +7,8 @@ use std::collections::{BTreeMap, BTreeSet};
 
 /// So many own beats lie between two silences that others are waited for.
 const BETWEEN_SILENCES: u32 = 40;
+/// Whose beat has stood still for fewer own beats has beaten just now.
+const LATELY: u32 = GONE / 2;
 
 #[derive(Default)]
 struct Other {
@@ -114,7 +116,10 @@ impl Others {
     pub fn reached(&self) -> impl Iterator<Item = (&str, Option<&BTreeSet<String>>)> {
         let stays = |other: &Other| !other.shown.is_gone && !other.shown.leaves;
         let others = self.by_name.iter().filter(move |(_, other)| stays(other));
-        others.map(|(name, other)| (name.as_str(), other.told.reached.as_ref()))
+        others.map(|(name, other)| {
+            let said = other.told.reached.as_ref().filter(|_| other.shown.still < LATELY);
+            (name.as_str(), said)
+        })
     }
 
     /// Each as it is shown.
