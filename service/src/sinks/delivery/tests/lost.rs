@@ -35,7 +35,7 @@ async fn each_try_is_made_while_the_slot_is_this_instances() {
 async fn it_is_said_where_it_is_long_not_sure_that_the_slot_is_this_instances() {
     let (tell, sure) = watch::channel(false);
     let (_never, stop) = watch::channel(false);
-    let memory = Memory { sure: Some(sure), ..waiting([1]) };
+    let memory = Memory { sure: Some(sure), term: Some(4), ..waiting([1]) };
     let fates = Mutex::new([again(None)].into());
     let sink = Arc::new(Script { fates, ..Script::default() });
     let run = prepared(sink.clone(), &memory, stop);
@@ -46,6 +46,7 @@ async fn it_is_said_where_it_is_long_not_sure_that_the_slot_is_this_instances() 
         let said = run.attempts.state();
         assert!(said.trouble.is_some_and(|why| why.contains("nothing is sent")) && said.tries == 0);
         assert!(sink.came.lock().expect("came").is_empty());
+        assert_eq!(*sink.asked.lock().expect("asked"), 0, "another's epochs would be cut off");
         tell.send_replace(true);
         while sink.came.lock().expect("came").is_empty() {
             tokio::time::sleep(Duration::from_millis(1)).await;
