@@ -22,7 +22,7 @@ metrics! {
         beat_age: Gauge = "beat_age_seconds",
             "Since the last beat of this instance that is known to be in the store";
         clock_off: Gauge = "clock_off_seconds",
-            "By how much this instance's clock is ahead of those of the others and the store, late if less than 0, if it is so far off that it takes no slots; else 0";
+            "By how much this instance's clock is ahead of those of the others and the store, late if less than 0, if it is so far off that it takes no slots while another has a right clock; else 0";
         cut_off: IntGauge = "cut_off",
             "1 while most of the other instances don't reach this one, so that it has no slots, or while it does not reach an owner of slots that others reach";
         copies: IntGaugeVec = "store_copies" ["database"],
