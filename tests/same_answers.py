@@ -457,8 +457,8 @@ class Run:
             made = [Series(self.chance, f"many.{number}") for number in range(first, first + count)]
             return json.dumps(request(random.Random(1), made)).encode()
 
-        for first in range(0, MOST_SERIES // 4, 900):
-            self.post(body(first, 900), "many")
+        for first in range(0, 900, 300):
+            self.post(body(first, 300), "many")
         self.flush()
         headers = {"Content-Type": JSON, "x-sender": "many"}
         # Series that a flush has may be counted twice until the service counts again.

@@ -1,6 +1,7 @@
 //! `grpc.health.v1`: whether posts are taken, as orchestrators and balancers ask. No name is needed: it says what `/readyz` does.
 
 use super::{is_grpc, message, reply, timeout};
+use crate::intake::refusal::Refusal;
 use crate::intake::{Intake, Taker};
 use hyper::http::request::Parts;
 use hyper::{Body, Response};
@@ -37,13 +38,17 @@ pub fn is_asked(parts: &Parts) -> bool {
 pub async fn answer<T: Taker>(intake: &Intake<T>, parts: &Parts, body: &mut Body) -> Response<Body> {
     let mut hold = intake.budget.hold();
     let received = tokio::time::timeout(timeout::of(&parts.headers), message::receive(body, &mut hold)).await;
-    let Ok(Ok(message)) = received else {
-        return reply::failed(
-            UNAVAILABLE,
-            "the request did not come whole, or there is no room for it: ask again",
-        );
+    let message = match received {
+        Ok(Ok(message)) if !message.is_packed => Some(message),
+        Ok(Ok(_) | Err(Refusal::Malformed)) => None,
+        _ => {
+            return reply::failed(
+                UNAVAILABLE,
+                "the request did not come whole, or there is no room for it: ask again",
+            )
+        }
     };
-    let asked = if message.is_packed { None } else { HealthCheckRequest::decode(message.bytes).ok() };
+    let asked = message.and_then(|message| HealthCheckRequest::decode(message.bytes).ok());
     match asked {
         None => reply::failed(INVALID_ARGUMENT, "send one HealthCheckRequest, not packed"),
         Some(asked) if !SERVICES.contains(&asked.service.as_str()) => {
