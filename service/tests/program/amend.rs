@@ -1,6 +1,6 @@
 //! A series that a wrong clock has put ahead is put back, and one that is whose it should not be is forgotten.
 
-use crate::support::{points, signal, Place};
+use crate::support::{points, signal, until, Place};
 use std::process::Command;
 use std::time::{Duration, SystemTime, UNIX_EPOCH};
 
@@ -56,11 +56,8 @@ fn a_series_is_put_back_and_what_the_sink_has_of_it_is_told() {
     assert_eq!(service.post("A", &points(&["b"], begun, 1)).unwrap().0, 400);
     service.kill();
     let service = place.serve_with(&["--sink", &sink, "--most-ahead", "off"]);
-    assert!(
-        place.log().contains("1 series end over an hour ahead of this clock, such as "),
-        "{}",
-        place.log()
-    );
+    let line = "1 series end over an hour ahead of this clock, such as ";
+    until("the log says so", || place.log().contains(line));
     assert_eq!(service.post("A", &right).unwrap(), (200, "{}".into()), "it was taken");
     assert_eq!(service.post("A", &points(&["a"], begun + 10, 2)).unwrap().0, 200);
     let said = service.said(&["forget", "b"]);
