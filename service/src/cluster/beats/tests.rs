@@ -328,7 +328,8 @@ async fn of_two_processes_of_one_name_the_later_one_ends() {
     let ended = timeout(SOON, later.runs).await.unwrap().unwrap().unwrap_err();
     assert!(ended.to_string().contains("the name a was there before"), "{ended}");
     until(|| !a.cluster.status().has_namesake).await;
-    assert!(!a.runs.is_finished() && (0..SLOTS).all(|slot| a.cluster.whose(slot) == Whose::Here { term: 1 }));
+    until(|| (0..SLOTS).all(|slot| a.cluster.whose(slot) == Whose::Here { term: 1 })).await;
+    assert!(!a.runs.is_finished());
     // One that starts again after a kill is no later one.
     a.runs.abort();
     let again = start_at(&store, "a", FAST);
