@@ -5,7 +5,8 @@ Call: tests/hostile_input.py PROGRAM, with the path of the built gateway.
 
   - Input that is no request, and bodies that are no metrics, have their whole answers, each read by a
     client that sends all the while; the report shows that nothing was taken.
-  - A client that breaks off within its message is not answered, and nothing was taken of it.
+  - A client that breaks off within its message is not answered; one that ends its side there, at each place, is told that the
+    request is malformed. Nothing was taken of either.
   - The back end closes in the middle of flush 1, a later point of the series is admitted meanwhile, and
     flush 2 forwards one point over both with their sum.
   - A back end that does not answer holds one flusher: another flush and the receivers go on.
@@ -19,7 +20,7 @@ import sys
 import threading
 
 from testing.checks import Checks
-from testing.loopback import SECONDS, BackEnd, Gateway, is_whole, ordered, point, posted, response, sent_points
+from testing.loopback import SECONDS, BackEnd, Gateway, is_whole, ordered, point, posted, read_all, response, sent_points
 
 JSON = b"application/json"
 MALFORMED = response(b"400 Bad Request", JSON, b'{"message":"malformed request"}')
@@ -63,15 +64,28 @@ def break_off(gateway: Gateway, part: bytes) -> None:
     connection.close()
 
 
+def end_early(gateway: Gateway, part: bytes) -> bytes | str:
+    """Sends a part of a message and nothing more, and gives the answer."""
+    connection = gateway.connect()
+    if connection is None:
+        return "no connection"
+    with connection:
+        connection.sendall(part)
+        connection.shutdown(socket.SHUT_WR)
+        return read_all(connection)
+
+
 def bad_inputs(program: str, checks: Checks) -> None:
-    """The inputs, and messages that break off, at one gateway."""
+    """The inputs, and messages that break off or end, at one gateway."""
     message = posted(point(10, 20, 5))
     cuts = [1, 30, len(message) - 100, len(message) - 1]
-    gateway = Gateway(program, 9, len(INPUTS) + len(cuts) + 1)
+    gateway = Gateway(program, 9, len(INPUTS) + len(cuts) + len(message))
     for name, request, answer in INPUTS:
         checks.same(name, answer, gateway.ask(request))
     for cut in cuts:
         break_off(gateway, message[:cut])
+    others = [end for end in range(1, len(message)) if end_early(gateway, message[:end]) != MALFORMED]
+    checks.same("an end at each place of a message", [], others)
     checks.same("the report after all that", EMPTY, gateway.ask(ordered("GET /report")))
     checks.same("the end", (0, b"end\nadmitted 0 acknowledged 0\n", b""), gateway.end())
 

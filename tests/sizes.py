@@ -120,6 +120,9 @@ def open_ends(program: str, checks: Checks) -> None:
     for flush in range(1, 65):
         it.flush(flush, 1)
     it.say("take 1", "refused full\n")
+    it.say("hold A", "held A\n")
+    it.say("take 1", "nothing\n")
+    it.say("lift A", "lifted A\n")
     it.say("admit A s00 5000 5001 1", "refused full\n")
     for flush in range(1, 65):
         it.say(f"back {flush}", f"returned {flush}\n")

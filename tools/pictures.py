@@ -35,7 +35,7 @@ FOLDER = f"{ROOT}/docs/pictures"
 PAGES = ["README.md", *(f"docs/{it}" for it in sorted(os.listdir(f"{ROOT}/docs")) if it.endswith(".md"))]
 SHOWN = re.compile(r"!\[[^\]]*\]\(((?:docs/)?pictures/(\w+)\.svg)\)")
 # The crates from here on are of tests.
-FIRST_TEST = "test_support"
+FIRST_TEST = "ensure"
 SIDES = {"left": (0, 0.5), "right": (1, 0.5), "top": (0.5, 0), "bottom": (0.5, 1)}
 END = re.compile(r"(?P<name>\w+)\.(?P<side>left|right|top|bottom)(?P<by>[+-]\d+)?$")
 

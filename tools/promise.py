@@ -5,9 +5,10 @@
     tools/promise.py TIER               the reading list of a tier, 1 for the store: what to read, lowest first, with lines
                                         and with what is said of each definition before it
     tools/promise.py CRATE FUNCTION     that of one contract
-    tools/promise.py --check            whether docs/PROOFS.md has these numbers and the files of the first tier, whether a tier has
-                                        each function that README names, and whether just that stands in specs/inner which no
-                                        public contract needs: a step of the gate
+    tools/promise.py --check            whether docs/PROOFS.md has these numbers and the files of the first tier, whether the tiers
+                                        have all definitions of each call that README or the list of contracts in PROOFS names,
+                                        and whether just that stands in specs/inner which no public contract needs: a step of the
+                                        gate
 
 It goes by names and imports, and reads no type: what a trait's function means, and the fields of types of src/, are not
 followed. What is named of src/ (types, constants) and of the toolchain's libraries is counted apart, each once.
@@ -35,11 +36,15 @@ TIERS: Sequence[tuple[str, Sequence[tuple[str, list[str]]]]] = (
     ("texts and messages", (
         ("gate_workers", ["serve_with", "serve_book", "flush_turn", "book_turn"]),
         ("shared_book", ["finish"]),
-        ("gateway_serve", ["serve_bound"]),
+        ("gateway_serve", ["Backend", "serve_bound"]),
     )),
-    ("play, and the service's library", (
+    ("play, the service's library, and what bodies mean", (
         ("play_script", ["play"]),
         ("book_c", []),
+        ("otlp_read", ["read_request_with"]),
+        ("json_points", ["read_request_with"]),
+        ("otlp_protobuf", ["read_request_with"]),
+        ("forward_law", ["forward"]),
     )),
     ("rounds, recovery, and the service's machine", (
         ("metric_events", ["closing", "recovery", "priming", "congruence"]),
@@ -56,6 +61,9 @@ PROOFS = f"{ROOT}/docs/PROOFS.md"
 INNER = ".specs.inner."
 NUMBERED = "{definitions:,} definitions, {lines:,} lines in {files} files"
 APART = "{types} types and constants of `src/` and {kit} definitions and types of the kit"
+# Where docs/PROOFS.md says which contract says what, and a name in a text.
+CONTRACTS = "## Which contract says what"
+NAMED_CALL = re.compile(r"`(?:\w+::)*(\w+)(?:\(\))?`")
 # A file of the reading list of docs/PROOFS.md.
 LISTED = re.compile(r"^\d+\. `(\w+/specs/[\w/]+)`", re.MULTILINE)
 
@@ -322,12 +330,17 @@ def all_of(promise: Promise, crate: str) -> list[str]:
 
 
 def not_counted(promise: Promise, all_tiers: list[Tier]) -> Iterator[str]:
-    """What README names of the crates that no tier has, a line each."""
-    counted = {name for tier in all_tiers for _, name, _ in tier.tops}
-    named = set(re.findall(r"`(\w+)(?:\(\))?`", text_of(f"{ROOT}/README.md")))
+    """What README and the list of PROOFS name of the crates, and no tier has whole in any of them, a line each."""
+    calls: dict[str, list[str]] = {}
     for crate in promise.crates:
-        for name in sorted(named.intersection(all_of(promise, crate)) - counted):
-            yield f"README.md names {name} of {crate}, which no tier of TIERS has"
+        for name in all_of(promise, crate):
+            calls.setdefault(name, []).append(crate)
+    for page, text in (("README.md", text_of(f"{ROOT}/README.md")), ("docs/PROOFS.md", text_of(PROOFS).partition(CONTRACTS)[2])):
+        for name in sorted(calls.keys() & set(NAMED_CALL.findall(text.partition("\n## The laws")[0]))):
+            left = {crate: len(promise.of(crate, name) - all_tiers[-1].all) for crate in calls[name]}
+            if all(left.values()):
+                missing = " or ".join(f"{it} of {crate}" for crate, it in left.items())
+                yield f"{page} names {name}, of whose definitions no tier of TIERS has {missing}"
 
 
 def show_tiers(promise: Promise) -> None:

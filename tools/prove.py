@@ -37,11 +37,13 @@ GATEWAY = "crates/gateway/out/gateway"
 STEPS = (
     ("slow_parties.py", GATEWAY, 70, False),
     ("gateway_sizes.py", GATEWAY, 30, False),
+    ("gateway_answers.py", GATEWAY, 10, False),
     ("gateway_serves.py", GATEWAY, 5, False),
     ("alloc_failures_play.py", PLAY, 20, False),
     ("protobuf_bodies.py", f"{GATEWAY} gateway", 10, False),
     ("alloc_failures_gateway.py", GATEWAY, 10, False),
     ("play_model.py", PLAY, 10, False),
+    ("play_recovers.py", PLAY, 5, False),
     ("gateway_rehearses.py", GATEWAY, 5, False),
     ("hostile_input.py", GATEWAY, 5, False),
     ("sizes.py", PLAY, 3, False),

@@ -1,20 +1,19 @@
 -- Cells that represent no point are removed.
-use Rattle.std.proofs.Common.{◌≡◌, ◌==◌, ℕ, zero, suc, ◌<◌, Bool, true, false, not, ◌||◌, List, []}
-use Rattle.std.proofs.Common.{◌∷◌, ◌++◌, map, remove, get_or, length, refl, ap, sym, ◌∙◌, subst}
+use Rattle.std.proofs.Common.{◌≡◌, ◌==◌, ℕ, ◌<◌, Bool, true, false, not, ◌||◌, List, []}
+use Rattle.std.proofs.Common.{◌∷◌, ◌++◌, map, get_or, length, refl, ap, sym, ◌∙◌, subst}
 use Rattle.std.proofs.Common.{arith, inl, inr, ◌⊎◌}
-use Rattle.std.specs.List.{list_all, list_any}
-use Rattle.std.proofs.lemmas.Bool.{and_parts, and_from, or_cases, or_left, or_right, or_from}
-use Rattle.std.proofs.lemmas.Bool.{not-true, not-false, eqb-true, ne_eqb}
+use Rattle.std.specs.List.{filter, list_all, list_any}
+use Rattle.std.proofs.lemmas.Bool.{and_parts, and_from, or_cases, or_left, or_right}
+use Rattle.std.proofs.lemmas.Bool.{not-false, eqb-true, ne_eqb}
 use Rattle.series_id.specs.Identity.{Identity}
 use Rattle.series_id.specs.Order.{same_series, series_before}
-use Rattle.series_id.proofs.Order.{same_series-exact}
+use Rattle.series_id.proofs.Order.{same_series-refl, same_series-exact}
 use Rattle.metric_events.specs.DataPoint.{DataPoint}
 use Rattle.metric_events.specs.Points.{is_among}
-use Rattle.metric_events.specs.Legal.{are_distinct}
 use Rattle.metric_events.specs.Series.{is_of, of_series, series_in_order, is_ascending}
 use Rattle.metric_events.specs.declared.accepted.Accepted.{Accepted}
-use Rattle.metric_events.proofs.InOrder.{series_ascend, ascending_distinct}
-use Rattle.metric_events.proofs.Lists.{all_both, any_none, any_split, both_at}
+use Rattle.metric_events.proofs.InOrder.{series_ascend}
+use Rattle.metric_events.proofs.Lists.{all_both, any_split, both_at}
 use Rattle.metric_events.proofs.SeriesOnce.{among_in_order}
 use Rattle.series_cell.specs.Cells.{CellView, Stands, IsOwn, greatest_end, end_of}
 use Rattle.metric_events.proofs.Intervals.{ends_after}
@@ -24,7 +23,7 @@ use Rattle.delta_book.specs.inner.Batches.{is_point_of}
 use Rattle.delta_book.specs.inner.Removals.{AreCellsFor, IsListed}
 use Rattle.delta_book.specs.inner.Tables.{HasPoint, IsTable, IdAt}
 use Rattle.delta_book.proofs.Choosing.{same_ascending}
-use Rattle.delta_book.proofs.Tables.{agree, not_first, stands_at, at_id, among_at}
+use Rattle.delta_book.proofs.Tables.{agree, stands_at, at_id}
 
 -- the cell has a frontier
 abbrev pub is_some_cell : CellView → Bool
@@ -71,85 +70,108 @@ pub covered_by : (z : Identity) (xs : List Identity) (qs : List Accepted)
 covered_by z xs qs h m = both_at (is_of z) (λ a. is_among a.point.series xs) (is_among z xs ≡ true)
     (λ a e k. subst (λ y. is_among y xs ≡ true) (same_series-exact a.point.series z e) k) qs m h
 
--- a cell is removed
+-- the cells without a frontier are left out
 
-all_left : (t : Identity → Bool) (cs : List CellView) (i : ℕ) → list_all t (map id_of cs) ≡ true
-    → list_all t (map id_of (remove cs i)) ≡ true
-all_left t [] zero h = refl
-all_left t [] (suc i) h = refl
-all_left t (c ∷ cs) zero h = (and_parts (t c.id) (list_all t (map id_of cs)) h).1
-all_left t (c ∷ cs) (suc i) h =
+kept_all : (t : Identity → Bool) (cs : List CellView) → list_all t (map id_of cs) ≡ true
+    → list_all t (map id_of (filter is_some_cell cs)) ≡ true
+kept_all t [] h = refl
+kept_all t (c ∷ cs) h =
     let p = and_parts (t c.id) (list_all t (map id_of cs)) h in
-    and_from (t c.id) (list_all t (map id_of (remove cs i))) p.0 (all_left t cs i p.1)
+    both (is_some_cell c) refl p.0 (kept_all t cs p.1)
+  where
+    both : (v : Bool) → is_some_cell c ≡ v → t c.id ≡ true
+        → list_all t (map id_of (filter is_some_cell cs)) ≡ true
+        → list_all t (map id_of (filter is_some_cell (c ∷ cs))) ≡ true
+    both true e f r =
+        rw e (and_from (t c.id) (list_all t (map id_of (filter is_some_cell cs))) f r)
+    both false e f r = rw e r
 
-ascends_left : (cs : List CellView) (i : ℕ) → is_ascending (map id_of cs) ≡ true
-    → is_ascending (map id_of (remove cs i)) ≡ true
-ascends_left [] zero h = refl
-ascends_left [] (suc i) h = refl
-ascends_left (c ∷ cs) zero h =
-    (and_parts (list_all (series_before c.id) (map id_of cs)) (is_ascending (map id_of cs)) h).1
-ascends_left (c ∷ cs) (suc i) h =
+kept_ascends : (cs : List CellView) → is_ascending (map id_of cs) ≡ true
+    → is_ascending (map id_of (filter is_some_cell cs)) ≡ true
+kept_ascends [] h = refl
+kept_ascends (c ∷ cs) h =
     let p =
     and_parts (list_all (series_before c.id) (map id_of cs)) (is_ascending (map id_of cs)) h in
-    and_from (list_all (series_before c.id) (map id_of (remove cs i)))
-    (is_ascending (map id_of (remove cs i))) (all_left (series_before c.id) cs i p.0)
-    (ascends_left cs i p.1)
+    both (is_some_cell c) refl (kept_all (series_before c.id) cs p.0) (kept_ascends cs p.1)
+  where
+    both : (v : Bool) → is_some_cell c ≡ v
+        → list_all (series_before c.id) (map id_of (filter is_some_cell cs)) ≡ true
+        → is_ascending (map id_of (filter is_some_cell cs)) ≡ true
+        → is_ascending (map id_of (filter is_some_cell (c ∷ cs))) ≡ true
+    both true e f r =
+        rw e (and_from (list_all (series_before c.id) (map id_of (filter is_some_cell cs)))
+        (is_ascending (map id_of (filter is_some_cell cs))) f r)
+    both false e f r = rw e r
 
-stand_left : (cs : List CellView) (i : ℕ) (qs : List Accepted) → AllStand cs qs
-    → AllStand (remove cs i) qs
-stand_left [] zero qs h = tt
-stand_left [] (suc i) qs h = tt
-stand_left (c ∷ cs) zero qs h = h.1
-stand_left (c ∷ cs) (suc i) qs h = (h.0, stand_left cs i qs h.1)
+kept_stand : (cs : List CellView) (qs : List Accepted) → AllStand cs qs
+    → AllStand (filter is_some_cell cs) qs
+kept_stand [] qs h = tt
+kept_stand (c ∷ cs) qs h = both (is_some_cell c) refl h.0 (kept_stand cs qs h.1)
+  where
+    both : (v : Bool) → is_some_cell c ≡ v → Stands c (of_series c.id qs)
+        → AllStand (filter is_some_cell cs) qs → AllStand (filter is_some_cell (c ∷ cs)) qs
+    both true e f r = rw e (f, r)
+    both false e f r = rw e r
 
-among_left : (y x : Identity) (cs : List CellView) (i : ℕ) → IdAt cs i x → same_series y x ≡ false
-    → is_among y (map id_of cs) ≡ true → is_among y (map id_of (remove cs i)) ≡ true
-among_left y x [] i a n m = absurd a
-among_left y x (c ∷ cs) zero a n m =
-    elim (or_cases (same_series y c.id) (is_among y (map id_of cs)) m) [
-      | inl e ↦ absurd (let q : true ≡ false = sym e ∙ (ap (same_series y) a ∙ n) in cc)
-      | inr e ↦ e
-    ]
-among_left y x (c ∷ cs) (suc i) a n m =
-    elim (or_cases (same_series y c.id) (is_among y (map id_of cs)) m) [
-      | inl e ↦ or_left (same_series y c.id) (is_among y (map id_of (remove cs i))) e
-      | inr e ↦ or_right (same_series y c.id) (is_among y (map id_of (remove cs i)))
-          (among_left y x cs i a n e)
-    ]
+-- what has a point stays
+kept_among : (x : Identity) (cs : List CellView) (qs : List Accepted) → AllStand cs qs
+    → list_any (is_of x) qs ≡ true → is_among x (map id_of cs) ≡ true
+    → is_among x (map id_of (filter is_some_cell cs)) ≡ true
+kept_among x [] qs h k m = m
+kept_among x (c ∷ cs) qs h k m = both (is_some_cell c) refl h.0 k
+    (or_cases (same_series x c.id) (is_among x (map id_of cs)) m) (kept_among x cs qs h.1 k)
+  where
+    both : (v : Bool) → is_some_cell c ≡ v → Stands c (of_series c.id qs)
+        → list_any (is_of x) qs ≡ true
+        → (same_series x c.id ≡ true) ⊎ (is_among x (map id_of cs) ≡ true)
+        → (is_among x (map id_of cs) ≡ true
+        → is_among x (map id_of (filter is_some_cell cs)) ≡ true)
+        → is_among x (map id_of (filter is_some_cell (c ∷ cs))) ≡ true
+    both true e s k (inl f) r =
+        rw e (or_left (same_series x c.id) (is_among x (map id_of (filter is_some_cell cs))) f)
+    both true e s k (inr f) r =
+        rw e (or_right (same_series x c.id) (is_among x (map id_of (filter is_some_cell cs))) (r f))
+    both false e s k (inl f) r = absurd (let q : true ≡ false =
+        sym k ∙ none_of_empty x qs (ap (λ y. of_series y qs) (same_series-exact x c.id f)
+        ∙ empty_cell c (of_series c.id qs) s e) in cc)
+    both false e s k (inr f) r = rw e (r f)
 
-among_before : (y : Identity) (cs : List CellView) (i : ℕ)
-    → is_among y (map id_of (remove cs i)) ≡ true → is_among y (map id_of cs) ≡ true
-among_before y [] zero m = m
-among_before y [] (suc i) m = m
-among_before y (c ∷ cs) zero m = or_right (same_series y c.id) (is_among y (map id_of cs)) m
-among_before y (c ∷ cs) (suc i) m =
-    elim (or_cases (same_series y c.id) (is_among y (map id_of (remove cs i))) m) [
-      | inl e ↦ or_left (same_series y c.id) (is_among y (map id_of cs)) e
-      | inr e ↦ or_right (same_series y c.id) (is_among y (map id_of cs)) (among_before y cs i e)
-    ]
+-- what stays has a point
+kept_some : (x : Identity) (cs : List CellView) (qs : List Accepted) → AllStand cs qs
+    → is_among x (map id_of (filter is_some_cell cs)) ≡ true → list_any (is_of x) qs ≡ true
+kept_some x [] qs h m = absurd (let q : false ≡ true = m in cc)
+kept_some x (c ∷ cs) qs h m = both (is_some_cell c) refl h.0 m (kept_some x cs qs h.1)
+  where
+    first : is_some_cell c ≡ true → Stands c (of_series c.id qs)
+        → (same_series x c.id ≡ true) ⊎ (is_among x (map id_of (filter is_some_cell cs)) ≡ true)
+        → (is_among x (map id_of (filter is_some_cell cs)) ≡ true → list_any (is_of x) qs ≡ true)
+        → list_any (is_of x) qs ≡ true
+    first e s (inl f) r = some_of x qs (λ n. full_cell c (of_series c.id qs) s e
+        (ap (λ y. of_series y qs) (sym (same_series-exact x c.id f)) ∙ n))
+    first e s (inr f) r = r f
 
-gone : (x : Identity) (cs : List CellView) (i : ℕ) → are_distinct (map id_of cs) ≡ true
-    → IdAt cs i x → is_among x (map id_of (remove cs i)) ≡ false
-gone x [] i u a = absurd a
-gone x (c ∷ cs) zero u a = subst (λ y. is_among y (map id_of cs) ≡ false) a
-    (not-true (is_among c.id (map id_of cs))
-    (and_parts (not (is_among c.id (map id_of cs))) (are_distinct (map id_of cs)) u).0)
-gone x (c ∷ cs) (suc i) u a =
-    let p = and_parts (not (is_among c.id (map id_of cs))) (are_distinct (map id_of cs)) u in
-    or_from (same_series x c.id) (is_among x (map id_of (remove cs i)))
-    (not_first c.id x (map id_of cs) p.0 (among_at cs i x a)) (gone x cs i p.1 a)
+    both : (v : Bool) → is_some_cell c ≡ v → Stands c (of_series c.id qs)
+        → is_among x (map id_of (filter is_some_cell (c ∷ cs))) ≡ true
+        → (is_among x (map id_of (filter is_some_cell cs)) ≡ true → list_any (is_of x) qs ≡ true)
+        → list_any (is_of x) qs ≡ true
+    both true e s n r =
+        let p : (same_series x c.id || is_among x (map id_of (filter is_some_cell cs))) ≡ true =
+        rw e at n in
+        first e s
+        (or_cases (same_series x c.id) (is_among x (map id_of (filter is_some_cell cs))) p) r
+    both false e s n r =
+        let p : is_among x (map id_of (filter is_some_cell cs)) ≡ true = rw e at n in r p
 
--- without the cell of a series that has no point
-table_left : (cs : List CellView) (i : ℕ) (x : Identity) (qs : List Accepted) → IdAt cs i x
-    → list_any (is_of x) qs ≡ false → IsTable cs qs → IsTable (remove cs i) qs
-table_left cs i x qs a n h = record {
-  ascending = ascends_left cs i h.ascending;
-  stand = stand_left cs i qs h.stand;
-  covered = all_both (λ a. not (is_of x a)) (λ a. is_among a.point.series (map id_of cs))
-      (λ a. is_among a.point.series (map id_of (remove cs i)))
-      (λ b k m. among_left b.point.series x cs i a (not-true (is_of x b) k) m) qs
-      (any_none (is_of x) qs n) h.covered;
-}
+all_there : (us qs : List Accepted)
+    → ((x : Identity) → list_any (is_of x) qs ≡ true → list_any (is_of x) us ≡ true)
+    → list_all (λ a. list_any (is_of a.point.series) us) qs ≡ true
+all_there us [] k = refl
+all_there us (a ∷ qs) k =
+    and_from (list_any (is_of a.point.series) us)
+    (list_all (λ b. list_any (is_of b.point.series) us) qs)
+    (k a.point.series (or_left (is_of a.point.series a) (list_any (is_of a.point.series) qs)
+    (same_series-refl a.point.series)))
+    (all_there us qs (λ x m. k x (or_right (is_of x a) (list_any (is_of x) qs) m)))
 
 -- the last point of a batch has no cell, or its series has a point
 pub still_for : (cs : List CellView) (qs : List Accepted) (ps : List DataPoint) (p : DataPoint)
@@ -177,25 +199,6 @@ stays_for cs i c qs ps p l e a m h =
     (λ n. full_cell c (of_series c.id qs) (stands_at cs qs i c l e h.table.stand) m
     (ap (λ y. of_series y qs) (at_id cs i c p.series a e) ∙ n))) h
 
--- its cell has none, and goes
-pub goes_for : (cs : List CellView) (i : ℕ) (c : CellView) (qs : List Accepted)
-    (ps : List DataPoint) (p : DataPoint) → i < length cs → c ≡ get_or cs i c → IdAt cs i p.series
-    → is_some_cell c ≡ false → AreCellsFor cs qs (ps ++ p ∷ [])
-    → AreCellsFor (remove cs i) qs ps
-goes_for cs i c qs ps p l e a m h =
-    let x = p.series in
-    let none : list_any (is_of x) qs ≡ false =
-    none_of_empty x qs (ap (λ y. of_series y qs) (sym (at_id cs i c x a e))
-    ∙ empty_cell c (of_series c.id qs) (stands_at cs qs i c l e h.table.stand) m) in
-    still_for (remove cs i) qs ps p (λ k. absurd
-    (let q : true ≡ false =
-    sym k ∙ gone x cs i (ascending_distinct (map id_of cs) h.table.ascending) a in cc))
-    (record {
-      table = table_left cs i x qs a none h.table;
-      some =
-          λ y k. h.some y (among_before y cs i k);
-    })
-
 -- a table whose series all have a point
 pub cells_of_table : (cs : List CellView) (qs : List Accepted) → IsTable cs qs
     → ((x : Identity) → is_among x (map id_of cs) ≡ true → list_any (is_of x) qs ≡ true)
@@ -217,6 +220,20 @@ swept cs qs h = cells_of_table cs qs h.table (λ x m. some x (h.some x m))
     some x (inl k) = k
     some x (inr k) = absurd (let q : false ≡ true = k in cc)
 
+-- the cells that have a frontier are those of the points
+pub kept_full : (cs : List CellView) (qs : List Accepted) (ps : List DataPoint)
+    → AreCellsFor cs qs ps → AreCells (filter is_some_cell cs) qs
+kept_full cs qs ps h = cells_of_table (filter is_some_cell cs) qs
+    (record {
+      ascending = kept_ascends cs h.table.ascending;
+      stand = kept_stand cs qs h.table.stand;
+      covered = all_both (λ a. list_any (is_of a.point.series) qs)
+          (λ a. is_among a.point.series (map id_of cs))
+          (λ a. is_among a.point.series (map id_of (filter is_some_cell cs)))
+          (λ a k m. kept_among a.point.series cs qs h.table.stand k m) qs
+          (all_there qs qs (λ x m. m)) h.table.covered;
+    }) (λ x m. kept_some x cs qs h.table.stand m)
+
 -- what was found in the cells' slice
 pub found : (ds cs : List CellView) (i : ℕ) (x y : Identity) → ds ≡ cs → x ≡ y
     → (i < length ds) × IdAt ds i x → (i < length cs) × IdAt cs i y
@@ -237,6 +254,3 @@ missed ds cs x y e f h u = subst (λ ks. is_among y (map id_of ks) ≡ false) e
 
 pub has_end : (c : CellView) (n : ℕ) → n ≡ end_of c → (n ≡ 0 → ⊥) → is_some_cell c ≡ true
 has_end c n e k = ap not (ne_eqb (end_of c) 0 (λ m. k (e ∙ m)))
-
-pub lacks_end : (c : CellView) (n : ℕ) → n ≡ end_of c → n ≡ 0 → is_some_cell c ≡ false
-lacks_end c n e z = subst (λ j. not (j == 0) ≡ false) (sym z ∙ e) refl

@@ -181,28 +181,38 @@ fn remove_points(cells: &mut [Cell], batch: &[Point], fill: Fill, number: u64)
     }
 }
 
-/// Removes the cell of a point's series where it represents no point.
-fn sweep_cell(cells: &mut Vec<Cell>, point: &Point)
-    ensures { (qs : List Accepted) (ps : List DataPoint)
-        → AreCellsFor cells.old.items qs (ps ++ point.now ∷ [])
-        → AreCellsFor cells.new.items qs ps }
+/// Whether the cell of a point's series represents no point.
+fn is_empty_at(cells: &[Cell], point: &Point) -> bool
+    ensures { (qs : List Accepted) (ps : List DataPoint) → result ≡ false
+        → AreCellsFor cells.now qs (ps ++ point.now ∷ [])
+        → AreCellsFor cells.now qs ps }
 {
-    if let Some(i) = find_cell(cells, point.shared_series()) {
-        if cells[i].frontier() == 0 {
-            cells.remove(i);
-        }
+    match find_cell(cells, point.shared_series()) {
+        Some(i) => cells[i].frontier() == 0,
+        None => false,
     }
 }
 
-/// Removes the cells of a batch's series that represent no point. The last one goes first: cells
-/// that were opened in series order then go from the end, and move no other.
+/// Removes all cells that represent no point, at once, so that none is moved twice.
+fn keep_full(cells: &mut Vec<Cell>)
+    ensures { (qs : List Accepted) (ps : List DataPoint) → AreCellsFor cells.old.items qs ps
+        → AreCells cells.new.items qs }
+{
+    cells.retain(|cell| cell.frontier() != 0);
+}
+
+/// Removes the cells of a batch's series that represent no point. Where there is none, as mostly,
+/// no other cell is looked at.
 fn sweep_cells(cells: &mut Vec<Cell>, batch: &[Point])
     ensures { (qs : List Accepted) → AreCellsFor cells.old.items qs batch.now
         → AreCells cells.new.items qs }
 {
     for k in 0..batch.len() {
         let i = batch.len() - 1 - k;
-        sweep_cell(cells, &batch[i]);
+        if is_empty_at(cells, &batch[i]) {
+            keep_full(cells);
+            return;
+        }
     }
 }
 

@@ -2,8 +2,8 @@ use byte_ends::{Script, Step, Tape};
 use ensure::{ensure, ensure_eq};
 use http::{Method, StatusCode};
 use http_edge::{
-    Decoder, HttpFault, MAX_BODY, MAX_HEAD, Reply, Request, Written, find_in, read_message,
-    read_response, write_post, write_response,
+    Decoder, HttpFault, MAX_BODY, MAX_HEAD, Reply, Request, Written, read_message, read_response,
+    write_post, write_response,
 };
 use std::alloc::Global;
 use std::test::Fail;
@@ -37,19 +37,6 @@ fn reply_of<'b>(source: &mut Script, head: &'b mut [u8; MAX_HEAD]) -> Result<Rep
 fn fault_of(alloc: Global, bytes: &[u8]) -> Option<HttpFault> {
     let mut source = Script::new(bytes, &[]);
     read(alloc, &mut source).err()
-}
-
-#[test]
-fn cut_in_two_at_every_place(rt: HostRuntime) -> Result<(), Fail> {
-    for cut in 1..CHUNKED.len() {
-        let steps = [Step::AtMost(cut)];
-        let mut source = Script::new(CHUNKED, &steps);
-        let Ok(request) = read(rt.alloc(), &mut source) else {
-            panic!(rt; "cut {cut}");
-        };
-        ensure!(is_posted(&request), cut);
-    }
-    Ok(())
 }
 
 #[test]
@@ -196,52 +183,6 @@ fn a_reader_is_not_asked_again(rt: HostRuntime) -> Result<(), Fail> {
     Ok(())
 }
 
-#[test]
-fn methods(rt: HostRuntime) -> Result<(), Fail> {
-    for method in [
-        "GET",
-        "get",
-        "QUERY",
-        "M-SEARCH",
-        "A-LONGER-ONE-THAN-FIFTEEN",
-        "!#$%&'*+-.^_`|~09",
-    ] {
-        let mut decoder = Decoder::new(rt.alloc());
-        ensure_eq!(feed(&mut decoder, method.as_bytes()), Ok(false));
-        ensure_eq!(feed(&mut decoder, b" / HTTP/1.1\r\n\r\n"), Ok(true));
-        let Ok(request) = decoder.finish() else {
-            panic!(rt; "{method}");
-        };
-        ensure_eq!(request.method.as_str(), method);
-    }
-    Ok(())
-}
-
-#[test]
-fn fields_by_name(rt: HostRuntime) -> Result<(), Fail> {
-    let text = b"GET / HTTP/1.1\r\nAccept: a\r\nHost:  h \r\naccept:\r\nACCEPT: c\r\n\r\n";
-    let mut source = Script::new(text, &[]);
-    let Ok(request) = read(rt.alloc(), &mut source) else {
-        panic!(rt; "no request");
-    };
-    ensure!(request.find(b"Accept-Encoding").is_none());
-    let Some((host, after)) = request.find(b"hOST") else {
-        panic!(rt; "no host");
-    };
-    ensure_eq!(host, b"h".as_slice());
-    ensure_eq!(after.len(), 2);
-    let mut left = request.headers.as_slice();
-    for value in ["a", "", "c"] {
-        let Some((found, after)) = find_in(left, b"accept") else {
-            panic!(rt; "no {value}");
-        };
-        ensure_eq!(found, value.as_bytes());
-        left = after;
-    }
-    ensure!(find_in(left, b"accept").is_none());
-    Ok(())
-}
-
 const RUN: &[u8] = &[b'a'; 8_192];
 
 #[test]
@@ -293,73 +234,8 @@ fn a_body_at_the_limit(rt: HostRuntime) -> Result<(), Fail> {
     Ok(())
 }
 
-#[test]
-fn a_reply_cut_in_two_at_every_place(rt: HostRuntime) -> Result<(), Fail> {
-    let text =
-        b"HTTP/1.1 503 Service Unavailable\r\nRetry-After:  2 \r\nretry-after: 3\r\n\r\nbody";
-    let mut head = [0u8; MAX_HEAD];
-    for cut in 1..text.len() {
-        let steps = [Step::AtMost(cut)];
-        let mut source = Script::new(text, &steps);
-        let Ok(reply) = reply_of(&mut source, &mut head) else {
-            panic!(rt; "cut {cut}");
-        };
-        ensure_eq!(reply.status, 503);
-        let Some(seconds) = reply.retry_after else {
-            panic!(rt; "cut {cut}");
-        };
-        ensure_eq!(seconds, b"2".as_slice());
-    }
-    Ok(())
-}
-
-#[test]
-fn a_reply_without_a_wait(rt: HostRuntime) -> Result<(), Fail> {
-    let mut head = [0u8; MAX_HEAD];
-    let mut source = Script::new(b"HTTP/1.0 200\r\n\r\n", &[]);
-    let Ok(reply) = reply_of(&mut source, &mut head) else {
-        panic!(rt; "no reply");
-    };
-    ensure_eq!(reply.status, 200);
-    ensure!(reply.retry_after.is_none());
-    Ok(())
-}
-
-#[test]
-fn faults_of_replies(rt: HostRuntime) -> Result<(), Fail> {
-    let cases: [(&[u8], HttpFault); 3] = [
-        (b"", HttpFault::Closed),
-        (b"HTTP/1.1 200 OK\r\n", HttpFault::Truncated),
-        (b"HTTP/2 200\r\n\r\n", HttpFault::BadHead),
-    ];
-    let mut head = [0u8; MAX_HEAD];
-    for (bytes, fault) in &cases {
-        let mut source = Script::new(bytes, &[]);
-        ensure_eq!(reply_of(&mut source, &mut head).err(), Some(*fault));
-    }
-    Ok(())
-}
-
 const RESPONSE: &[u8] =
     b"HTTP/1.1 200 OK\r\nContent-Type: application/json\r\nContent-Length: 2\r\nConnection: close\r\n\r\n{}";
-
-#[test]
-fn written_responses(rt: HostRuntime) -> Result<(), Fail> {
-    let mut tape = Tape::new(rt.alloc(), &[]);
-    let kind = "application/json";
-    let done = write_response(&mut tape, StatusCode::OK, kind, None, b"{}");
-    ensure_eq!(done, Written::All);
-    ensure_eq!(tape.taken(), RESPONSE);
-
-    let mut tape = Tape::new(rt.alloc(), &[]);
-    let wrong = StatusCode::METHOD_NOT_ALLOWED;
-    let done = write_response(&mut tape, wrong, "text/plain", Some("POST"), b"");
-    ensure_eq!(done, Written::All);
-    let text =
-        b"HTTP/1.1 405 Method Not Allowed\r\nContent-Type: text/plain\r\nContent-Length: 0\r\nAllow: POST\r\nConnection: close\r\n\r\n";
-    ensure_eq!(tape.taken(), text.as_slice());
-    Ok(())
-}
 
 #[test]
 fn a_failing_writer(rt: HostRuntime) -> Result<(), Fail> {
@@ -401,15 +277,5 @@ fn calls_of_a_writer(rt: HostRuntime) -> Result<(), Fail> {
         let done = write_response(&mut tape, StatusCode::OK, kind, None, &spaces[..size]);
         ensure_eq!(done, Written::All, size);
     }
-    Ok(())
-}
-
-#[test]
-fn a_written_post(rt: HostRuntime) -> Result<(), Fail> {
-    let mut tape = Tape::new(rt.alloc(), &[]);
-    ensure_eq!(write_post(&mut tape, "127.0.0.1:4318", b"{}"), Written::All);
-    let text =
-        b"POST /v1/metrics HTTP/1.1\r\nHost: 127.0.0.1:4318\r\nContent-Type: application/json\r\nContent-Length: 2\r\nConnection: close\r\n\r\n{}";
-    ensure_eq!(tape.taken(), text.as_slice());
     Ok(())
 }

@@ -1,8 +1,8 @@
-//! What a cache of identities shares, and that a body is read with it as without one.
+//! What a cache of identities shares.
 
-use ensure::{ensure, ensure_eq};
+use ensure::ensure_eq;
 use metric_events::point::Point;
-use otlp_read::{IdentityCache, ReadFault, Reading, read_request, read_request_with};
+use otlp_read::{IdentityCache, ReadFault, Reading, read_request_with};
 use std::alloc::{AllocError, Global};
 use std::process::Abort;
 use std::test::Fail;
@@ -29,11 +29,6 @@ fn letters(alloc: Global, count: usize) -> Result<String, AllocError> {
         text.push('x')?;
     }
     Ok(text)
-}
-
-/// As the library's call, without its contract: a test reads no more than what it answers.
-fn read(alloc: Global, body: &[u8]) -> Result<Reading, ReadFault> {
-    read_request(alloc, body)
 }
 
 fn first(reading: &Reading) -> Option<&Point> {
@@ -92,8 +87,8 @@ fn bodies(alloc: Global) -> Result<Vec<String>, AllocError> {
     Ok(bodies)
 }
 
-/// Reads a body by a cache as without one: so many share the series of its first point. The
-/// reading is kept, and the series with it.
+/// Reads a body by a cache: so many share the series of its first point. The reading is kept, and
+/// the series with it.
 fn shares<R: Abort + AllocGlobal>(
     rt: &R,
     body: &str,
@@ -102,21 +97,8 @@ fn shares<R: Abort + AllocGlobal>(
     readings: &mut Vec<Reading>,
 ) -> Result<(), Fail> {
     let reading = read_with(rt.alloc(), body, cache)?;
-    expect_plain(rt, body, &reading, body)?;
     expect_owners(&reading, owners, body)?;
     readings.push(reading)?;
-    Ok(())
-}
-
-/// The same points are read without a cache.
-fn expect_plain<R: Abort + AllocGlobal>(
-    rt: &R,
-    body: &str,
-    reading: &Reading,
-    what: &str,
-) -> Result<(), Fail> {
-    let plain = read(rt.alloc(), body.as_bytes())?;
-    ensure!(reading.points.is_same(&plain.points), what);
     Ok(())
 }
 
@@ -141,7 +123,7 @@ fn share_all<R: Abort + AllocGlobal>(
     Ok(())
 }
 
-/// Series that come again are shared with what a cache holds of them, and read as without one.
+/// Series that come again are shared with what a cache holds of them.
 #[test]
 fn a_cache_shares_what_comes_again(rt: HostRuntime) -> Result<(), Fail> {
     let alloc = rt.alloc();
@@ -149,77 +131,6 @@ fn a_cache_shares_what_comes_again(rt: HostRuntime) -> Result<(), Fail> {
     let mut cache = IdentityCache::new(alloc);
     let mut readings = Vec::new(alloc);
     share_all(&rt, bodies.as_slice(), &mut cache, &mut readings)
-}
-
-/// Reads a body by a cache as without one: its first point is of another series than this one, and
-/// the cache alone shares it.
-fn reads_another<R: Abort + AllocGlobal>(
-    rt: &R,
-    body: &str,
-    cache: &mut IdentityCache,
-    point: &Point,
-    what: &str,
-) -> Result<(), Fail> {
-    let reading = read_with(rt.alloc(), body, cache)?;
-    expect_plain(rt, body, &reading, what)?;
-    expect_other(&reading, point, what)?;
-    expect_owners(&reading, 2, what)
-}
-
-/// The first point is of another series than this one.
-fn expect_other(reading: &Reading, point: &Point, what: &str) -> Result<(), Fail> {
-    let other = first(reading).ok_or("a point")?;
-    ensure!(!other.series().is_same(point.series()), what);
-    Ok(())
-}
-
-/// A part of an identity, and what another series has in its place.
-const PARTS: [(&str, &str); 14] = [
-    (r#""key":"r""#, r#""key":"q""#),
-    (
-        r#"[{"intValue":1},{"stringValue":"x"}]"#,
-        r#"[{"intValue":1}]"#,
-    ),
-    (
-        r#"[{"intValue":1},{"stringValue":"x"}]"#,
-        r#"[{"intValue":1},{"stringValue":"y"}]"#,
-    ),
-    (r#""name":"n""#, r#""name":"o""#),
-    (r#""version":"v""#, r#""version":"w""#),
-    (r#"[{"key":"s"}]"#, "[]"),
-    (r#""name":"m""#, r#""name":"l""#),
-    (r#""unit":"By""#, r#""unit":"ms""#),
-    ("true,", "false,"),
-    (r#"{"boolValue":true}"#, r#"{"boolValue":false}"#),
-    (r#"{"boolValue":true}"#, r#"{"stringValue":"true"}"#),
-    (r#"{"intValue":"-7"}"#, r#"{"intValue":"7"}"#),
-    (r#"{"intValue":"-7"}"#, r#"{"stringValue":"-7"}"#),
-    (r#""key":"b""#, r#""key":"c""#),
-];
-
-fn keeps_apart<R: Abort + AllocGlobal>(
-    rt: &R,
-    body: &str,
-    cache: &mut IdentityCache,
-    point: &Point,
-) -> Result<(), Fail> {
-    for (old, new) in PARTS {
-        let body = body.replace(rt.alloc(), old, new)?;
-        reads_another(rt, body.as_str(), cache, point, new)?;
-    }
-    Ok(())
-}
-
-/// A cache is not taken in by series that differ in a part of the identity alone.
-#[test]
-fn a_cache_keeps_series_apart(rt: HostRuntime) -> Result<(), Fail> {
-    let alloc = rt.alloc();
-    let fields = sum_fields(alloc, "true", PAIRS[2])?;
-    let body = metric_of(alloc, fields.as_str())?;
-    let mut cache = IdentityCache::new(alloc);
-    let reading = read_with(alloc, body.as_str(), &mut cache)?;
-    let point = first(&reading).ok_or("a point")?;
-    keeps_apart(&rt, body.as_str(), &mut cache, point)
 }
 
 /// The pairs of a set are one series in any order.

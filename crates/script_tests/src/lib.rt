@@ -1,5 +1,5 @@
-//! Tests of what a cache of identities shares, of which container of a body is wrong, of the ends
-//! of a script, and of texts of answers.
+//! Tests of what a cache of identities shares, of which container of a body is wrong, and of the
+//! ends of a script.
 #![tactic(auto)]
 
 #[cfg(test)]
@@ -8,5 +8,3 @@ mod cache;
 mod places;
 #[cfg(test)]
 mod scripts;
-#[cfg(test)]
-mod texts;

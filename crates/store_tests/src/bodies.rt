@@ -1,13 +1,17 @@
-//! Series, points, senders and batches, named by numbers.
+//! Series, points, senders and batches, named by numbers, and the call that admits one.
+
 ghost use Rattle.std.specs.Prelude.{◌≡◌, IfOk};
 ghost use Rattle.metric_events.specs.PointFaults.{IsSum};
 
+use delta_book::book::Book;
+use delta_book::faults::AdmitFault;
 use metric_events::batch::Batch;
 use metric_events::point::Point;
 use metric_events::points::Points;
 use metric_events::sender_name::SenderName;
 use series_id::{AttrSet, Kind, SeriesId, SharedId, Text};
 use std::alloc::Global;
+use std::process::Abort;
 use std::test::Fail;
 
 /// A series in a scope of this name. Series that differ in an early field are compared quickly.
@@ -71,4 +75,13 @@ pub fn batch_of(alloc: Global, series: SharedId, start: u64) -> Result<Batch, Fa
     points.push(Point::shared_sum(series, start, start.saturating_add(1), 1)?)?;
     let sender = sender(alloc, 0)?;
     Ok(Batch { sender, points })
+}
+
+/// Admits a batch with points: its number, or the fault.
+pub fn admit(rt: &impl Abort, book: &mut Book, body: Batch) -> Result<u64, AdmitFault> {
+    assert!(rt; !body.points.as_slice().is_empty());
+    match book.admit(7, body) {
+        Ok(number) => Ok(number),
+        Err((fault, _)) => Err(fault),
+    }
 }

@@ -1,8 +1,6 @@
 //! What no contract says of the room of cells: that it is given back, also where points are left.
 
-use crate::bodies::{sender, sum_point};
-use crate::call::Call::{Confirm, Settle, Single, Take};
-use crate::call::{admit, run};
+use crate::bodies::{admit, one_point, sender, sum_point};
 use delta_book::book::Book;
 use delta_book::faults::AdmitFault;
 use ensure::ensure_eq;
@@ -30,6 +28,14 @@ fn many(alloc: Global, sent_by: usize, start: u64, count: u64, late: bool) -> Re
 /// what they take.
 const FEW: usize = 8;
 
+/// One series is taken, as this flush, and settled.
+fn settle_one(book: &mut Book, number: u64) -> Result<(), Fail> {
+    let flush = book.take(7, 1)?.ok_or("nothing was taken")?;
+    ensure_eq!(flush.number, number);
+    ensure_eq!(book.settle(7, number), Ok(()));
+    Ok(())
+}
+
 /// The first cell has room for few points more.
 fn expect_few(rt: &impl Abort, book: &Book) -> Result<(), Fail> {
     let cell = book.cells().first().ok_or("no cell")?;
@@ -42,7 +48,8 @@ fn expect_few(rt: &impl Abort, book: &Book) -> Result<(), Fail> {
 fn refused_posts_keep_no_room(rt: HostRuntime) -> Result<(), Fail> {
     let alloc = rt.alloc();
     let mut book = Book::new(alloc)?;
-    run(&rt, alloc, &mut book, &[Single(0, 1, 1, Ok(1))])?;
+    let first = one_point(alloc, 0, 1, 1)?;
+    ensure_eq!(admit(&rt, &mut book, first), Ok(1));
     for _ in 0..3 {
         let strange = many(alloc, 1, 20, 1000, false)?;
         ensure_eq!(
@@ -71,27 +78,22 @@ fn landed_points_keep_no_room(rt: HostRuntime) -> Result<(), Fail> {
     let mut book = Book::new(alloc)?;
     let first = many(alloc, 0, 1, 1000, false)?;
     ensure_eq!(admit(&rt, &mut book, first), Ok(1));
-    run(
-        &rt,
-        alloc,
-        &mut book,
-        &[
-            Confirm(1, Ok(())),
-            Take(Ok(Some(1))),
-            Single(0, 2000, 1, Ok(2)),
-            Settle(1, Ok(())),
-        ],
-    )?;
+    ensure_eq!(book.confirm(7, 1), Ok(()));
+    land_beside_another(&rt, alloc, &mut book)?;
     expect_few(&rt, &book)?;
     let second = many(alloc, 0, 3000, 1000, false)?;
     ensure_eq!(admit(&rt, &mut book, second), Ok(3));
-    run(
-        &rt,
-        alloc,
-        &mut book,
-        &[Take(Ok(Some(2))), Settle(2, Ok(()))],
-    )?;
+    settle_one(&mut book, 2)?;
     expect_few(&rt, &book)
+}
+
+/// A flush is settled, and a point comes meanwhile.
+fn land_beside_another(rt: &impl Abort, alloc: Global, book: &mut Book) -> Result<(), Fail> {
+    let flush = book.take(7, 1)?.ok_or("nothing was taken")?;
+    let later = one_point(alloc, 0, 2000, 1)?;
+    ensure_eq!(admit(rt, book, later), Ok(2));
+    ensure_eq!(book.settle(7, flush.number), Ok(()));
+    Ok(())
 }
 
 // A batch that is undone keeps no room.
@@ -99,7 +101,8 @@ fn landed_points_keep_no_room(rt: HostRuntime) -> Result<(), Fail> {
 fn undone_points_keep_no_room(rt: HostRuntime) -> Result<(), Fail> {
     let alloc = rt.alloc();
     let mut book = Book::new(alloc)?;
-    run(&rt, alloc, &mut book, &[Single(0, 1, 1, Ok(1))])?;
+    let first = one_point(alloc, 0, 1, 1)?;
+    ensure_eq!(admit(&rt, &mut book, first), Ok(1));
     let undone = many(alloc, 0, 20, 1000, false)?;
     ensure_eq!(admit(&rt, &mut book, undone), Ok(2));
     ensure_eq!(book.undo(7, 2), Ok(()));

@@ -55,26 +55,14 @@ pub fn finish_both<L: Round>(
     finish(shared, list)
 }
 
-/// What is done with a batch once it is admitted.
-#[derive(Clone, Copy)]
-pub enum Then {
-    Leave,
-    Confirm,
-}
-
 fn bring<L: Round, R: Wait + Abort>(
     rt: &R,
     shared: &SharedBook<L>,
     seat: &mut Seat<L>,
     body: Batch,
-    then: Then,
 ) {
-    match (admit(rt, shared, seat, body), then) {
-        (Ok(number), Then::Confirm) => {
-            assert_eq!(rt; shared.confirm(rt, seat, number), Ok(()));
-        }
-        (Ok(_), Then::Leave) => {}
-        (Err(fault), _) => assert_eq!(rt; Some(fault), None),
+    if let Err(fault) = admit(rt, shared, seat, body) {
+        assert_eq!(rt; Some(fault), None);
     }
 }
 
@@ -84,11 +72,10 @@ fn bring_all<L: Round, R: Wait + Abort>(
     shared: &SharedBook<L>,
     seat: Seat<L>,
     bodies: Vec<Batch>,
-    then: Then,
 ) -> Seat<L> {
     let mut seat = seat;
     for body in bodies {
-        bring(rt, shared, &mut seat, body, then);
+        bring(rt, shared, &mut seat, body);
     }
     seat
 }
@@ -99,14 +86,13 @@ pub fn bring_from_both<L: Round + Send + Sync, R: Threads + Wait + Abort + Sync>
     alloc: Global,
     shared: &SharedBook<L>,
     seats: (Seat<L>, Seat<L>),
-    then: Then,
 ) -> Result<(Seat<L>, Seat<L>), Fail> {
     let (zero, one) = seats;
     let of_a = four_bodies(alloc, "a")?;
     let of_b = four_bodies(alloc, "b")?;
     Ok(join(
         rt,
-        || bring_all(rt, shared, zero, of_a, then),
-        || bring_all(rt, shared, one, of_b, then),
+        || bring_all(rt, shared, zero, of_a),
+        || bring_all(rt, shared, one, of_b),
     ))
 }

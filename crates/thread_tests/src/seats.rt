@@ -2,7 +2,7 @@
 ghost use Rattle.std.specs.Prelude.{◌≡◌};
 ghost use Rattle.metric_events.specs.Opening.{first_opening};
 
-use crate::pair::{Then, bring_from_both, finish_both, two_seats};
+use crate::pair::{bring_from_both, finish_both, two_seats};
 use delta_book::book::Book;
 use ensure::ensure_eq;
 use shared_book::audit::{Audit, AuditFault};
@@ -53,7 +53,7 @@ fn four_admissions<L: Round + Send + Sync, R: Threads + Wait + Abort + Sync>(
     requires opening { L.opening ≡ first_opening }
 {
     let (shared, zero, one) = two_seats::<L>(alloc, blank)?;
-    let (zero, one) = bring_from_both(rt, alloc, &shared, (zero, one), Then::Leave)?;
+    let (zero, one) = bring_from_both(rt, alloc, &shared, (zero, one))?;
     expect_admissions(rt, &zero);
     expect_admissions(rt, &one);
     let (book, audit) = ends_with_both(rt, alloc, shared, zero, one)?;

@@ -2,8 +2,10 @@
 ghost use Rattle.std.specs.Prelude.{◌≡◌};
 ghost use Rattle.metric_events.specs.Opening.{first_opening};
 
+use crate::fixed::Fixed;
 use crate::pair::{finish_both, two_seats};
 use crate::pause::{After, Flags, PauseAt, Scripted, is_set_in_time};
+use crate::posts::{ACCEPTED, OTHER, POSTED};
 use back_answers::{Act, Answer};
 use crossbeam_channel::{Receiver, Sender, bounded};
 use ensure::{ensure, ensure_eq};
@@ -22,7 +24,6 @@ use std::sync::ledger::Blank;
 use std::test::Fail;
 use std::thread::{Threads, join};
 use std::time::Clock;
-use test_support::{ACCEPTED, Fixed, OTHER, POSTED};
 
 /// An order to flush.
 const FLUSH: &[u8] = b"POST /flush HTTP/1.1\r\n\r\n";

@@ -1,4 +1,4 @@
-use Rattle.std.proofs.Common.{◌≡◌, ◌+◌, ◌-◌, length, take, arith, subst, sym}
+use Rattle.std.proofs.Common.{◌≡◌, ◌+◌, ◌-◌, ◌++◌, ◌∷◌, [], length, take, arith, subst, sym}
 use Rattle.std.proofs.lemmas.List.{take_all}
 use Rattle.delta_book.specs.inner.Removals.{AreCellsFor}
 use Rattle.delta_book.proofs.Parts.{last_point}
@@ -12,10 +12,18 @@ loop-k-init c = λ qs h. subst (AreCellsFor c.args.cells.now.items qs)
 pub loop-k-preserved : goal.loop-k-preserved
 loop-k-preserved c = λ qs h.
     let ps = c.args.batch.now in
-    c.sweep_cell.ensures qs (take (length ps - (c.loop-k.k + 1)) ps)
-    (subst (AreCellsFor c.loop-k.cells.items qs)
+    let left = take (length ps - (c.loop-k.k + 1)) ps in
+    subst (λ cs. AreCellsFor cs qs left) c.deref.ensures.value
+    (c.is_empty_at.ensures qs left c.if-is_empty_at.false
+    (subst (λ cs. AreCellsFor cs qs (left ++ c.index-batch-i.result ∷ []))
+    (sym c.deref.ensures.value) (subst (AreCellsFor c.loop-k.cells.items qs)
     (last_point ps c.loop-k.k c.index-batch-i.result c.loop-k-test.true c.index-batch-i.is)
-    (c.loop-k.invariant qs h))
+    (c.loop-k.invariant qs h))))
+
+pub returns-then-is_empty_at : goal.returns-then-is_empty_at
+returns-then-is_empty_at c = λ qs h.
+    c.keep_full.ensures qs (take (length c.args.batch.now - c.loop-k.k) c.args.batch.now)
+    (c.loop-k.invariant qs h)
 
 pub returns : goal.returns
 returns c = λ qs h.

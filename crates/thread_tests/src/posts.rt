@@ -1,5 +1,4 @@
 //! Posts, and the response to those that are taken.
-use std::alloc::{AllocError, Global};
 
 /// A body with a point of 5 in (10, 20] of the sum `a`, posted.
 pub const POSTED: &[u8] = b"POST /v1/metrics HTTP/1.1\r\n\
@@ -8,14 +7,6 @@ pub const POSTED: &[u8] = b"POST /v1/metrics HTTP/1.1\r\n\
     {\"resourceMetrics\":[{\"scopeMetrics\":[{\"metrics\":[{\"name\":\"a\",\"sum\":\
     {\"aggregationTemporality\":1,\"isMonotonic\":true,\"dataPoints\":[\
     {\"asInt\":\"5\",\"startTimeUnixNano\":\"10\",\"timeUnixNano\":\"20\"}]}}]}]}]}";
-
-/// The same with (20, 30].
-pub const LATER: &[u8] = b"POST /v1/metrics HTTP/1.1\r\n\
-    Content-Type: application/json\r\n\
-    Content-Length: 195\r\n\r\n\
-    {\"resourceMetrics\":[{\"scopeMetrics\":[{\"metrics\":[{\"name\":\"a\",\"sum\":\
-    {\"aggregationTemporality\":1,\"isMonotonic\":true,\"dataPoints\":[\
-    {\"asInt\":\"5\",\"startTimeUnixNano\":\"20\",\"timeUnixNano\":\"30\"}]}}]}]}]}";
 
 /// The first of the sum `b`.
 pub const OTHER: &[u8] = b"POST /v1/metrics HTTP/1.1\r\n\
@@ -31,15 +22,3 @@ pub const ACCEPTED: &[u8] = b"HTTP/1.1 200 OK\r\n\
     Content-Length: 2\r\n\
     Connection: close\r\n\r\n\
     {}";
-
-/// A post of this body, with its length.
-pub fn post(alloc: Global, body: &[u8]) -> Result<Vec<u8>, AllocError> {
-    let head = format!(in alloc;
-        "POST /v1/metrics HTTP/1.1\r\nContent-Type: application/json\r\nContent-Length: {}\r\n\r\n",
-        body.len()
-    )?;
-    let mut request = Vec::new(alloc);
-    request.extend_from_slice(head.as_bytes())?;
-    request.extend_from_slice(body)?;
-    Ok(request)
-}
