@@ -9,7 +9,7 @@ The programs are bin/totxegun and bin/gateway, as `make build` and `make core` m
 protobuf-103, gzip-103, grpc-1, grpc-103, by the encoding and the points of a post, over 800 series, and cumulative-103, which is
 protobuf. Parties: gateway, which is the bare one, process and disk, which are the service with this durability and a SQLite file
 as its sink, or with --sink postgres a database of a server that runs beside, whose processor time is not counted; `--set
-TOTXEGUN_FLUSH_EVERY=250ms` has each run deliver. More options of it are in WORDS, and --set sets more of its environment than the
+TOTXEGUN_FLUSH_INTERVAL=250ms` has each run deliver. More options of it are in WORDS, and --set sets more of its environment than the
 shipped unit does, such as LD_PRELOAD. process-tls and disk-tls are the same over TLS 1.3, on connections that shake hands wholly,
 and their ratios are to those without. FOLDER has totxegun and gateway of a revision whose service starts a gateway (1383c49c): it
 is measured as earlier-process and earlier-disk too. The other FILE is a totxegun of another revision, measured as other-process
@@ -112,7 +112,7 @@ def run(party: str, arguments: argparse.Namespace, row: str, clients: int, reque
         else:
             grpc = free_port()
             durability = party.removeprefix(EARLIER).removeprefix(OTHER).removesuffix(OVER_TLS)
-            words = ["--durable", durability, "--listen-grpc", f"127.0.0.1:{grpc}"]
+            words = ["--durability", durability, "--listen-grpc", f"127.0.0.1:{grpc}"]
             if party.endswith(OVER_TLS):
                 words += certificate(arguments.data)
                 connections += OVER_TLS

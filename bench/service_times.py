@@ -2,7 +2,7 @@
 """Prints how long the service takes for what happens seldom, and what it writes.
 
     bench/service_times.py checkpoint|kill|replay|memory|backlog|bytes [--totxegun FILE] [--earlier FOLDER] [--series N,..]
-                           [--posts N,..] [--points N,..] [--among N] [--requests N] [--times N] [--durable WHAT] [--data DIR]
+                           [--posts N,..] [--points N,..] [--among N] [--requests N] [--times N] [--durability WHAT] [--data DIR]
                            [--options WORDS]
 
   checkpoint  the pause of a checkpoint in which each series (1,000, 10,000 and 100,000) has a new point, as the service counts it,
@@ -17,7 +17,7 @@
   bytes       bytes on disk for each point (10,000 posts of 20 points, 800 series, a flush after each tenth of them): of the
               journal, and of the outbox against the bytes that were forwarded
 
-The program is bin/totxegun where none is named, `--durable` is process. FOLDER has totxegun and gateway of a revision whose
+The program is bin/totxegun where none is named, `--durability` is process. FOLDER has totxegun and gateway of a revision whose
 service starts a gateway (1383c49c): checkpoint, kill and replay are done to it too, in turn, with up to 10,000 series. Each is
 done `--times` times (5; a replay and a backlog once): the median, and the least and the most in brackets. What is printed says
 what was measured here, and asserts nothing.
@@ -41,7 +41,7 @@ from testing.loopback import free_port
 from testing.service import ask
 
 # Nothing is flushed but by an order.
-BY_ORDER = ("--flush-every", "1h")
+BY_ORDER = ("--flush-interval", "1h")
 CLIENTS = 8
 SERIES = 800
 # How long nothing is posted before memory is looked at.
@@ -88,7 +88,7 @@ def parties(arguments: argparse.Namespace, series: int) -> Iterator[tuple[str, b
 
 
 def started(arguments: argparse.Namespace, is_earlier: bool) -> contextlib.AbstractContextManager[Measured]:
-    return serving(arguments, *BY_ORDER, "--durable", arguments.durable, is_earlier=is_earlier)
+    return serving(arguments, *BY_ORDER, "--durability", arguments.durable, is_earlier=is_earlier)
 
 
 def checkpoint(arguments: argparse.Namespace) -> None:
@@ -170,14 +170,14 @@ def at_rest(one: Measured) -> str:
     while not one.is_drained():
         time.sleep(0.2)
     time.sleep(REST)
-    resident, book = memory(one.process.pid), metric(one, "book_memory_bytes")
+    resident, book = memory(one.process.pid), metric(one, "memory_bytes")
     return f"{resident / 1e6:.0f} MB are resident, the book counts {book / 1e6:.0f}"
 
 
 def resident(arguments: argparse.Namespace) -> None:
     for series in arguments.series:
         for encoding in ("json", "protobuf"):
-            with serving(arguments, "--durable", arguments.durable, "--most-series", str(max(series, MOST_SERIES))) as one:
+            with serving(arguments, "--durability", arguments.durable, "--max-series", str(max(series, MOST_SERIES))) as one:
                 senders = Senders(one.listen, CLIENTS, Posts("sum", min(series // CLIENTS, MOST_POINTS), series, encoding, "kept"))
                 for _ in range(3):
                     senders.make_series()
@@ -237,7 +237,7 @@ def write_outbox(folder: str, epoch: str, journal: int, requests: int) -> int:
 
 def backlog(arguments: argparse.Namespace) -> None:
     sink = f"http://127.0.0.1:{free_port()}/v1/metrics"
-    with service(arguments, *BY_ORDER, "--durable", arguments.durable, sink=sink) as one:
+    with service(arguments, *BY_ORDER, "--durability", arguments.durable, sink=sink) as one:
         start(one)
         one.end()
         with open(f"{one.data}/version", encoding="ascii") as file:
@@ -271,7 +271,7 @@ def bytes_of(path: str) -> tuple[int, int]:
 
 def bytes_written(arguments: argparse.Namespace) -> None:
     sink = f"http://127.0.0.1:{free_port()}/v1/metrics"
-    with serving(arguments, *BY_ORDER, "--durable", arguments.durable, sink=sink) as one:
+    with serving(arguments, *BY_ORDER, "--durability", arguments.durable, sink=sink) as one:
         senders = Senders(one.listen, CLIENTS, Posts("sum", 20, SERIES, "json", "kept"))
         points = journal = bodies = 0
         for _ in range(10):
@@ -298,7 +298,7 @@ def main() -> None:
     parser.add_argument("--among", type=int, default=SERIES)
     parser.add_argument("--requests", type=int, default=1_000_000)
     parser.add_argument("--times", type=int, default=5)
-    parser.add_argument("--durable", default="process")
+    parser.add_argument("--durability", default="process")
     arguments = parser.parse_args()
     loading.build()
     COMMANDS[arguments.command](arguments)

@@ -7,7 +7,7 @@
 The program is bin/totxegun, as `make build` makes it, where none is named; in about ten minutes it does these parts:
 
   - posts: posts a second, the median and the 99th percentile of a post, and the WAL that the primary writes for one, with 64 and 512
-    senders, by rows json-1, json-20 and protobuf-103. Parties: disk, a folder with --durable disk; store, an instance over a store
+    senders, by rows json-1, json-20 and protobuf-103. Parties: disk, a folder with --durability disk; store, an instance over a store
     of SLOTS slots (12). A ratio is to disk's run beside it.
   - wal: of a post of 1 point (or of the first of ROWS), with each number of senders, the records of that WAL by kind, and posts and
     rows a commit: the same whatever else the machine does, but for how many posts come to a commit.
@@ -91,7 +91,7 @@ def instances(arguments: argparse.Namespace, sink: OtlpSink, names: str, pair: P
     with tempfile.TemporaryDirectory(prefix="machines-", dir=arguments.data) as folder:
         all_of_them: list[Measured] = []
         for name in names:
-            words = ["--durable", "disk"]
+            words = ["--durability", "disk"]
             if pair:
                 words = ["--store", pair.address, "--instance", name, "--peer", f"127.0.0.1:{free_port()}"]
             all_of_them.append(Measured(arguments.totxegun, f"{folder}/{name}", sink.address, *words, *arguments.options))

@@ -31,7 +31,7 @@ def deliver(program: str, server: Server, folder: str, sink: str, requests: int)
     subprocess.run([program, "store", "init", f"{address}/{store}", "--slots", "1"], check=True, capture_output=True)
     where = store if sink == "together" else "apart"
     service = Service(program, f"{folder}/{sink}", f"{address}/{where}", "--store", f"{address}/{store}", "--instance", "a", "--peer",
-                      f"127.0.0.1:{free_port()}", "--store-copies", "1", "--flush-every", "1h")
+                      f"127.0.0.1:{free_port()}", "--store-copies", "1", "--flush-interval", "1h")
     service.start()
     service.wait_ready()
 

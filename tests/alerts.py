@@ -224,7 +224,7 @@ class Causes:
         self.sees("NotFlushed", "nothing that flushes", self.post, lambda: self.service.order("/flush"))
         self.sees("PointsRejected", "a value that is not whole", self.post_foreign, lambda: None)
         self.sees("Quarantine", "a quarantine", lambda: self.service.order("/quarantine/A"),
-                  lambda: self.service.order("/lift/A"))
+                  lambda: self.service.order("/release/A"))
         self.sees("SeriesNearLimit", "many series", self.post_many, self.forget)
         self.sees("DiskNearlyFull", "a file", lambda: take_disk(fill), lambda: os.remove(fill))
 
@@ -316,7 +316,7 @@ def instance_of_store(program: str, folder: str, sink: Sink, closing: contextlib
     subprocess.run([program, "store", "init", store.address, "--slots", "4"], check=True, capture_output=True)
     store.standby.be_standby_of(store.primary)
     peer = f"127.0.0.1:{free_port()}"
-    words = ("--store", store.address, "--instance", "a", "--peer", peer, "--flush-every", "1s")
+    words = ("--store", store.address, "--instance", "a", "--peer", peer, "--flush-interval", "1s")
     return store, Service(program, f"{folder}/instance", sink.address, *words)
 
 
@@ -341,10 +341,10 @@ def look_at_dashboard(checks: Checks, prometheus: Prometheus, page: bytes, has_s
 
 def run(checks: Checks, program: str, folder: str) -> None:
     sink = Sink()
-    every, series = ("--flush-every", "1s"), ("--most-series", str(MOST_SERIES))
+    every, series = ("--flush-interval", "1s"), ("--max-series", str(MOST_SERIES))
     services = [Service(program, f"{folder}/sink", sink.address, *every),
-                Service(program, f"{folder}/senders", f"sqlite:{folder}/senders.db", "--flush-every", "1h",
-                        "--forget-series", "1s", *series),
+                Service(program, f"{folder}/senders", f"sqlite:{folder}/senders.db", "--flush-interval", "1h",
+                        "--series-ttl", "1s", *series),
                 Service(program, f"{folder}/refusals", f"sqlite:{folder}/refusals.db", *every, *series,
                         "--sender-points", str(POINTS))]
     with contextlib.ExitStack() as closing:

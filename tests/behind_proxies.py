@@ -275,7 +275,7 @@ def behind(totxegun: str, checks: Checks, kind: str) -> None:
         at = folder(stack)
         make_names(at)
         sink = SqliteSink(f"{at}/sink.db")
-        service = Service(totxegun, f"{at}/data", sink.address, "--flush-every", "1s", "--tokens", f"{at}/tokens")
+        service = Service(totxegun, f"{at}/data", sink.address, "--flush-interval", "1s", "--tokens", f"{at}/tokens")
         stack.callback(service.kill)
         service.start()
         checks.true(f"{kind}: the service is ready", service.wait_ready(), service.last_lines())

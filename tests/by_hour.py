@@ -165,7 +165,7 @@ def trouble(service: Service, until: float, chance: random.Random, bursts: Burst
 
 def run(checks: Checks, program: str, folder: str, sink: File | Server, seconds: int, seed: int) -> None:
     kind = type(sink).__name__
-    service = Service(program, f"{folder}/data-{kind}", sink.address, "--flush-every", "1s", "--most-series", SERIES)
+    service = Service(program, f"{folder}/data-{kind}", sink.address, "--flush-interval", "1s", "--max-series", SERIES)
     service.start()
     checks.true(f"{kind}: the service is ready", service.wait_ready(), service.last_lines())
     senders = [HourlySender(service, number, f"{kind} {seed}") for number in range(SENDERS)]

@@ -168,7 +168,7 @@ def compare_rounding(checks: Checks, totxegun: str, service: Service, ways: list
 def run(checks: Checks, totxegun: str, folder: str, stack: contextlib.ExitStack) -> list[str]:
     """Which clients are not installed."""
     sink, stop = SqliteSink(f"{folder}/sink.db"), threading.Event()
-    service = Service(totxegun, f"{folder}/data", sink.address, "--flush-every", "1s", "--whole", "s=us")
+    service = Service(totxegun, f"{folder}/data", sink.address, "--flush-interval", "1s", "--whole", "s=us")
     stack.callback(service.kill)
     service.start()
     checks.true("the service is ready", service.wait_ready(PATIENCE), service.last_lines())

@@ -111,7 +111,7 @@ def close(service: Service, hour: str) -> tuple[bool, bytes | int | None]:
     """Closes an hour while posts go on: what the sink has not got yet comes late. What is told of it."""
     service.order("/flush")
     wait_until(service.is_drained)
-    status, text = service.asked("POST", f"/close/{hour}?anyway")
+    status, text = service.asked("POST", f"/close/{hour}?force")
     return status == 200, text
 
 
@@ -123,7 +123,7 @@ def main(program: str, seconds: float = 2.0) -> int:
     checks = Checks()
     with tempfile.TemporaryDirectory(prefix="clock-") as folder:
         clock, path = Clock(folder), f"{folder}/sink.db"
-        service = Service(program, f"{folder}/data", f"sqlite:{path}", "--flush-every", "100ms")
+        service = Service(program, f"{folder}/data", f"sqlite:{path}", "--flush-interval", "100ms")
         service.start(clock.environment())
         service.wait_ready()
 

@@ -74,7 +74,7 @@ class Runs:
         self.fill()
 
     def service(self, folder: str) -> Interrupted:
-        return Interrupted(self.program, f"{folder}/data", f"sqlite:{folder}/sink/sink.db", "--flush-every", "1h", "--operate",
+        return Interrupted(self.program, f"{folder}/data", f"sqlite:{folder}/sink/sink.db", "--flush-interval", "1h", "--admin",
                            f"unix:{folder}/operate")
 
     def fill(self) -> None:
@@ -113,7 +113,7 @@ class Runs:
 
     def make(self, service: Interrupted, folder: str) -> None:
         """The run. Raises Failed."""
-        service.order_done(f"/close/{NAME}?anyway")
+        service.order_done(f"/close/{NAME}?force")
         self.look(folder, 1, (), 0)
         # Also a repeat, whose first answer was lost.
         service.until(lambda: post(service, FIRST + 100, 7), lambda status, text: (status, text) == (200, b"{}"))
@@ -122,7 +122,7 @@ class Runs:
         self.look(folder, 1, (7,), 0)
         service.order_done("/v1/adjustments", series="1", hour=NAME, value=-2, reason="twice")
         self.look(folder, 1, (7,), -2)
-        service.order_done(f"/open/{NAME}")
+        service.order_done(f"/reopen/{NAME}")
         self.look(folder, 0, (7,), -2)
         if service.faults() or os.listdir(f"{folder}/data/dead"):
             raise Failed(f"{service.faults()} {os.listdir(f'{folder}/data/dead')}")

@@ -109,7 +109,7 @@ def as_over_http(checks: Checks, service: Service, client: Client) -> None:
     checks.true("the log names both senders", wait_until(is_told, 10), service.last_lines())
     service.order("/quarantine/A")
     checks.same("a quarantined sender is refused", ("PERMISSION_DENIED", "quarantined"), client.call(in_protobuf(one_point(2))))
-    service.order("/lift/A")
+    service.order("/release/A")
 
 
 def broken_off(checks: Checks, service: Service, client: Client, grpc_port: int) -> None:

@@ -7,7 +7,7 @@ it, and what is not added up is handed on to another receiver.
 First the units: sums and histograms of doubles, in both encodings, over kills and flushes. The sink has what this program
 added up by its own exact numbers, each metric in the one unit that it was first taken in, also where whole numbers came
 first, and where an earlier run was told `--whole off`. Then exponential histograms of drawn values, delta and cumulative, at
-several scales: the sink has each value in that bucket of `--exponential` in which it is. Then `--pass`: a receiver gets the
+several scales: the sink has each value in that bucket of `--exponential` in which it is. Then `--forward-unsupported`: a receiver gets the
 gauges of each post as they came, byte for byte and each once, by way of a second service too; no answer rejects them, no
 metric calls them foreign, and neither a receiver that stalls nor one that is gone holds up a post.
 
@@ -134,7 +134,7 @@ def again(checks: Checks, service: Service, options: Sequence[str] = ()) -> None
 
 def units(checks: Checks, totxegun: str, chance: random.Random, folder: str) -> None:
     sink = f"{folder}/units.db"
-    service = Service(totxegun, f"{folder}/units", f"sqlite:{sink}", "--flush-every", "1h", "--whole", "auto")
+    service = Service(totxegun, f"{folder}/units", f"sqlite:{sink}", "--flush-interval", "1h", "--whole", "auto")
     try:
         service.start()
         checks.true("the service is ready", service.wait_ready(), service.last_lines())
@@ -179,7 +179,7 @@ def units(checks: Checks, totxegun: str, chance: random.Random, folder: str) -> 
 def kept_units(checks: Checks, totxegun: str, folder: str) -> None:
     """A folder of an earlier version, and other options."""
     sink = f"{folder}/kept.db"
-    service = Service(totxegun, f"{folder}/kept", f"sqlite:{sink}", "--flush-every", "1h", "--whole", "off")
+    service = Service(totxegun, f"{folder}/kept", f"sqlite:{sink}", "--flush-interval", "1h", "--whole", "off")
     try:
         service.start()
         service.wait_ready()
@@ -264,7 +264,7 @@ def drawn_values(chance: random.Random) -> list[int]:
 
 def exponential(checks: Checks, totxegun: str, chance: random.Random, folder: str) -> None:
     sink, begin = f"{folder}/exponential.db", 1000
-    service = Service(totxegun, f"{folder}/exponential", f"sqlite:{sink}", "--flush-every", "1h", "--first", "count",
+    service = Service(totxegun, f"{folder}/exponential", f"sqlite:{sink}", "--flush-interval", "1h", "--first", "count",
                       "--exponential", ",".join(map(str, EXPONENTIAL)))
     try:
         service.start()
@@ -348,9 +348,10 @@ def count_of(service: Service, name: str) -> float:
 
 def hands_on(checks: Checks, totxegun: str, chance: random.Random, folder: str) -> None:
     receiver = Receiver()
-    second = Service(totxegun, f"{folder}/second", f"sqlite:{folder}/second.db", "--pass", f"http://127.0.0.1:{receiver.port}")
-    service = Service(totxegun, f"{folder}/first", f"sqlite:{folder}/first.db", "--flush-every", "1h",
-                      "--pass", f"http://127.0.0.1:{second.listen}")
+    second = Service(totxegun, f"{folder}/second", f"sqlite:{folder}/second.db", "--forward-unsupported",
+                     f"http://127.0.0.1:{receiver.port}")
+    service = Service(totxegun, f"{folder}/first", f"sqlite:{folder}/first.db", "--flush-interval", "1h",
+                      "--forward-unsupported", f"http://127.0.0.1:{second.listen}")
     try:
         for one in (second, service):
             one.start()

@@ -159,7 +159,7 @@ def run(checks: Checks, program: str, folder: str, seconds: float, seed: int) ->
     influxdb = InfluxDb(f"{folder}/influxdb")
     port = free_port()
     bridge = Program([sys.executable, BRIDGE, str(port), f"127.0.0.1:{influxdb.port}", DATABASE], f"{folder}/bridge.log")
-    service = Service(program, f"{folder}/data", f"http://127.0.0.1:{port}/v1/metrics", "--flush-every", "1s")
+    service = Service(program, f"{folder}/data", f"http://127.0.0.1:{port}/v1/metrics", "--flush-interval", "1s")
     try:
         influxdb.start()
         is_made = wait_until(lambda: influxdb.ask(f"create database {DATABASE}") is not None)

@@ -384,7 +384,7 @@ def main(arguments: argparse.Namespace) -> int:
         folder = stack.enter_context(tempfile.TemporaryDirectory(prefix="attack-"))
         disk = stack.enter_context(OwnDisk(folder)) if arguments.stalls else None
         sink = SqliteSink(f"{folder}/sink.db")
-        words = ["--flush-every", "2s", "--most-series", str(SERIES), "--book-memory", str(BOOKS), "--most-bytes", str(POSTS)]
+        words = ["--flush-interval", "2s", "--max-series", str(SERIES), "--max-memory", str(BOOKS), "--max-bytes", str(POSTS)]
         service = Service(arguments.totxegun, f"{disk.folder if disk else folder}/data", sink.address, *words)
         service.log = f"{folder}/log"
         try:

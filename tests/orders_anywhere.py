@@ -64,7 +64,7 @@ class Both:
     def instance(self, folder: str, name: str) -> Service:
         peer = f"127.0.0.1:{free_port()}"
         return Service(self.program, f"{folder}/{name}", self.sink, "--store", self.store, "--store-copies", "1", "--instance",
-                       name, "--peer", peer, "--flush-every", "1h", "--operate-tokens", self.tokens)
+                       name, "--peer", peer, "--flush-interval", "1h", "--admin-tokens", self.tokens)
 
     def run(self, *words: str, at: Service | None = None) -> tuple[int, str]:
         """The status of a command, and what it prints; at an instance."""
@@ -139,7 +139,7 @@ def quarantines(checks: Checks, both: Both, first: Service, second: Service) -> 
     checks.same("a sender is quarantined at one", 0, both.in_the_end("quarantine", "A", at=first)[0])
     checks.same("and refused in all slots", [403] * PROCESSES, both.post(second, 10))
     checks.true("the status of the other has it in each", wait_until(lambda: named() == [["A"]] * SLOTS), named())
-    checks.same("it is lifted at the other", 0, both.in_the_end("lift", "A", at=second)[0])
+    checks.same("it is lifted at the other", 0, both.in_the_end("release", "A", at=second)[0])
     checks.same("and taken in all", [200] * PROCESSES, both.post(first, 10))
     for one, who in ((first, "(at "), (second, "(at ")):
         with open(f"{one.data}/acts.jsonl", encoding="utf-8") as file:
@@ -178,7 +178,7 @@ def closes(checks: Checks, both: Both, first: Service, second: Service) -> None:
     checks.true("what is not flushed at the other keeps a month open", code != 0 and "not flushed" in text, text)
     code, text = both.in_the_end("close", month, "--flush", at=second)
     checks.true("it is closed with a flush of both", code == 0, text)
-    checks.same("and opened at the other", 0, both.in_the_end("open", month, at=first)[0])
+    checks.same("and opened at the other", 0, both.in_the_end("reopen", month, at=first)[0])
     checks.same("the sink has all", str(2 * PROCESSES), both.total())
 
 

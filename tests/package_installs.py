@@ -114,7 +114,7 @@ def serve(checks: Checks, what: str, root: str, folder: str, settings: str | Non
         write(f"{folder}/settings.toml", settings)
         words[words.index("--config") + 1] = f"{folder}/settings.toml"
     listen, operate = free_port(), free_port()
-    places = {"TOTXEGUN_LISTEN": f"127.0.0.1:{listen}", "TOTXEGUN_OPERATE": f"127.0.0.1:{operate}"}
+    places = {"TOTXEGUN_LISTEN": f"127.0.0.1:{listen}", "TOTXEGUN_ADMIN": f"127.0.0.1:{operate}"}
     environment = {**without_settings(), **places}
     log = f"{folder}/log"
     with open(log, "wb") as out:
@@ -183,7 +183,7 @@ def look_at_group(checks: Checks, program: str, root: str, folder: str) -> None:
     os.chown(own, user, group)
     listen, operate = free_port(), free_port()
     words = ["serve", "--data", own, "--sink", f"sqlite:{at}/metrics.db", "--listen", f"127.0.0.1:{listen}",
-             "--operate", f"127.0.0.1:{operate}"]
+             "--admin", f"127.0.0.1:{operate}"]
 
     def read(of_group: int, how: str = "?mode=ro") -> tuple[int, str]:
         as_whom = ["setpriv", f"--reuid={NOBODY}", f"--regid={of_group}", "--clear-groups"]
@@ -241,10 +241,10 @@ def look_at_kept_settings(checks: Checks, folder: str, program: str) -> None:
     settings = f"{root}/etc/totxegun/totxegun.toml"
     os.makedirs(os.path.dirname(settings))
     with open(settings, "w", encoding="utf-8") as file:
-        file.write("flush-every = \"7s\"\n")
+        file.write("flush-interval = \"7s\"\n")
     status, said = install(folder, program, root)
     checks.true("settings that were there stay, and it is said", status == 0 and "totxegun.toml.new" in said, said)
-    checks.same("they are as they were", "flush-every = \"7s\"\n", text_of(settings))
+    checks.same("they are as they were", "flush-interval = \"7s\"\n", text_of(settings))
 
 
 def look_at_pages(checks: Checks, root: str, program: str) -> None:
@@ -281,7 +281,7 @@ def look_at_completion(checks: Checks, root: str, program: str, serve_help: str)
         script = f"source {file}; COMP_WORDS=({' '.join(words)}); COMP_CWORD={len(words) - 1}; " \
                  f"_totxegun totxegun {words[-1]!r} {words[-2]!r}; printf '%s\\n' \"${{COMPREPLY[@]}}\""
         return set(ran(["bash", "--norc", "-c", script])[1].split())
-    checks.same("it completes an option", {"--flush-every"}, completed("totxegun", "serve", "--flush"))
+    checks.same("it completes an option", {"--flush-interval"}, completed("totxegun", "serve", "--flush"))
     checks.same("it completes a command", {"quarantine"}, completed("totxegun", "qu"))
     checks.same("what is hidden is not completed", set(), completed("totxegun", "pri"))
     options = {f"--{name}" for name in LONG.findall(serve_help)}

@@ -38,7 +38,7 @@ EARLIER = "0.0.1"
 SETTINGS = "/etc/totxegun/totxegun.toml"
 SERIES = 90_001
 # What the senders post is of 1970.
-WRITTEN = f'most-series = {SERIES}\nkeep-intervals = "forever"\n'
+WRITTEN = f'max-series = {SERIES}\nkeep-intervals = "forever"\n'
 # Where a purge may leave something: what was taken, the manager's own books, and what systemd notes of a unit.
 MAY_STAY = re.compile(r"/var/lib/(private/totxegun|totxegun$|dpkg/|systemd/|private$)|/var/(log|cache)/|/run/|/tmp/|/proc|/sys|/dev"
                       r"|/etc/(machine-id|hostname|\.pwd\.lock|(passwd|group|shadow|gshadow)-)")

@@ -378,7 +378,8 @@ def take_pictures(browser: Browser, folder: str, link: Any) -> None:
 
 def run(checks: Checks, program: str, folder: str, pictures: str | None) -> None:
     database = f"{folder}/metrics.db"
-    service = Service(program, f"{folder}/data", f"sqlite:{database}", "--flush-every", "1h", "--durable", "process", "--cumulative", "off")
+    service = Service(program, f"{folder}/data", f"sqlite:{database}", "--flush-interval", "1h", "--durability", "process",
+                      "--cumulative", "off")
     with contextlib.ExitStack() as stack:
         stack.callback(service.kill)
         service.start()

@@ -319,7 +319,7 @@ class Served:
         stack.callback(self.sink.close)
         data = stack.enter_context(tempfile.TemporaryDirectory(prefix="bodies-"))
         # No flush but those that are ordered.
-        self.service = Service(totxegun, f"{data}/data", self.sink.address, "--sink-protobuf", "--flush-every", "1h",
+        self.service = Service(totxegun, f"{data}/data", self.sink.address, "--sink-protobuf", "--flush-interval", "1h",
                                "--whole", "off", "--cumulative", "off")
         stack.callback(self.service.kill)
         self.service.start()

@@ -217,7 +217,7 @@ class Lite:
             )
             for one in map(Series, range(1, count + 1))
         ]
-        self.file.executemany("insert into series values (?, ?, ?, ?, ?, ?, ?, ?, ?, ?, null)", rows)
+        self.file.executemany("insert into series values (?, randomblob(32), '', ?, ?, ?, ?, ?, ?, ?, ?, ?, null)", rows)
         metrics = [(place + 1, name, "histogram" if place == WAIT else "monotonic") for place, name in enumerate(NAMES)]
         self.file.executemany("insert into metric values (?, ?, ?, '1')", metrics)
 
@@ -452,7 +452,7 @@ class Bill:
         this = datetime.datetime.now(UTC).replace(day=1, hour=0, minute=0, second=0, microsecond=0)
         self.last = (this - datetime.timedelta(days=1)).replace(day=1)
         self.months = self.last.strftime("%Y-%m"), this.strftime("%Y-%m")
-        self.service = Service(program, f"{folder}/bill", sink, "--flush-every", "1h")
+        self.service = Service(program, f"{folder}/bill", sink, "--flush-interval", "1h")
         self.exported: list[tuple[str, str]] = []
 
     def of_today(self, text: str) -> str:

@@ -199,6 +199,9 @@ class Bare:
             raise OSError(f"the gateway does not answer: {text!r} to {body[:200]!r}")
         return status, text
 
+    def order(self, path: str) -> Answer:
+        return ask(self.port, "POST", path.replace("/release/", "/lift/"))
+
     def flushed(self) -> list[bytes]:
         """The requests that a flush forwards."""
         self.back_end.bodies.clear()
@@ -209,12 +212,12 @@ class Bare:
 class Served:
     """A service whose books take so many series, and a sink."""
 
-    def __init__(self, stack: contextlib.ExitStack, program: str, most_series: int) -> None:
+    def __init__(self, stack: contextlib.ExitStack, program: str, max_series: int) -> None:
         self.sink = OtlpSink()
         stack.callback(self.sink.close)
         data = stack.enter_context(tempfile.TemporaryDirectory(prefix="same-"))
-        self.service = Service(program, f"{data}/data", self.sink.address, "--flush-every", "1h", "--durable", "process",
-                               "--most-series", str(most_series), "--sender-series", "1000000",  # a gateway has no shares
+        self.service = Service(program, f"{data}/data", self.sink.address, "--flush-interval", "1h", "--durability", "process",
+                               "--max-series", str(max_series), "--sender-series", "1000000",  # a gateway has no shares
                                "--whole", "off", "--cumulative", "off")
         stack.callback(self.service.kill)
         self.service.start()
@@ -232,6 +235,9 @@ class Served:
         if answer.will_close:
             self.connection = None
         return answer.status, text
+
+    def order(self, path: str) -> Answer:
+        return ask(self.orders, "POST", path)
 
     def flushed(self) -> list[bytes]:
         self.sink.taken.clear()
@@ -413,8 +419,8 @@ class Run:
 
     def order(self) -> None:
         """A quarantine or its end, which may be refused; of who has posted: of others the service says that nothing is known."""
-        path = f"/{self.chance.choice(['quarantine'] + ['lift'] * 8)}/{self.chance.choice(sorted(self.last) or SENDERS[:1])}"
-        found = {name: ask(party.orders, "POST", path) for name, party in self.parties().items()}
+        path = f"/{self.chance.choice(['quarantine'] + ['release'] * 8)}/{self.chance.choice(sorted(self.last) or SENDERS[:1])}"
+        found = {name: party.order(path) for name, party in self.parties().items()}
         if len({status for status, _ in found.values()}) > 1:
             self.wrong.append((path, found))
         self.answers[f"{found['gateway'][0]} to an order"] += 1
@@ -443,7 +449,7 @@ class Run:
                 break
         for sender in SENDERS:
             for party in self.parties().values():
-                ask(party.orders, "POST", f"/lift/{sender}")
+                party.order(f"/release/{sender}")
 
     def reports(self) -> dict[str, tuple[list[str], list[str]]]:
         return {name: series_of(ask(party.orders, "GET", "/report")[1]) for name, party in self.parties().items()}
@@ -466,7 +472,7 @@ class Run:
         # Few at a time: a post may bring no more than there is room for.
         answers = [service.post(body(first, 200), headers) for first in range(MOST_SERIES, 2 * MOST_SERIES, 200)]
         statuses = [status for status, _ in answers]
-        self.checks.true("over --most-series the service takes no post with new series", is_room and {503} == set(statuses[-5:])
+        self.checks.true("over --max-series the service takes no post with new series", is_room and {503} == set(statuses[-5:])
                          and all(b"too many series" in text for status, text in answers if status != 200), answers[-5:])
 
     def look(self, what: str) -> None:

@@ -240,9 +240,9 @@ def rounds(checks: Checks, program: str, folder: str, service: Service, grpc: in
 
 def run(checks: Checks, totxegun: str, seconds: float, folder: str, program: str, sink: Any) -> None:
     grpc, receiver = free_port(), Receiver()
-    service = Service(totxegun, f"{folder}/data", sink.address, "--flush-every", "1s", "--listen-grpc",
-                      f"127.0.0.1:{grpc}", "--sender-from", "service.instance.id", "--log-foreign", "2",
-                      "--pass", f"http://127.0.0.1:{receiver.port}")
+    service = Service(totxegun, f"{folder}/data", sink.address, "--flush-interval", "1s", "--listen-grpc",
+                      f"127.0.0.1:{grpc}", "--sender-from", "service.instance.id", "--log-rejected", "2",
+                      "--forward-unsupported", f"http://127.0.0.1:{receiver.port}")
     try:
         service.start()
         checks.true("the service is ready", service.wait_ready(), service.last_lines())

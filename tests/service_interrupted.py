@@ -20,7 +20,7 @@ Then the service is started without the library, and the run goes on where it wa
 answered, each order is given again. At the end the sink, a SQLite file, has each point once that a sender was told is
 taken, and answers what it has already as the first time, late repeats too; and the service has found nothing that must not be.
 
-Others, of each sixth of such calls and in the ways in which no power is lost, are with `--durable process`.
+Others, of each sixth of such calls and in the ways in which no power is lost, are with `--durability process`.
 A last run forgets what was synced, and has to fail: so a loss of power is seen.
 
 A line for each run that failed; the last line counts those that passed and failed, and the status is 0 where none failed.
@@ -49,7 +49,7 @@ SECONDS = 60
 SENDERS = "ABCD"
 # A letter is a post of this sender. What comes after it is ordered once the post is answered or interrupted.
 SCRIPT = ("A", "B", "A", "D/flush", "B", "C", "/quarantine/sender-B", "A", "/flush", "C", "A", "/flush", "C",
-          "/lift/sender-B", "B", "/flush", "A", "B", "C")
+          "/release/sender-B", "B", "/flush", "A", "B", "C")
 # Of memory, where nothing else is said: what is durable is what the library has seen synced.
 FOLDERS = "/dev/shm" if os.access("/dev/shm", os.W_OK) and not os.environ.get("TMPDIR") else None
 
@@ -131,8 +131,8 @@ class Run:
         os.mkdir(self.data)
         os.mkdir(self.shadow)
         self.sink = SqliteSink(f"{folder}/sink.db")
-        self.service = Service(program, self.data, self.sink.address, "--durable", durable, "--flush-every", "1h",
-                               "--operate", f"unix:{folder}/operate")
+        self.service = Service(program, self.data, self.sink.address, "--durability", durable, "--flush-interval", "1h",
+                               "--admin", f"unix:{folder}/operate")
         self.senders = {name: Sender(self.service, name, seconds=5) for name in SENDERS}
         self.library = library
         # The call at which each start is interrupted; later starts are without the library.
@@ -304,7 +304,7 @@ def main(program: str, every: int = 1, ways: Sequence[str] = WAYS) -> int:
     with tempfile.TemporaryDirectory(dir=FOLDERS, prefix="interrupted-") as folder:
         runs = Runs(program, build(folder), folder)
         calls, written = (runs.one(0, "before", durable) for durable in ("disk", "process"))
-        print(f"note: {len(calls)} calls in a run without interruption, {len(written)} with --durable process", flush=True)
+        print(f"note: {len(calls)} calls in a run without interruption, {len(written)} with --durability process", flush=True)
         places = [(*place, "disk") for place in places_of(calls, every, ways)]
         places += [(*place, "process") for place in places_of(written, every * 6, [way for way in ways if way not in POWER])]
         with concurrent.futures.ThreadPoolExecutor(os.cpu_count()) as pool:

@@ -1,10 +1,10 @@
 #!/usr/bin/env python3
 """The service under load, while it is killed and stopped.
 
-    tests/service_load.py TOTXEGUN [SECONDS] [SEED] [--most-series N,..] [--stalls]
+    tests/service_load.py TOTXEGUN [SECONDS] [SEED] [--max-series N,..] [--stalls]
 
 Four runs of a quarter of the seconds each (60): durable `disk` and `process`, with a sink of OTLP and a SQLite file. Each
-start has another number of books now and then, by a --most-series of those that are named (8000, 30000 and 100000).
+start has another number of books now and then, by a --max-series of those that are named (8000, 30000 and 100000).
 
 Senders post sums and histograms, in JSON and protobuf, packed or not, on connections that they keep, and repeat each post
 until it is answered; now and then one posts to another's series, and is refused. Meanwhile the service is killed, also twice
@@ -50,10 +50,10 @@ NO_ANSWER = b"the disk does not answer"
 class Trouble:
     """What is done to the service while senders post: one event after another, drawn by chance."""
 
-    def __init__(self, service: Service, senders: list[Sender], seed: str, most_series: list[int], disk: OwnDisk | None) -> None:
+    def __init__(self, service: Service, senders: list[Sender], seed: str, max_series: list[int], disk: OwnDisk | None) -> None:
         self.service = service
         self.senders = senders
-        self.most_series = most_series
+        self.max_series = max_series
         self.chance = random.Random(f"trouble {seed}")
         self.quarantined: set[str] = set()
         self.counts: dict[str, int] = {}
@@ -92,7 +92,7 @@ class Trouble:
 
     def change_books(self) -> None:
         """Another number of them, by two starts of which the first one is killed."""
-        self.service.words[-1] = str(self.chance.choice(self.most_series))
+        self.service.words[-1] = str(self.chance.choice(self.max_series))
         self.kill_twice()
 
     def stop_service(self) -> None:
@@ -143,7 +143,7 @@ class Trouble:
     def lift(self) -> None:
         """What was ordered without an answer may be done or not, so it is ordered again at the end."""
         if self.quarantined:
-            self.service.order(f"/lift/{self.chance.choice(sorted(self.quarantined))}", 5)
+            self.service.order(f"/release/{self.chance.choice(sorted(self.quarantined))}", 5)
 
     def lift_all(self) -> bool:
         """Whether none is quarantined, by what the service says."""
@@ -151,7 +151,7 @@ class Trouble:
             status = self.service.status()
             left = [sender for slot in status["slots"] for sender in slot["quarantined"]] if status else [None]
             for sender in filter(None, left):
-                self.service.order(f"/lift/{sender}", 5)
+                self.service.order(f"/release/{sender}", 5)
             return not left
         return wait_until(is_done)
 
@@ -182,14 +182,14 @@ def post_meanwhile(senders: Sequence[Sender], is_over: Callable[[], object],
     return threads
 
 
-def load(checks: Checks, what: str, service: Service, sink: Sink, seconds: float, seed: str, most_series: list[int],
+def load(checks: Checks, what: str, service: Service, sink: Sink, seconds: float, seed: str, max_series: list[int],
          disk: OwnDisk | None) -> list[Sender]:
     """Senders and trouble at once; whether all senders were answered."""
     service.start()
     checks.true(f"{what}: it is ready", service.wait_ready(), service.last_lines())
     until = time.monotonic() + seconds
     senders = [Sender(service, number, seed) for number in range(SENDERS)]
-    trouble = Trouble(service, senders, seed, most_series, disk)
+    trouble = Trouble(service, senders, seed, max_series, disk)
     threads = post_meanwhile(senders, lambda: time.monotonic() > until, lambda sender: intrude(sender, senders))
     sink.mood(MOODS)
     trouble.go_on(until)
@@ -261,7 +261,7 @@ def compare(checks: Checks, what: str, sink: Told, senders: Sequence[Sender]) ->
     checks.same(f"{what}: the sink has what the senders were told, {len(wanted)} series", [], differences(wanted, found))
 
 
-def run(checks: Checks, program: str, durable: str, kind: str, seconds: float, seed: str, most_series: list[int],
+def run(checks: Checks, program: str, durable: str, kind: str, seconds: float, seed: str, max_series: list[int],
         stalls: bool) -> None:
     what = f"{durable}, {kind}"
     with contextlib.ExitStack() as stack:
@@ -269,12 +269,12 @@ def run(checks: Checks, program: str, durable: str, kind: str, seconds: float, s
         disk = stack.enter_context(OwnDisk(folder)) if stalls else None
         sinks: dict[str, Callable[[], Sink]] = {"OTLP": lambda: OtlpSink(seed), "SQLite": lambda: SqliteSink(f"{folder}/sink.db")}
         sink = sinks[kind]()
-        words = ["--durable", durable, "--flush-every", "1s", "--most-series", str(most_series[0])]
+        words = ["--durability", durable, "--flush-interval", "1s", "--max-series", str(max_series[0])]
         place = folder if disk is None else disk.folder
         service = Service(program, f"{place}/data", sink.address, *words)
         service.log = f"{folder}/log"
         try:
-            senders = load(checks, what, service, sink, seconds, seed, most_series, disk)
+            senders = load(checks, what, service, sink, seconds, seed, max_series, disk)
             end(checks, what, service, sink, senders)
         finally:
             service.kill()
@@ -286,7 +286,7 @@ def main(arguments: argparse.Namespace) -> int:
     print(f"note: seed {arguments.seed}", flush=True)
     for durable, kind in (("disk", "OTLP"), ("disk", "SQLite"), ("process", "OTLP"), ("process", "SQLite")):
         run(checks, arguments.totxegun, durable, kind, arguments.seconds / 4, f"{arguments.seed} {durable} {kind}",
-            arguments.most_series, arguments.stalls)
+            arguments.max_series, arguments.stalls)
     return checks.end()
 
 
@@ -295,6 +295,6 @@ if __name__ == "__main__":
     parser.add_argument("totxegun", type=lambda word: os.path.abspath(word))
     parser.add_argument("seconds", type=float, nargs="?", default=SECONDS)
     parser.add_argument("seed", nargs="?", default="1")
-    parser.add_argument("--most-series", type=lambda text: [int(word) for word in text.split(",")], default=[8_000, 30_000, 100_000])
+    parser.add_argument("--max-series", type=lambda text: [int(word) for word in text.split(",")], default=[8_000, 30_000, 100_000])
     parser.add_argument("--stalls", action="store_true")
     sys.exit(main(parser.parse_args()))

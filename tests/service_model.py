@@ -475,13 +475,14 @@ def turned(rules: Rules, state: State) -> State:
 
 
 def commit(rules: Rules, state: State) -> Events:
-    """What was taken is written as one group, which names the segment from which posts are in no group."""
+    """What was taken is written as one group, which names the segment from which posts are in no group, and the owners of new series."""
     if not state.checkpoint or state.checkpoint.step != Step.TURNED:
         return
     needed = (one for one in state.journal if one.segment < state.segment or one.is_held)
     if rules.journal_before_outbox and any(record.sync in (Sync.QUEUED, Sync.WRITTEN) for record in needed):
         return
     outbox = state.outbox._replace(requests=state.outbox.requests + state.checkpoint.group, journal=state.segment)
+    outbox = with_owners(outbox, state.journal)
     yield "the group is written", state._replace(outbox=outbox, checkpoint=state.checkpoint._replace(step=Step.COMMITTED))
     left = spend(state, "faults")
     if left and not rules.groups_are_whole:
@@ -508,11 +509,10 @@ def sync_outbox(rules: Rules, state: State) -> Events:
 
 
 def end_checkpoint(rules: Rules, state: State) -> Events:
-    """The owners of new series are found in the segments, which are then deleted."""
+    """The segments of the group are deleted."""
     if state.checkpoint and state.checkpoint.step == Step.SYNCED:
-        outbox = with_owners(state.outbox, state.journal)
-        journal = tuple(record for record in state.journal if record.segment >= outbox.journal)
-        yield "the checkpoint ends", state._replace(outbox=outbox, synced_outbox=outbox, journal=journal, checkpoint=None)
+        journal = tuple(record for record in state.journal if record.segment >= state.outbox.journal)
+        yield "the checkpoint ends", state._replace(journal=journal, checkpoint=None)
 
 
 def frontier(outbox: Outbox, series: int) -> int | None:
@@ -525,7 +525,7 @@ def frontier(outbox: Outbox, series: int) -> int | None:
 
 
 def with_owners(outbox: Outbox, journal: tuple[Record, ...]) -> Outbox:
-    """The posts of a group are in the journal, and say who owns its series."""
+    """The posts of a group, as the journal has them, say who owns its series."""
     owners = list(outbox.owners)
     for series in SERIES:
         if owners[series] is None and frontier(outbox, series) is not None:
@@ -650,7 +650,7 @@ def start_service(rules: Rules, state: State) -> Events:
     journal, synced_outbox = state.journal, state.synced_outbox
     if rules.files_are_synced_before_they_are_believed:
         journal = tuple(record._replace(sync=Sync.SYNCED) for record in journal)
-    outbox = with_owners(state.outbox, journal)
+    outbox = state.outbox
     if rules.files_are_synced_before_they_are_believed:
         synced_outbox = outbox
     known = outbox.journal if rules.segments_are_numbered_after_the_outbox else 0

@@ -96,7 +96,7 @@ class Instance(Service):
     def __init__(self, machine: Machine, folder: str, store: Any, sink: Any, clock: Clock, programs: Sequence[str],
                  note: Callable[[str], object]) -> None:
         options = ["--store", store.address, "--instance", machine.name, "--peer", f"{machine.address}:{PEER}", "--peer-plain"]
-        options += ["--flush-every", "1s", "--most-ahead", "off"]
+        options += ["--flush-interval", "1s", "--max-ahead", "off"]
         super().__init__(programs[0], f"{folder}/{machine.name}", sink.address, *options, host=machine.address, ports=(LISTEN, OPERATE),
                          before=machine.on())
         self.machine, self.clock, self.programs = machine, clock, programs

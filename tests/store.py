@@ -70,7 +70,7 @@ def try_starts(checks: Checks, program: str, store: Pair, folder: str) -> None:
 
     peer, listen, operate = (f"127.0.0.1:{free_port()}" for _ in range(3))
     words = ["serve", "--data", f"{folder}/x", "--store", store.address, "--instance", "x", "--peer", peer, "--listen", listen,
-             "--operate", operate]
+             "--admin", operate]
     sink = ["--sink", "http://127.0.0.1:1/"]
     for what, line, part in (("a store that was not made", [*words, *sink], "store init"),
                              ("a SQLite file", [*words, "--sink", f"sqlite:{folder}/s"], "SQLite file"),
@@ -93,7 +93,7 @@ class Addressed(Protocol):
 def instance(program: str, folder: str, name: str, store: Pair, sink: Addressed) -> Service:
     peer = f"127.0.0.1:{free_port()}"
     return Service(program, f"{folder}/{name}", sink.address, "--store", store.address, "--instance", name, "--peer", peer,
-                   "--flush-every", "1s")
+                   "--flush-interval", "1s")
 
 
 def trouble(chance: random.Random, store: Pair, instances: Sequence[Service]) -> str:
@@ -261,7 +261,7 @@ def try_lost_rows(checks: Checks, program: str, store: Pair, folder: str, sink: 
 def try_repeat_without_its_standby(checks: Checks, program: str, store: Pair, folder: str) -> None:
     """A request whose answer was lost, and that a restart of the sink's server shows, is taken once the standby has it too."""
     sink = f"postgres://postgres@{store.primary.host}:{store.primary.port}/postgres"
-    service = Service(program, f"{folder}/sink", sink, "--flush-every", "1s")
+    service = Service(program, f"{folder}/sink", sink, "--flush-interval", "1s")
     service.start()
     try:
         checks.true("a service with a PostgreSQL sink is ready", service.wait_ready(), service.last_lines())

@@ -125,7 +125,7 @@ class Filled:
 
     def __init__(self, program: str, folder: str, checks: Checks) -> None:
         self.sink, self.data = OtlpSink(), f"{folder}/filled"
-        service = Service(program, self.data, self.sink.address, "--flush-every", "1h", "--cumulative", "on")
+        service = Service(program, self.data, self.sink.address, "--flush-interval", "1h", "--cumulative", "on")
         service.start()
         checks.true("a service fills a folder", service.wait_ready(), service.last_lines())
         self.senders: list[OfSlots | Running] = [OfSlots(service, number) for number in range(SENDERS)]
@@ -335,7 +335,7 @@ class Moves:
 
     def starts_on(self, *place: str) -> bool:
         """Whether a service would start there."""
-        words = [*place, "--sink", "http://127.0.0.1:1/", "--listen", f"127.0.0.1:{free_port()}", "--operate", f"127.0.0.1:{free_port()}"]
+        words = [*place, "--sink", "http://127.0.0.1:1/", "--listen", f"127.0.0.1:{free_port()}", "--admin", f"127.0.0.1:{free_port()}"]
         if "--store" in words:
             words += ["--instance", "x", "--peer", f"127.0.0.1:{free_port()}", *ONE_COPY]
         with tempfile.TemporaryFile("w+") as log, subprocess.Popen([self.program, "serve", *words], stdout=log, stderr=log) as process:
@@ -386,11 +386,11 @@ class Moves:
         sink = OtlpSink()
         sink.taken = dict(self.filled.taken)
         over = Service(self.program, data, sink.address, "--store", address, "--instance", "a", "--peer",
-                       f"127.0.0.1:{free_port()}", "--cumulative", "on", "--flush-every", "1h", "--new-sink", *ONE_COPY)
+                       f"127.0.0.1:{free_port()}", "--cumulative", "on", "--flush-interval", "1h", "--new-sink", *ONE_COPY)
         over.start()
         try:
             held = self.filled.held.name
-            if not over.wait_ready() or not wait_until(lambda: over.order(f"/lift/{held}") == 200):
+            if not over.wait_ready() or not wait_until(lambda: over.order(f"/release/{held}") == 200):
                 raise Failed(f"an instance: {over.last_lines()}")
             letters = json.loads(over.asked("GET", "/dead")[1])
             if len(letters) != len(os.listdir(f"{self.filled.data}/dead")):
@@ -445,7 +445,7 @@ def go_there(checks: Checks, program: str, moves: Moves, filled: Filled, folder:
     shutil.copytree(filled.data, data, ignore=LEFT)
     name = moves.database()
     address = moves.address(name)
-    running = Service(program, data, filled.sink.address, "--cumulative", "on", "--flush-every", "1h")
+    running = Service(program, data, filled.sink.address, "--cumulative", "on", "--flush-interval", "1h")
     running.start()
     running.wait_ready()
     checks.true("a folder in use is refused", "in use" in moves.move(["--from", data, address])[1], "")
@@ -453,16 +453,16 @@ def go_there(checks: Checks, program: str, moves: Moves, filled: Filled, folder:
     shutil.rmtree(data)
     shutil.copytree(filled.data, data, ignore=LEFT)
     peer = f"127.0.0.1:{free_port()}"
-    options = ["--store", address, "--instance", "a", "--peer", peer, "--cumulative", "on", "--flush-every", "1h", *ONE_COPY]
+    options = ["--store", address, "--instance", "a", "--peer", peer, "--cumulative", "on", "--flush-interval", "1h", *ONE_COPY]
     status, text = run(program, "serve", "--data", data, "--sink", filled.sink.address, *options, "--listen", f"127.0.0.1:{free_port()}",
-                       "--operate", f"127.0.0.1:{free_port()}")
+                       "--admin", f"127.0.0.1:{free_port()}")
     checks.true("no instance starts in a folder with what nobody would deliver",
                 status == 1 and f"totxegun store move --from {data} {address}" in text, text)
     status, text, _ = moves.move(["--from", data, address])
     checks.true("it is moved", status == 0 and "counts in its place" in text, text)
     checks.true("no service starts on the folder any more", not moves.starts_on("--data", data), "it went on")
     status, text = run(program, "serve", "--data", f"{folder}/x", "--sink", "http://127.0.0.1:1/", *options, "--listen",
-                       f"127.0.0.1:{free_port()}", "--operate", f"127.0.0.1:{free_port()}")
+                       f"127.0.0.1:{free_port()}", "--admin", f"127.0.0.1:{free_port()}")
     checks.true("another sink than the folder's is refused", status == 1 and "the instances of this store deliver to" in text, text)
     over = Service(program, data, filled.sink.address, *options)  # what it had is in the store
     filled.go_on(checks, "over the store", over)
@@ -471,7 +471,7 @@ def go_there(checks: Checks, program: str, moves: Moves, filled: Filled, folder:
         over.asked("POST", f"/dead/{letter['key']}/resend")
     checks.true("a request that was refused is sent again", letters, letters)
     filled.compare(checks, "over the store", over, False)
-    over.order(f"/lift/{filled.held.name}")
+    over.order(f"/release/{filled.held.name}")
     post_all([filled.held])
     filled.compare(checks, "with what was held", over, True)
     checks.same("it ends", 0, over.end()[0])

@@ -63,7 +63,7 @@ class Instance(Service):
     def __init__(self, program: str, folder: str, name: str, store: Store, sink: str, *words: str) -> None:
         self.name, self.peer = name, f"localhost:{free_port()}"
         super().__init__(program, f"{folder}/{name}", sink, "--store", store.address, "--store-copies", "1", "--instance", name,
-                         "--peer", self.peer, "--flush-every", "1s", *words)
+                         "--peer", self.peer, "--flush-interval", "1s", *words)
 
     def post(self, resource: str, value: int | float, name: str = "a", unit: str = "1", sender: str = "s") -> Said:
         """The status and the text of an answer, or None."""
@@ -146,7 +146,7 @@ def ended(checks: Checks, what: str, *instances: Instance) -> None:
 def try_refused(checks: Checks, program: str, folder: str, store: Store, sink: OtlpSink) -> None:
     """Starts that end at once, each with what to do."""
     words = ["serve", "--data", f"{folder}/r", "--store", store.address, "--store-copies", "1", "--instance", "r", "--listen",
-             f"127.0.0.1:{free_port()}", "--operate", f"127.0.0.1:{free_port()}", "--sink", sink.address]
+             f"127.0.0.1:{free_port()}", "--admin", f"127.0.0.1:{free_port()}", "--sink", sink.address]
     port = free_port()
     wrong = store.address.rpartition("/")[0] + "/nowhere"
     for what, line, status, part in (
@@ -348,10 +348,10 @@ def try_sink(checks: Checks, program: str, folder: str, store: Store, sink: Otlp
 
 
 def try_clock(checks: Checks, program: str, folder: str, store: Store, sink: OtlpSink) -> None:
-    """Of two one's clock is set ahead by more than a tenth of --most-ahead, and right again."""
+    """Of two one's clock is set ahead by more than a tenth of --max-ahead, and right again."""
     os.mkdir(f"{folder}/clock")
     clock = Clock(f"{folder}/clock")
-    one, other = (Instance(program, folder, name, store, sink.address, "--most-ahead", "100s") for name in "ab")
+    one, other = (Instance(program, folder, name, store, sink.address, "--max-ahead", "100s") for name in "ab")
     one.start()
     other.start(clock.environment())
     checks.true("two have their slots", settled(store, "a", "b"), [one.last_lines(), other.last_lines()])

@@ -122,7 +122,7 @@ def refusals(checks: Checks, program: str, at: str) -> None:
             ("another's key", [*tls[:3], f"{at}/ca.key"], 1, "not that of the first certificate"),
             ("no tokens", ["--tokens", f"{at}/none"], 1, "--tokens can't be used"),
             ("roots that are none", [*tls, "--client-ca", f"{at}/server.key"], 1, "--client-ca has no certificate")):
-        words = [program, "serve", "--data", f"{at}/refused", "--operate", "127.0.0.1:0", *words]
+        words = [program, "serve", "--data", f"{at}/refused", "--admin", "127.0.0.1:0", *words]
         words += [] if "--listen" in words else ["--listen", "127.0.0.1:0"]
         try:
             done = subprocess.run(words, capture_output=True, text=True, timeout=30, check=False)
@@ -388,7 +388,7 @@ def run(checks: Checks, program: str, seconds: float, folder: str) -> None:
     refusals(checks, program, at)
     shutil.copy(f"{at}/roots", f"{at}/clients")
     root(at, "stranger-alone")
-    words = ["--flush-every", "1s", "--listen-grpc", f"0.0.0.0:{callers}", "--tokens", f"{at}/tokens", "--client-ca", f"{at}/clients",
+    words = ["--flush-interval", "1s", "--listen-grpc", f"0.0.0.0:{callers}", "--tokens", f"{at}/tokens", "--client-ca", f"{at}/clients",
              "--tls-cert", f"{at}/server.pem", "--tls-key", f"{at}/server.key"]
     service = Service(program, f"{folder}/data", f"sqlite:{folder}/sink.db", *words)
     clients = Clients(at, service, callers)

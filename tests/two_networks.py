@@ -197,7 +197,7 @@ def run(checks: Checks, totxegun: str, seconds: float, folder: str, stack: conte
     token = next((line for line in made.stderr.splitlines() if re.fullmatch(r"[\w-]{43}", line)), None)
     checks.true("one of them shows a token", token, made.stderr[-800:])
     with open(f"{folder}/log", "wb") as log:
-        words = on(gateway, totxegun, "serve", "--data", data, "--listen-grpc", f"0.0.0.0:{GRPC}", "--flush-every", "1s",
+        words = on(gateway, totxegun, "serve", "--data", data, "--listen-grpc", f"0.0.0.0:{GRPC}", "--flush-interval", "1s",
                    "--config", f"{folder}/totxegun.toml", "--keep-intervals", "forever")
         service = subprocess.Popen(words, stdout=log, stderr=log)
     stack.callback(service.kill)

@@ -32,7 +32,7 @@ from pages import Browser, chromium
 KEY = "0-a-1"
 SECRET = "s3cret-of-a-letter"
 # As `Route::of` has them.
-ROUTES = [("POST", path) for path in ("/flush", "/checkpoint", "/quarantine/A", "/lift/B", f"/dead/{KEY}/resend", f"/dead/{KEY}/drop")]
+ROUTES = [("POST", path) for path in ("/flush", "/quarantine/A", "/release/B", f"/dead/{KEY}/resend", f"/dead/{KEY}/drop")]
 ROUTES += [("GET", path) for path in ("/report", "/metrics", "/totals", "/status", "/dead", f"/dead/{KEY}", "/", "/series", "/page.js",
                                       "/healthz", "/readyz", "/startupz")]
 FOR_ALL = ("/healthz", "/readyz", "/startupz")
@@ -148,7 +148,7 @@ def run(checks: Checks, program: str, folder: str) -> None:
     token = made.stderr.split()[-1]
     with open(f"{folder}/operators", "w", encoding="utf-8") as file:
         file.write(made.stdout)
-    service = Service(program, f"{folder}/data", f"sqlite:{folder}/sink.db", "--flush-every", "1h", "--operate-tokens",
+    service = Service(program, f"{folder}/data", f"sqlite:{folder}/sink.db", "--flush-interval", "1h", "--admin-tokens",
                       f"{folder}/operators")
     service.start()
     checks.true("the service is ready", service.wait_ready(), service.last_lines())
@@ -160,7 +160,7 @@ def run(checks: Checks, program: str, folder: str) -> None:
         body = in_json([("a", 10, 20, 1)])
         ask(service.listen, "POST", "/v1/metrics", body, {"Content-Type": JSON, "x-sender": "A"})
         checks.same("an order by the socket", 200, service.order("/quarantine/B"))
-        by_token = ask(service.operate, "POST", "/lift/C", headers={"Authorization": f"Bearer {token}"})
+        by_token = ask(service.operate, "POST", "/release/C", headers={"Authorization": f"Bearer {token}"})
         checks.same("the token is one", (200, True), (by_token[0], b"it is not quarantined" in by_token[1]))
         before = state(service)
         browser = Browser(folder, service.operate)
@@ -188,7 +188,7 @@ def run(checks: Checks, program: str, folder: str) -> None:
         page = service.asked("GET", "/metrics")[1].decode()
         checks.true("nothing was flushed", 'totxegun_checkpoints_total{outcome="done"} 0' in page,
                     [line for line in page.splitlines() if "checkpoints" in line])
-        checks.true("it still takes orders", wait_until(lambda: service.order("/lift/B") == 200), service.last_lines())
+        checks.true("it still takes orders", wait_until(lambda: service.order("/release/B") == 200), service.last_lines())
     finally:
         service.kill()
 

@@ -34,20 +34,21 @@ def work(totxegun: str, checks: Checks, stack: contextlib.ExitStack) -> None:
         return
     at = folder(stack)
     os.chmod(at, 0o755)
-    service = Service(totxegun, f"{at}/data", f"sqlite:{at}/sink.db", "--operate", f"unix:{at}/operate", before=users_of_the_unit())
+    service = Service(totxegun, f"{at}/data", f"sqlite:{at}/sink.db", "--admin", f"unix:{at}/operate", before=users_of_the_unit())
     service.start()
     stack.callback(service.kill)
     checks.true("it is ready", service.wait_ready(), service.last_lines())
     without = {name: text for name, text in os.environ.items() if name != "SUDO_USER"}
     for user, sender, behind in ((0, "A", {}), (USER, "B", {"SUDO_USER": "ann"}), (0, "C", {"SUDO_USER": "ann"})):
-        asks = [totxegun, "quarantine", sender, "--operate", f"unix:{at}/operate"]
+        asks = [totxegun, "quarantine", sender, "--admin", f"unix:{at}/operate"]
         said = subprocess.run(["setpriv", f"--reuid={user}", "--regid=0", "--clear-groups", *asks], capture_output=True, text=True,
                               check=False, env=dict(without, **behind))
-        checks.same(f"the order of user {user} is taken", (0, "done\n"), (said.returncode, said.stdout or said.stderr))
+        wanted = (0, f"done: nothing of {sender} is known yet: its posts will be refused\n")
+        checks.same(f"the order of user {user} is taken", wanted, (said.returncode, said.stdout or said.stderr))
     with open(f"{at}/data/acts.jsonl", encoding="utf-8") as file:
         acts = [json.loads(line) for line in file]
-    wanted = {("A", "root"), ("B", f"uid {USER}"), ("C", "ann (as root)")}
-    checks.same("each act has who gave it", wanted, {(act["of"], act["who"]) for act in acts})
+    names = {("A", "root"), ("B", f"uid {USER}"), ("C", "ann (as root)")}
+    checks.same("each act has who gave it", names, {(act["of"], act["who"]) for act in acts})
     checks.same("SIGTERM ends it", 0, service.end()[0])
 
 

@@ -204,8 +204,7 @@ def commands(line: dict[str, Any]) -> str:
     those = shared(line)
     for names, command in all_commands(line):
         own = [option for option in command["options"] if option not in those]
-        also = "".join(f" , Cm {alias}" for alias in command["aliases"])
-        out += [f".It Cm {' '.join(names)}{also}", in_mdoc(with_point(command["about"]))]
+        out += [f".It Cm {' '.join(names)}", in_mdoc(with_point(command["about"]))]
         if names != ("serve",) and any(option["help"] for option in own):
             out += [".Bl -tag -width Ds", *map(item, own), ".El"]
     return "\n".join(out)

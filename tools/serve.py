@@ -58,8 +58,8 @@ def listens(port: int) -> bool:
 
 def serve(program: str, port: int) -> int:
     """Runs the service until it ends, or is interrupted, and returns its status."""
-    words = ["--data", f"{FOLDER}/data", "--flush-every", "10s"]
-    words += ["--listen", f"127.0.0.1:{port}", "--operate", f"127.0.0.1:{port + 1}"]
+    words = ["--data", f"{FOLDER}/data", "--flush-interval", "10s"]
+    words += ["--listen", f"127.0.0.1:{port}", "--admin", f"127.0.0.1:{port + 1}"]
     service = subprocess.Popen([program, "serve", *words], stdin=subprocess.DEVNULL, start_new_session=True)
     try:
         while service.poll() is None and not listens(port):

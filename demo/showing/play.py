@@ -47,8 +47,8 @@ class Play:
         self.sender = sender
         self.database = Database()
         self.receiver = Receiver()
-        self.service = Service(totxegun, f"{folder}/data", self.database.address, "--flush-every", "1s",
-                               "--pass", f"http://127.0.0.1:{self.receiver.port}")
+        self.service = Service(totxegun, f"{folder}/data", self.database.address, "--flush-interval", "1s",
+                               "--forward-unsupported", f"http://127.0.0.1:{self.receiver.port}")
 
     def begin(self) -> None:
         self.database.start()

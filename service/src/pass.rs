@@ -1,4 +1,4 @@
-//! Hands points that are outside the profile to another OTLP receiver (`--pass`): at most once, and nobody waits for it.
+//! Hands points that are outside the profile to another OTLP receiver (`--forward-unsupported`): at most once, and nobody waits for it.
 //!
 //! What is handed on waits in memory, of which there is a bound; what finds no room there, and what the receiver does not
 //! take, is counted and gone. One request is under way at a time, so a series' points keep their order.

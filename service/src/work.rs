@@ -8,6 +8,8 @@ pub mod own_call;
 
 pub use in_order::{in_order, made_in_order, WorkQueue};
 
+use hyper::body::HttpBody;
+use hyper::Body;
 use std::future::{poll_fn, Future};
 use std::pin::pin;
 use std::sync::{Mutex, MutexGuard, PoisonError};
@@ -15,6 +17,7 @@ use std::task::Poll;
 use std::thread;
 use std::time::Duration;
 use tokio::sync::Semaphore;
+use tokio::task::JoinSet;
 
 /// Does work that waits for the disk, or computes for long, without holding a thread of the runtime.
 pub async fn blocking<T: Send + 'static>(work: impl FnOnce() -> T + Send + 'static) -> T {
@@ -70,6 +73,34 @@ pub async fn within<T>(time: Duration, future: impl Future<Output = T>) -> Optio
         Poll::Ready(done) => Some(done),
         Poll::Pending => Box::pin(tokio::time::timeout(time, future)).await.ok(),
     }
+}
+
+/// What comes of all of these, side by side, in no order. Of one that fails nothing does.
+pub async fn side_by_side<T, F>(all: impl IntoIterator<Item = F>) -> Vec<T>
+where
+    T: Send + 'static,
+    F: Future<Output = T> + Send + 'static,
+{
+    let (mut under_way, mut done) = (JoinSet::new(), Vec::new());
+    for one in all {
+        under_way.spawn(one);
+    }
+    while let Some(one) = under_way.join_next().await {
+        done.extend(one);
+    }
+    done
+}
+
+/// All of a body; none if it is longer than this.
+pub async fn whole_body(mut body: Body, most: usize) -> Result<Option<Vec<u8>>, hyper::Error> {
+    let mut bytes = Vec::new();
+    while let Some(part) = body.data().await {
+        bytes.extend_from_slice(&part?);
+        if bytes.len() > most {
+            return Ok(None);
+        }
+    }
+    Ok(Some(bytes))
 }
 
 /// The lock. A panic ends the process, so nobody finds what another has left half changed; in a test what is left is sound.

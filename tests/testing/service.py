@@ -96,7 +96,7 @@ class Service:
                  ports: tuple[int, int] | None = None, before: Sequence[str] = ()) -> None:
         self.host = host
         self.listen, self.operate = ports or (free_port(), free_port())
-        places = ["--listen", f"{host}:{self.listen}", "--operate", f"{host}:{self.operate}"]
+        places = ["--listen", f"{host}:{self.listen}", "--admin", f"{host}:{self.operate}"]
         places += [] if host.startswith("127.") else ["--behind-proxy"]
         self.words = [*before, program, "serve", "--data", data, "--sink", sink, *places, *options]
         # Points of these tests end in 1970. An earlier version knows no such setting.

@@ -36,8 +36,6 @@ pub struct Beats<T, U> {
     /// Of each slot the last step: the next one begins behind it.
     last: HashMap<u16, JoinHandle<()>>,
     following: mpsc::Receiver<Step>,
-    /// The row that is taken away just now.
-    forgetting: Option<JoinHandle<()>>,
     between: Duration,
 }
 
@@ -52,7 +50,7 @@ impl<T: Terms + 'static, U: Units + 'static> Beats<T, U> {
     pub fn new(cluster: Arc<Cluster>, terms: Arc<T>, units: Arc<U>) -> Beats<T, U> {
         let (follow, following) = mpsc::channel(FOLLOWING);
         let work = Work { cluster, terms, units, follow };
-        Beats { work: Arc::new(work), last: HashMap::new(), following, forgetting: None, between: BEAT }
+        Beats { work: Arc::new(work), last: HashMap::new(), following, between: BEAT }
     }
 
     /// Faster, where a test has no time.
@@ -135,20 +133,12 @@ impl<T: Terms + 'static, U: Units + 'static> Beats<T, U> {
             tracing::error!("another process beats under this instance's name: give each its own --instance");
         }
         steps.into_iter().for_each(|step| self.begin(step));
-        self.work.publish();
-        self.forget();
-        Ok(())
-    }
-
-    /// Takes a row away of one that has not come back. No beat waits for that.
-    fn forget(&mut self) {
-        if self.forgetting.as_ref().is_some_and(|before| !before.is_finished()) {
-            return;
+        work.publish();
+        if let Some((name, beat)) = cluster.owners().forgotten() {
+            let work = work.clone();
+            tokio::spawn(async move { work.forget(&name, beat).await }); // no beat waits for that
         }
-        self.forgetting = self.work.cluster.owners().forgotten().map(|(name, beat)| {
-            let work = self.work.clone();
-            tokio::spawn(async move { work.forget(&name, beat).await })
-        });
+        Ok(())
     }
 
     async fn look(&mut self) {

@@ -101,8 +101,8 @@ impl Cluster {
         others.map(|other| (other.name, other.address)).collect()
     }
 
-    /// Those of them that are reached.
-    pub(super) fn has_reached(&self, names: BTreeSet<String>) {
+    /// Those of them that are reached; none while that is not known.
+    pub(super) fn has_reached(&self, names: Option<BTreeSet<String>>) {
         self.owners().has_reached(names);
     }
 

@@ -35,8 +35,6 @@ pub const SETTLED: u32 = 20;
 /// So many own beats later, a day, the row of one that is gone is of no use any more. What it needs where it comes back it
 /// brings with its first beat: nobody but itself reads its row for more than who beats, and where.
 pub const FORGOTTEN: u32 = if cfg!(test) { 120 } else { 2 * 24 * 3600 };
-/// A slot that has this instance's name, and is not open here, is an earlier process': a namesake that lives would beat within.
-const RESTARTED: u32 = 4;
 /// Slots that are taken or opened side by side: each replays its journal.
 const AT_ONCE: usize = 4;
 
@@ -77,8 +75,6 @@ pub struct Owners {
     rows: Vec<Row>,
     mine: BTreeMap<u16, Mine>,
     refusals: Refusals,
-    /// Slots that have this instance's name and are not open here: by which term, and how many beats they are left alone.
-    left_alone: BTreeMap<u16, (u64, u32)>,
     handed: Option<Handed>,
     namesake: Namesake,
 }
@@ -97,7 +93,6 @@ impl Owners {
             rows: Vec::new(),
             mine: BTreeMap::new(),
             refusals: Refusals::default(),
-            left_alone: BTreeMap::new(),
             handed: None,
             namesake: Namesake::default(),
         }
@@ -166,7 +161,6 @@ impl Owners {
 
     /// An own beat got no answer.
     pub fn unanswered(&mut self) {
-        self.namesake.unanswered();
         self.others.wait();
     }
 
@@ -202,7 +196,7 @@ impl Owners {
     fn note_living(&mut self) {
         let others = self.others.staying().filter(|(name, _)| !self.cut_off.is_cut_off(name));
         let mut living: BTreeMap<String, Refused> =
-            others.map(|(name, refused)| (name.into(), refused.clone())).collect();
+            others.map(|(name, told)| (name.into(), told.refused.clone())).collect();
         let may_another = |slot| living.values().any(|refused| !refused.contains_key(&slot));
         self.refusals.beat(may_another);
         if self.is_place_of_any() {
@@ -271,8 +265,10 @@ impl Owners {
     // Taking
 
     fn take(&mut self) -> Vec<Step> {
+        if self.namesake.may_own() {
+            return Vec::new();
+        }
         let rows = std::mem::take(&mut self.rows);
-        self.left_alone.retain(|slot, _| rows.iter().any(|row| row.slot == *slot && row.owner == self.me));
         let mut steps = Vec::new();
         for row in &rows {
             if !self.mine.contains_key(&row.slot) {
@@ -283,14 +279,12 @@ impl Owners {
         steps
     }
 
-    /// What is to be done for a slot that is not open here.
+    /// What is to be done for a slot that is not open here. One that has this instance's name is an earlier process', or its taking
+    /// got no answer, or it has failed.
     fn step_for(&mut self, row: &Row) -> Option<Step> {
-        let is_free = match row.owner.as_str() {
-            "" => true,
-            owner if owner == self.me => self.is_left_alone_enough(row),
-            owner => self.others.is_gone(owner) || self.cut_off.is_left(owner),
-        };
-        if !is_free || self.namesake.may_own() {
+        let owner = row.owner.as_str();
+        let is_ours = owner.is_empty() || owner == self.me;
+        if !(is_ours || self.others.is_gone(owner) || self.cut_off.is_left(owner)) {
             return None;
         }
         let slot = row.slot;
@@ -304,17 +298,6 @@ impl Owners {
         }
         self.mine.insert(slot, Mine { term: row.term, phase: Phase::Taking, elsewhere: 0 });
         Some(Step { act: Act::Take, slot, term: row.term })
-    }
-
-    /// A slot of this name that is not open here: an earlier process', or one whose taking got no answer, or that failed.
-    fn is_left_alone_enough(&mut self, row: &Row) -> bool {
-        let leaves = !self.is_place_of_any();
-        let (term, beats) = self.left_alone.entry(row.slot).or_insert((row.term, RESTARTED));
-        if *term != row.term {
-            (*term, *beats) = (row.term, RESTARTED);
-        }
-        *beats = beats.saturating_sub(1);
-        *beats == 0 || leaves
     }
 
     // ----------------------------------------------------------------------------------------------------------------
@@ -349,9 +332,8 @@ impl Owners {
     pub fn failed(&mut self, slot: u16, term: u64, reason: &str) -> bool {
         if self.lost(slot, term) {
             self.refusals.failed(slot, reason);
-            self.left_alone.insert(slot, (term, 1));
         }
-        self.others.staying().any(|(_, refused)| !refused.contains_key(&slot))
+        self.others.staying().any(|(_, told)| !told.refused.contains_key(&slot))
     }
 
     /// It is open here no more: another has it, as is seen by what writes to it. False where it was not under that term.

@@ -36,7 +36,7 @@ pub struct Told {
     pub refused: Refused,
     /// By how many microseconds its clock is ahead of the store's, or late if it is less than 0; none before it has looked.
     pub clock: Option<i64>,
-    /// The others that it reaches where posts are brought; none before it has tried.
+    /// The others that it reaches where posts are brought; none before it has tried, or while it is too busy to answer itself.
     pub reached: Option<BTreeSet<String>>,
 }
 

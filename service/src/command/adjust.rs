@@ -1,7 +1,7 @@
 //! `totxegun adjust`: what a series counted in an hour is adjusted by hand, or late data is booked.
 
 use super::ask::Address;
-use super::{amend, client, periods::told_of};
+use super::{amend, ask, client};
 use crate::operate::{AskedAdjustment, ADJUSTMENTS};
 use crate::sinks::periods::Period;
 use anyhow::{Context, Result};
@@ -50,6 +50,6 @@ impl Options {
         let hour = hour.map(|hour| hour.to_string().replace(' ', "T"));
         let asked = AskedAdjustment { late, series, hour, value, reason, dry_run };
         let body = serde_json::to_vec(&asked).context("the adjustment can't be written")?;
-        told_of(&client::ask_with(&at, Method::POST, ADJUSTMENTS, &body)?)
+        Ok(ask::done(&client::ask_with(&at, Method::POST, ADJUSTMENTS, &body)?))
     }
 }

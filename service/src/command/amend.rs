@@ -1,4 +1,4 @@
-//! `totxegun repair` and `forget`: what the service knows of series is changed.
+//! `totxegun rewind` and `forget`: what the service knows of series is changed.
 
 use crate::operate::Named;
 use crate::sinks::periods::seconds_of;
@@ -14,7 +14,7 @@ pub struct OfSeries {
     all: bool,
     /// Also where the sink can't tell what it has, so that what is posted again counts twice
     #[arg(long)]
-    anyway: bool,
+    force: bool,
 }
 
 pub fn time(text: &str) -> Result<String, String> {
@@ -32,7 +32,7 @@ impl OfSeries {
     pub fn path(&self, of: &str) -> String {
         let series = percent_encoding::utf8_percent_encode(&self.series, percent_encoding::NON_ALPHANUMERIC);
         let all = if self.all { "&all" } else { "" };
-        let anyway = if self.anyway { "&anyway" } else { "" };
-        format!("{of}?series={series}{all}{anyway}")
+        let force = if self.force { "&force" } else { "" };
+        format!("{of}?series={series}{all}{force}")
     }
 }

@@ -1,4 +1,4 @@
-//! Orders to the running service: flush, quarantine, lift.
+//! Orders to the running service: flush, quarantine, release.
 
 use super::values::{counted, operator, orders_at, SOCKET};
 use super::{client, line, Form};
@@ -14,9 +14,9 @@ pub struct Address {
     /// The running service's folder: in it is the socket that takes orders
     #[arg(long, env = "TOTXEGUN_DATA", value_name = "DIR", default_value = "/var/lib/totxegun")]
     data: PathBuf,
-    /// Where to ask in its place: unix:PATH, or HOST:PORT, which takes orders with --token alone. Of the variable TOTXEGUN_OPERATE, as the service has it, only a socket counts
+    /// Where to ask in its place: unix:PATH, or HOST:PORT, which takes orders with --token alone. Of the variable TOTXEGUN_ADMIN, as the service has it, only a socket counts
     #[arg(long, value_name = "ADDRESS", value_parser = operator)]
-    operate: Option<String>,
+    admin: Option<String>,
     /// A file that has an operator's token, for HOST:PORT
     #[arg(long, value_name = "FILE")]
     token: Option<PathBuf>,
@@ -25,10 +25,10 @@ pub struct Address {
 impl Address {
     /// The address: `HOST:PORT`, or `unix:PATH`.
     pub fn place(&self) -> String {
-        if let Some(given) = &self.operate {
+        if let Some(given) = &self.admin {
             return given.clone();
         }
-        let of_service = std::env::var("TOTXEGUN_OPERATE").unwrap_or_default();
+        let of_service = std::env::var("TOTXEGUN_ADMIN").unwrap_or_default();
         format!("{SOCKET}{}", orders_at(of_service.split(','), &self.data).display())
     }
 
@@ -77,12 +77,15 @@ pub fn sender(text: &str) -> Result<String, String> {
 
 /// Gives an order, and says what there is to say of it.
 pub fn order(at: &Address, path: &str) -> Result<Vec<u8>> {
-    let body = client::ask(at, Method::POST, path)?;
-    let read: serde_json::Value = serde_json::from_slice(&body).unwrap_or_default();
-    Ok(match read["message"].as_str() {
+    client::ask(at, Method::POST, path).map(|body| done(&body))
+}
+
+pub fn done(body: &[u8]) -> Vec<u8> {
+    let read: serde_json::Value = serde_json::from_slice(body).unwrap_or_default();
+    match read["message"].as_str() {
         Some(message) => line(format_args!("done: {message}")),
         None => line("done"),
-    })
+    }
 }
 
 /// Gives an order that flushes, and says what came of it.

@@ -57,7 +57,6 @@ struct CheckReport {
     waiting: u64,
     outbox_bytes: u64,
     series: usize,
-    series_without_owner: usize,
     quarantined: Vec<String>,
     /// Metrics, each with a unit that a rule of `--whole` brought beside a finer one: no other of its name is taken in it.
     beside: BTreeSet<UnitOfMetric>,
@@ -191,9 +190,7 @@ impl CheckReport {
     /// What an outbox has, as a start finds it.
     fn add(&mut self, outbox: &Outbox) -> Result<(), Fault> {
         (self.waiting, self.outbox_bytes, _) = outbox.waiting();
-        let series = outbox.series();
-        self.series = series.len();
-        self.series_without_owner = series.values().filter(|series| series.owner.is_none()).count();
+        self.series = outbox.series_count();
         self.quarantined.extend(outbox.quarantined());
         self.beside = outbox.beside();
         self.dropped.extend(outbox.dropped().iter().map(Dropped::to_string));
@@ -249,10 +246,7 @@ fn text(found: &CheckReport, data: &Path) -> String {
         ),
     );
     row("requests for the sink", format!("{}, {}", found.waiting, bytes(found.outbox_bytes)));
-    row(
-        "series",
-        format!("{}; the sender of {} is in the journal alone", found.series, found.series_without_owner),
-    );
+    row("series", found.series.to_string());
     row("quarantined", values::senders_shown(&found.quarantined));
     row("held back", format!("{}, {}", counted(found.held_posts, "post"), bytes(found.held_bytes)));
     row("refused for good", counted(found.dead, "request"));

@@ -4,8 +4,8 @@ use super::ask::{Address, Shown};
 use super::{values::SOCKET, with_end};
 use crate::log::all_shown;
 use crate::operate::{Status, OPERATOR};
+use crate::work::whole_body;
 use anyhow::{anyhow, bail, Context, Result};
-use hyper::body::HttpBody;
 use hyper::client::conn;
 use hyper::header::{HeaderValue, AUTHORIZATION, CONTENT_TYPE, HOST, LOCATION};
 use hyper::{Body, Method, Request, Response, StatusCode};
@@ -178,10 +178,10 @@ fn unreachable(place: &str, error: io::Error) -> anyhow::Error {
             format!("{place} is closed to this user: run this as root (sudo), or as a user of the socket's group")
         }
         io::ErrorKind::NotFound => {
-            format!("there is no {place}: start the service, give its folder by --data, or its operators' address by --operate")
+            format!("there is no {place}: start the service, give its folder by --data, or its operators' address by --admin")
         }
         _ => format!(
-            "no service answers at {place}: start it, give its folder by --data, or its operators' address by --operate"
+            "no service answers at {place}: start it, give its folder by --data, or its operators' address by --admin"
         ),
     };
     anyhow::Error::new(error).context(what)
@@ -205,19 +205,15 @@ where
 }
 
 async fn body(place: &str, response: Response<Body>) -> Result<Reply> {
-    let (head, mut body) = response.into_parts();
+    let (head, body) = response.into_parts();
     let text = |name| head.headers.get(name).and_then(|value| value.to_str().ok());
     let is_json = text(CONTENT_TYPE).is_some_and(|kind| kind.starts_with("application/json"));
     let there = text(LOCATION).and_then(|at| at.strip_prefix("http://")?.split('/').next());
     let location = there.filter(|_| is_json && head.status == StatusCode::TEMPORARY_REDIRECT);
-    let mut bytes = Vec::new();
-    while let Some(more) = body.data().await {
-        bytes.extend_from_slice(&more.map_err(|error| part(place, error))?);
-        if bytes.len() > MOST {
-            bail!(another(place));
-        }
-    }
-    Ok(Reply { status: head.status.as_u16(), is_json, location: location.map(String::from), body: bytes })
+    let location = location.map(String::from);
+    let body = whole_body(body, MOST).await.map_err(|error| part(place, error))?;
+    let body = body.ok_or_else(|| anyhow!(another(place)))?;
+    Ok(Reply { status: head.status.as_u16(), is_json, location, body })
 }
 
 fn part(place: &str, error: hyper::Error) -> anyhow::Error {
@@ -226,7 +222,7 @@ fn part(place: &str, error: hyper::Error) -> anyhow::Error {
 
 /// What is said of somebody else who listens there, such as the service to its senders.
 pub fn another(place: &str) -> String {
-    format!("what listens at {place} is no operators' address of totxegun: give that by --operate")
+    format!("what listens at {place} is no operators' address of totxegun: give that by --admin")
 }
 
 /// Why there is no answer. An order goes on in the service though nobody waits for it.
@@ -342,7 +338,7 @@ mod tests {
             #[command(flatten)]
             at: Address,
         }
-        <Line as clap::Parser>::parse_from(["totxegun", "--operate", place]).at
+        <Line as clap::Parser>::parse_from(["totxegun", "--admin", place]).at
     }
 
     #[test]
@@ -391,7 +387,7 @@ mod tests {
             ("unix:/nowhere/operate", "there is no unix:/nowhere/operate: start the service"),
         ] {
             let said = format!("{:#}", ask(&at(place), Method::GET, "/status").unwrap_err());
-            assert!(said.contains(why) && said.contains("--data") && said.contains("--operate"), "{said}");
+            assert!(said.contains(why) && said.contains("--data") && said.contains("--admin"), "{said}");
         }
         let closed = unreachable("unix:/d/operate", io::ErrorKind::PermissionDenied.into());
         assert!(format!("{closed:#}").contains("run this as root"), "{closed:#}");

@@ -288,7 +288,7 @@ mod tests {
     #[test]
     fn a_point_that_is_off_by_its_clock_is_told_of() {
         let ahead = BODY.replace("timeUnixNano\":\"2\"", &format!("timeUnixNano\":\"{}\"", u64::MAX));
-        let clock = Clock { most_ahead: Some(Duration::from_secs(600)), most_behind: None };
+        let clock = Clock { max_ahead: Some(Duration::from_secs(600)), max_age: None };
         let told = text(&found(ahead.into(), None, &Reading::default(), &clock).unwrap());
         assert!(told.contains("0 points taken, 2 foreign") && told.contains("d ahead"), "{told}");
         let old = text(&found(BODY.into(), None, &Reading::default(), &clock).unwrap());

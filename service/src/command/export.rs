@@ -4,7 +4,8 @@ use super::ask::Address as Operate;
 use super::{client, series, values};
 use crate::operate::LateSum;
 use crate::sinks::periods::{Closed, Period};
-use crate::sinks::sql::export::{self, Line, What};
+use crate::sinks::sql::export::{Line, What};
+use crate::sinks::sql::reading;
 use crate::sinks::Address;
 use anyhow::{bail, Context, Result};
 use clap::Args;
@@ -20,10 +21,10 @@ const COLUMNS: &str =
 #[derive(Args)]
 pub struct Options {
     /// A month of UTC: 2026-11
-    #[arg(long, value_name = "MONTH", required_unless_present = "day", value_parser = month)]
+    #[arg(long, value_name = "MONTH", required_unless_present = "day", value_parser = period(Period::is_month, "month: write 2026-11"))]
     month: Option<Period>,
     /// A day of UTC: 2026-11-05
-    #[arg(long, value_name = "DAY", conflicts_with = "month", value_parser = day)]
+    #[arg(long, value_name = "DAY", conflicts_with = "month", value_parser = period(Period::is_day, "day: write 2026-11-05"))]
     day: Option<Period>,
     /// Prints a head and a row for each series, with commas between cells
     #[arg(long, required_unless_present = "json")]
@@ -38,19 +39,10 @@ pub struct Options {
     at: Operate,
 }
 
-fn month(text: &str) -> Result<Period, String> {
-    let period: Period = text.parse()?;
-    match period.is_month() {
-        true => Ok(period),
-        false => Err(format!("{period} is no month: write 2026-11")),
-    }
-}
-
-fn day(text: &str) -> Result<Period, String> {
-    let period: Period = text.parse()?;
-    match period.is_day() {
-        true => Ok(period),
-        false => Err(format!("{period} is no day: write 2026-11-05")),
+fn period(is_so: fn(&Period) -> bool, what: &'static str) -> impl Fn(&str) -> Result<Period, String> + Clone {
+    move |text| match text.parse()? {
+        period if is_so(&period) => Ok(period),
+        other => Err(format!("{other} is no {what}")),
     }
 }
 
@@ -71,7 +63,7 @@ impl Options {
             false => out.row(&series::object(&line)?),
         };
         let sink = sink(self.sink.as_ref(), &self.at)?;
-        let closed = export::read(&sink, &What::Of(period.clone()), &mut each)?;
+        let closed = reading::read(&sink, &What::Of(period.clone()), &mut each)?;
         out.end(period, &closed)?;
         tell_of_late(period, &self.at);
         Ok(())

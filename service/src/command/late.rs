@@ -1,11 +1,10 @@
 //! `totxegun late`: points that their series refused.
 
 use super::ask::{sender, Shown};
-use super::{amend, client, table::Table, values::counted, with_end};
+use super::{amend, client, table::Table, values::counted};
 use crate::operate::Status;
-use anyhow::{Context, Result};
+use anyhow::Result;
 use clap::Args;
-use hyper::Method;
 use percent_encoding::{utf8_percent_encode, NON_ALPHANUMERIC};
 use serde_json::{Map, Value};
 
@@ -44,14 +43,11 @@ impl Options {
                 path += &format!("&{name}={}", utf8_percent_encode(value, NON_ALPHANUMERIC));
             }
         }
-        let body = client::ask(&self.shown.at, Method::GET, &path)?;
+        let late = client::shown(&self.shown, &path, |late: Value| table(&late))?;
         if let Ok(status) = client::status(&self.shown.at) {
             tell_of_others(&status);
         }
-        match self.shown.form.json {
-            true => Ok(with_end(body)),
-            false => Ok(table(&serde_json::from_slice(&body).context(client::OTHER_VERSION)?).into()),
-        }
+        Ok(late)
     }
 }
 
@@ -62,7 +58,7 @@ fn tell_of_others(status: &Status) {
     let others: Vec<&str> = others.map(|one| one.name.as_str()).collect();
     if !others.is_empty() {
         crate::complain(format_args!(
-            "these are what this instance refused: ask {} too, by --operate",
+            "these are what this instance refused: ask {} too, by --admin",
             others.join(", ")
         ));
     }

@@ -1,4 +1,4 @@
-//! `totxegun dead`: requests that the sink refused for good.
+//! `totxegun dead-letters`: requests that the sink refused for good.
 
 use super::ask::{Address, Shown};
 use super::{client, line, table::Table, values, with_end};
@@ -17,7 +17,7 @@ pub enum Command {
     Show(OfKey),
     /// Sends one again under its own key, or all; what the sink does not take is kept
     Resend {
-        /// As `totxegun dead list` shows it
+        /// As `totxegun dead-letters list` shows it
         #[arg(required_unless_present = "all")]
         key: Option<String>,
         /// All, one after the other, until the sink does not answer; those that it does not take, or that can't be read, are named
@@ -32,7 +32,7 @@ pub enum Command {
 
 #[derive(Args)]
 pub struct OfKey {
-    /// As `totxegun dead list` shows it
+    /// As `totxegun dead-letters list` shows it
     key: String,
     #[command(flatten)]
     at: Address,
@@ -73,7 +73,7 @@ fn tell_of_others(at: &Address, listed: usize) {
     let others: Vec<&str> = others.map(|one| one.name.as_str()).collect();
     if more > 0 && !others.is_empty() {
         let (count, others) = (values::counted(more, "request"), others.join(" or "));
-        crate::complain(format_args!("{count} more at other instances: ask {others}, by --operate"));
+        crate::complain(format_args!("{count} more at other instances: ask {others}, by --admin"));
     }
 }
 
@@ -180,7 +180,7 @@ fn resend(key: &str, at: &Address) -> Result<Vec<u8>> {
 /// A key goes into a path.
 fn checked(key: &str) -> Result<&str> {
     if key.is_empty() || !key.bytes().all(|byte| byte.is_ascii_alphanumeric() || b"._-".contains(&byte)) {
-        bail!("{key:?} is no key: `totxegun dead list` shows them");
+        bail!("{key:?} is no key: `totxegun dead-letters list` shows them");
     }
     Ok(key)
 }

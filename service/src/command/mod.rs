@@ -43,7 +43,7 @@ use std::process::ExitCode;
 const REFUSED: u8 = 1;
 const FAULTY: u8 = 2;
 const DISK: u8 = 70;
-const MEMORY: u8 = 71;
+const MEMORY: u8 = crate::core::NONE_LEFT as u8;
 
 /// Takes counters and histograms by OTLP, adds them up, keeps them on disk, and delivers the totals to a sink.
 #[derive(Parser)]
@@ -65,21 +65,20 @@ enum Command {
     /// Shows what a SQLite sink has: a line for each series
     Totals(totals::Options),
     /// Puts all that was taken into the outbox now
-    #[command(visible_alias = "checkpoint")]
     Flush(ask::Address),
     /// Keeps a sender's points back, and refuses its posts
     Quarantine(ask::OfSender),
     /// Releases a quarantined sender
-    Lift(ask::OfSender),
+    Release(ask::OfSender),
     /// Shows requests that the sink refused for good, sends them again, throws them away
     #[command(subcommand)]
-    Dead(letters::Command),
+    DeadLetters(letters::Command),
     /// Shows points that their series refused, so that they are not counted: `totxegun adjust --late KEY` books one
     Late(late::Options),
     /// Closes a month, a day or an hour: what comes for it later counts in the hour in which it comes
     Close(periods::Close),
     /// Opens what was closed: what came late meanwhile stays where it was counted
-    Open {
+    Reopen {
         /// As it was closed
         period: Period,
         #[command(flatten)]
@@ -88,7 +87,7 @@ enum Command {
     /// Adds to what a series counted in an hour, by hand; or books late data
     Adjust(adjust::Options),
     /// Puts back where a series ends, which a wrong clock has put ahead, so that its points are taken again
-    Repair {
+    Rewind {
         #[command(flatten)]
         of: amend::OfSeries,
         /// Where it ends from now on, of UTC: 2026-11-05T13:30:15. What is posted again from after that is taken again
@@ -113,7 +112,7 @@ enum Command {
     /// Makes a store that several machines share
     #[command(subcommand)]
     Store(store::Command),
-    /// Makes a token for a sender or an operator: prints its line for the file of --tokens or --operate-tokens, and the token itself, once, on standard error
+    /// Makes a token for a sender or an operator: prints its line for the file of --tokens or --admin-tokens, and the token itself, once, on standard error
     Token(token::Options),
     /// Prints the version, and whether the book was proved
     Version,
@@ -175,14 +174,14 @@ impl Command {
             Command::Totals(options) => Ok(totals::run(&options)?),
             Command::Flush(at) => Ok(ask::flush(&at)?),
             Command::Quarantine(of) => Ok(ask::order(&of.at, &format!("/quarantine/{}", of.sender))?),
-            Command::Lift(of) => Ok(ask::order(&of.at, &format!("/lift/{}", of.sender))?),
-            Command::Dead(command) => Ok(command.run()?),
+            Command::Release(of) => Ok(ask::order(&of.at, &format!("/release/{}", of.sender))?),
+            Command::DeadLetters(command) => Ok(command.run()?),
             Command::Late(options) => Ok(options.run()?),
             Command::Close(options) => Ok(options.run()?),
-            Command::Open { period, at } => Ok(periods::open(&period, &at)?),
+            Command::Reopen { period, at } => Ok(periods::open(&period, &at)?),
             Command::Adjust(options) => Ok(options.run()?),
-            Command::Repair { of, to, at } => Ok(periods::told(&at, &of.path(&format!("/repair/{to}")))?),
-            Command::Forget { of, at } => Ok(periods::told(&at, &of.path("/forget"))?),
+            Command::Rewind { of, to, at } => Ok(ask::order(&at, &of.path(&format!("/rewind/{to}")))?),
+            Command::Forget { of, at } => Ok(ask::order(&at, &of.path("/forget"))?),
             Command::Export(options) => Ok(options.run().map(|()| Vec::new())?),
             Command::Check(options) => options.run(),
             Command::Explain(options) => options.run(),
@@ -245,13 +244,13 @@ mod tests {
             found.unwrap().get_help_heading().map(str::to_string)
         };
         for (command, option, wanted) in [
-            ("serve", "flush-every", None),
-            ("serve", "log-foreign", None),
+            ("serve", "flush-interval", None),
+            ("serve", "log-rejected", None),
             ("serve", "threads", None),
             ("serve", "sink-gzip", Some("Options of an OTLP sink")),
             ("serve", "tokens", Some("Options of TLS and of who a sender is")),
             ("serve", "whole", Some("Options of reading")),
-            ("serve", "most-series", Some("Options of the book")),
+            ("serve", "max-series", Some("Options of the book")),
             ("explain", "json", None),
             ("explain", "whole", Some("Options of reading")),
         ] {
@@ -263,14 +262,14 @@ mod tests {
     fn faulty_lines_are_refused_by_name() {
         for (words, part) in [
             ("serve --data d --slots 1", "--slots"),
-            ("serve --data d --most-series 0", "--most-series"),
-            ("serve --data d --most-series 1000001", "--most-series"),
-            ("serve --data d --flush-every 0s", "--flush-every"),
-            ("serve --data d --flush-every ten", "--flush-every"),
-            ("serve --data d --durable never", "--durable"),
-            ("serve --data d --book-memory 1X", "--book-memory"),
-            ("serve --data d --book-memory 63MiB", "64MiB"),
-            ("serve --data d --most-bytes 256", "1MiB"),
+            ("serve --data d --max-series 0", "--max-series"),
+            ("serve --data d --max-series 1000001", "--max-series"),
+            ("serve --data d --flush-interval 0s", "--flush-interval"),
+            ("serve --data d --flush-interval ten", "--flush-interval"),
+            ("serve --data d --durability never", "--durability"),
+            ("serve --data d --max-memory 1X", "--max-memory"),
+            ("serve --data d --max-memory 63MiB", "64MiB"),
+            ("serve --data d --max-bytes 256", "1MiB"),
             ("serve --data d --sink nats://h", "--sink"),
             ("serve --data d --sink https://127.0.0.1/", "certificate"),
             ("serve --data d --sink-header content-type:x", "`content-type`"),
@@ -293,10 +292,10 @@ mod tests {
             ("serve --data d --listen nowhere", "--listen"),
             ("serve --data d --listen 127.0.0.1:65536", "--listen"),
             ("serve --data d --listen-grpc :4317", "--listen-grpc"),
-            ("serve --data d --operate 127.0.0.1", "--operate"),
-            ("status --operate 127.0.0.1:", "--operate"),
-            ("status --operate unix:", "unix:PATH"),
-            ("serve --data d --operate unix:", "unix:PATH"),
+            ("serve --data d --admin 127.0.0.1", "--admin"),
+            ("status --admin 127.0.0.1:", "--admin"),
+            ("status --admin unix:", "unix:PATH"),
+            ("serve --data d --admin unix:", "unix:PATH"),
             ("serve --data d --drop-attribute=", "--drop-attribute"),
             ("serve --data d --drop-attribute a,,b", "--drop-attribute"),
             ("serve --data d --sender-attribute=", "--sender-attribute"),
@@ -309,8 +308,8 @@ mod tests {
             ("quarantine", "<NAME>"),
             ("quarantine a/b", "<NAME>"),
             ("close 2026-13", "2026-13"),
-            ("close 2026-11 --flush --anyway", "--anyway"),
-            ("open november", "no period"),
+            ("close 2026-11 --flush --force", "--force"),
+            ("reopen november", "no period"),
             ("adjust 7 2026-11-05T13 1.5 --reason x", "'1.5'"),
             ("adjust 7 2026-11-05T13 -2.5 --reason x", "write a whole number, in the unit"),
             ("adjust 7 2026-11-05T13 -1", "--reason"),
@@ -318,19 +317,19 @@ mod tests {
             ("adjust 7 2026-11-05T13 --reason x", "<VALUE>"),
             ("adjust --late 00ff 7", "--late"),
             ("adjust", "<SERIES>"),
-            ("repair a --to yesterday", "--to"),
-            ("repair a", "--to"),
-            ("repair {} --to 2026-11-05", "names no series"),
+            ("rewind a --to yesterday", "--to"),
+            ("rewind a", "--to"),
+            ("rewind {} --to 2026-11-05", "names no series"),
             ("forget a{b", "names no series"),
             ("export --month 2026-11-05 --csv", "no month"),
             ("export --day 2026-11 --csv", "no day"),
             ("export --csv", "--month"),
             ("export --month 2026-11", "--csv"),
-            ("dead burn", "burn"),
-            ("dead resend", "<KEY>"),
-            ("dead resend 0-a-1 --all", "--all"),
+            ("dead-letters burn", "burn"),
+            ("dead-letters resend", "<KEY>"),
+            ("dead-letters resend 0-a-1 --all", "--all"),
             ("serve --data d --log-json=x", "--log-json"),
-            ("serve --data d --expect-foreign gauge,gouge", "up_down_counter"),
+            ("serve --data d --expect-rejected gauge,gouge", "up_down_counter"),
         ] {
             let error =
                 Line::try_parse_from([&["totxegun"], &words.split(' ').collect::<Vec<_>>()[..]].concat());

@@ -1,6 +1,6 @@
 //! Options of the book: how many series fit, and the memory that it may have.
 
-use super::values::{bytes_shown, size};
+use super::values::{bytes_shown, size_from};
 use crate::core;
 use clap::{value_parser, Args};
 use std::path::Path;
@@ -12,16 +12,16 @@ const LEAST_MEMORY: u64 = 64 << 20;
 #[command(next_help_heading = "Options of the book")]
 pub struct OfBook {
     /// How many series fit for sure
-    #[arg(long, env = "TOTXEGUN_MOST_SERIES", value_name = "N", default_value_t = 100_000, value_parser = value_parser!(u64).range(1..=core::MOST_SERIES as u64))]
-    pub most_series: u64,
+    #[arg(long, env = "TOTXEGUN_MAX_SERIES", value_name = "N", default_value_t = 100_000, value_parser = value_parser!(u64).range(1..=core::MOST_SERIES as u64))]
+    pub max_series: u64,
     /// The most memory of the book: posts get 503 before it is used up [default: half of what this process may have]
-    #[arg(long, env = "TOTXEGUN_BOOK_MEMORY", value_name = "BYTES", value_parser = memory)]
-    book_memory: Option<u64>,
+    #[arg(long, env = "TOTXEGUN_MAX_MEMORY", value_name = "BYTES", value_parser = size_from(LEAST_MEMORY, "with less than 64MiB there is no room for a long request"))]
+    max_memory: Option<u64>,
 }
 
 impl OfBook {
     pub fn memory(&self) -> u64 {
-        let most = self.book_memory.unwrap_or_else(|| (machine_memory() / 2).max(LEAST_MEMORY));
+        let most = self.max_memory.unwrap_or_else(|| (machine_memory() / 2).max(LEAST_MEMORY));
         tracing::info!("the book has {} of memory at most", bytes_shown(most));
         most
     }
@@ -43,14 +43,6 @@ fn memory_of(groups: &Path, group: &str) -> Option<u64> {
         most.trim().parse::<u64>().ok() // `max` where it has none
     };
     Path::new(group).ancestors().filter_map(most_of).min()
-}
-
-fn memory(text: &str) -> Result<u64, String> {
-    let bytes = size(text)?;
-    match bytes >= LEAST_MEMORY {
-        true => Ok(bytes),
-        false => Err("with less than 64MiB there is no room for a long request".to_string()),
-    }
 }
 
 #[cfg(test)]

@@ -1,4 +1,4 @@
-//! Options of an OTLP sink and of `--pass`: how they are sent to, by what they are told, and told who comes.
+//! Options of an OTLP sink and of `--forward-unsupported`: how they are sent to, by what they are told, and told who comes.
 
 use super::serve::absolute;
 use crate::metrics::Metrics;
@@ -36,23 +36,33 @@ pub struct OfSink {
 }
 
 #[derive(Args)]
-#[command(next_help_heading = "Options of --pass")]
+#[command(next_help_heading = "Options of --forward-unsupported")]
 pub struct OfPass {
     /// Hands points that are outside the profile to another OTLP receiver, http://HOST:PORT or https://HOST, at most once: so they are no fault
-    #[arg(long, env = "TOTXEGUN_PASS", value_name = "ADDRESS", hide_env_values = true)]
-    pass: Option<String>,
+    #[arg(long, env = "TOTXEGUN_FORWARD_UNSUPPORTED", value_name = "ADDRESS", hide_env_values = true)]
+    forward_unsupported: Option<String>,
     /// As --sink-header-file, for it
-    #[arg(long, env = "TOTXEGUN_PASS_HEADER_FILE", value_name = "FILE")]
-    pass_header_file: Option<PathBuf>,
+    #[arg(long, env = "TOTXEGUN_FORWARD_UNSUPPORTED_HEADER_FILE", value_name = "FILE")]
+    forward_unsupported_header_file: Option<PathBuf>,
     /// As --sink-ca, for it
-    #[arg(long, env = "TOTXEGUN_PASS_CA", value_name = "FILE")]
-    pass_ca: Option<PathBuf>,
+    #[arg(long, env = "TOTXEGUN_FORWARD_UNSUPPORTED_CA", value_name = "FILE")]
+    forward_unsupported_ca: Option<PathBuf>,
     /// As --sink-cert, for it
-    #[arg(long, env = "TOTXEGUN_PASS_CERT", value_name = "FILE", requires = "pass_key")]
-    pass_cert: Option<PathBuf>,
+    #[arg(
+        long,
+        env = "TOTXEGUN_FORWARD_UNSUPPORTED_CERT",
+        value_name = "FILE",
+        requires = "forward_unsupported_key"
+    )]
+    forward_unsupported_cert: Option<PathBuf>,
     /// Its key in PEM
-    #[arg(long, env = "TOTXEGUN_PASS_KEY", value_name = "FILE", requires = "pass_cert")]
-    pass_key: Option<PathBuf>,
+    #[arg(
+        long,
+        env = "TOTXEGUN_FORWARD_UNSUPPORTED_KEY",
+        value_name = "FILE",
+        requires = "forward_unsupported_cert"
+    )]
+    forward_unsupported_key: Option<PathBuf>,
 }
 
 impl OfSink {
@@ -75,19 +85,25 @@ impl OfSink {
 
 impl OfPass {
     pub fn pass(self, listen: &str, metrics: &Arc<Metrics>) -> anyhow::Result<Option<Arc<Pass>>> {
-        let tls = ClientFiles { roots: self.pass_ca, certificate: self.pass_cert, key: self.pass_key };
-        let access = Access { tls, headers: self.pass_header_file };
-        let Some(address) = self.pass else {
+        let tls = ClientFiles {
+            roots: self.forward_unsupported_ca,
+            certificate: self.forward_unsupported_cert,
+            key: self.forward_unsupported_key,
+        };
+        let access = Access { tls, headers: self.forward_unsupported_header_file };
+        let Some(address) = self.forward_unsupported else {
             match access == Access::default() {
                 true => return Ok(None),
                 false => {
-                    bail!("--pass-ca and those beside it are for --pass: give that too, or leave them out")
+                    bail!("--forward-unsupported-ca and those beside it are for --forward-unsupported: give that too, or leave them out")
                 }
             }
         };
         let pass = Pass::to(&address, access, metrics.clone())?;
         if pass.is_to(listen) {
-            bail!("--pass is the address where senders post: points would come again for ever");
+            bail!(
+                "--forward-unsupported is the address where senders post: points would come again for ever"
+            );
         }
         Ok(Some(pass))
     }

@@ -24,7 +24,7 @@ pub(super) struct OfSenders {
     /// Names of senders and digests of their tokens, as `totxegun token NAME` makes them; behind each may stand series=N and points=N, the most that it may have, and post a second
     #[arg(long, env = "TOTXEGUN_TOKENS", value_name = "FILE")]
     tokens: Option<PathBuf>,
-    /// The most series of a sender whose line in --tokens has no series= [default: nine tenths of --most-series, once others have some]
+    /// The most series of a sender whose line in --tokens has no series= [default: nine tenths of --max-series, once others have some]
     #[arg(long, env = "TOTXEGUN_SENDER_SERIES", value_name = "N", value_parser = value_parser!(u64).range(1..=MOST_SERIES as u64))]
     sender_series: Option<u64>,
     /// The most points a second of a sender whose line has no points=, with a minute's at once [default: any number]

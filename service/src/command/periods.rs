@@ -1,9 +1,9 @@
 //! `totxegun close` and `open`: periods of the sink, by which it is billed.
 
-use super::{ask, ask::Address, client, line};
-use crate::operate::{ANYWAY, FLUSHED};
+use super::{ask, ask::Address, client};
+use crate::operate::{FLUSHED, FORCE};
 use crate::sinks::periods::Period;
-use anyhow::{bail, Context, Result};
+use anyhow::{bail, Result};
 use clap::Args;
 use hyper::Method;
 use std::time::{Duration, Instant};
@@ -17,11 +17,11 @@ pub struct Close {
     /// A month 2026-11, a day 2026-11-05 or an hour 2026-11-05T13, of UTC, which has ended
     period: Period,
     /// Flushes first, and waits until the sink has all that was posted so far
-    #[arg(long, conflicts_with = "anyway")]
+    #[arg(long, conflicts_with = "force")]
     flush: bool,
     /// Closes it although something waits that may belong to it, and would come late
     #[arg(long)]
-    anyway: bool,
+    force: bool,
     #[command(flatten)]
     at: Address,
 }
@@ -31,33 +31,22 @@ impl Close {
         if self.flush {
             deliver(&self.at)?;
         }
-        let query = match (self.flush, self.anyway) {
+        let query = match (self.flush, self.force) {
             (true, _) => format!("?{FLUSHED}"),
-            (false, true) => format!("?{ANYWAY}"),
+            (false, true) => format!("?{FORCE}"),
             (false, false) => String::new(),
         };
-        told(&self.at, &format!("/close/{}{query}", written(&self.period)))
+        ask::order(&self.at, &format!("/close/{}{query}", written(&self.period)))
     }
 }
 
 pub fn open(period: &Period, at: &Address) -> Result<Vec<u8>> {
-    told(at, &format!("/open/{}", written(period)))
+    ask::order(at, &format!("/reopen/{}", written(period)))
 }
 
 /// In a path.
 fn written(period: &Period) -> String {
     period.to_string().replace(' ', "T")
-}
-
-pub fn told(at: &Address, path: &str) -> Result<Vec<u8>> {
-    told_of(&client::ask(at, Method::POST, path)?)
-}
-
-/// What an answer says of what is done.
-pub fn told_of(body: &[u8]) -> Result<Vec<u8>> {
-    let read: serde_json::Value = serde_json::from_slice(body).unwrap_or_default();
-    let message = read["message"].as_str().context(client::OTHER_VERSION)?;
-    Ok(line(format_args!("done: {message}")))
 }
 
 /// Flushes, and waits until nothing of it waits.

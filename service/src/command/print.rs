@@ -43,7 +43,6 @@ fn visible(command: &Command) -> Command {
     let shown = command.get_subcommands().filter(|it| !it.is_hide_set());
     let mut copy = Command::new(command.get_name().to_string())
         .about(command.get_about().cloned().unwrap_or_default())
-        .visible_aliases(command.get_visible_aliases().map(str::to_string).collect::<Vec<_>>())
         .args(command.get_arguments().filter(|it| !it.is_hide_set()).cloned());
     for below in shown {
         copy = copy.subcommand(visible(below));
@@ -56,7 +55,6 @@ fn visible(command: &Command) -> Command {
 struct Described {
     name: String,
     about: String,
-    aliases: Vec<String>,
     options: Vec<Word>,
     commands: Vec<Described>,
 }
@@ -88,7 +86,6 @@ impl Described {
         Described {
             name: command.get_name().to_string(),
             about: command.get_about().map(ToString::to_string).unwrap_or_default(),
-            aliases: command.get_visible_aliases().map(str::to_string).collect(),
             options: command.get_arguments().filter(is_own).map(Word::of).collect(),
             commands: below.map(Described::of).collect(),
         }
@@ -132,7 +129,7 @@ mod tests {
         ] {
             let text = String::from_utf8(run(what).unwrap()).unwrap();
             assert!(text.starts_with(begins), "{}", &text[..80]);
-            for word in ["serve", "quarantine", "resend", "flush-every", "log-json"] {
+            for word in ["serve", "quarantine", "resend", "flush-interval", "log-json"] {
                 assert!(text.contains(word), "{begins}: {word}");
             }
             assert!(!text.contains("Prints what a package is made with"));

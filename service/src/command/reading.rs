@@ -31,11 +31,11 @@ pub(super) struct OfReading {
     #[arg(long, env = "TOTXEGUN_SENDER_ATTRIBUTE", value_name = "ATTRIBUTE", value_parser = attribute)]
     sender_attribute: Option<String>,
     /// Leaves out points that end later than so long after this clock's time, or `off` for none; of instances that share a store one whose clock is off by a tenth of it takes no slots
-    #[arg(long, env = "TOTXEGUN_MOST_AHEAD", value_name = "TIME", default_value = "10m", value_parser = time_or("off"))]
-    most_ahead: MayBeNone,
+    #[arg(long, env = "TOTXEGUN_MAX_AHEAD", value_name = "TIME", default_value = "10m", value_parser = time_or("off"))]
+    max_ahead: MayBeNone,
     /// Leaves out points that ended earlier than so long before this clock's time, or `off` for none
-    #[arg(long, env = "TOTXEGUN_MOST_BEHIND", value_name = "TIME", default_value = "off", value_parser = time_or("off"))]
-    most_behind: MayBeNone,
+    #[arg(long, env = "TOTXEGUN_MAX_AGE", value_name = "TIME", default_value = "off", value_parser = time_or("off"))]
+    max_age: MayBeNone,
     /// Takes cumulative sums and histograms, as SDKs send them by default: deltas are made of them
     #[arg(long, env = "TOTXEGUN_CUMULATIVE", value_name = "WHETHER", default_value = "on", value_enum)]
     cumulative: Profile,
@@ -53,7 +53,7 @@ impl OfReading {
     }
 
     pub fn clock(&self) -> Clock {
-        Clock { most_ahead: self.most_ahead.0, most_behind: self.most_behind.0 }
+        Clock { max_ahead: self.max_ahead.0, max_age: self.max_age.0 }
     }
 
     /// What posts mean hangs on these, so all instances have to say the same.
@@ -72,7 +72,7 @@ impl OfReading {
         let sender_attribute = self.sender_attribute.as_ref();
         let sender_attribute = sender_attribute.map(|name| format!(" sender-attribute={name}"));
         format!(
-            "whole={} drop-attribute={} sender-from={} cumulative={cumulative} never-across={across:?} instance-from-sender={} \
+            "whole={} drop-attribute={} sender-from={} cumulative={cumulative} split-at={across:?} instance-from-sender={} \
              exponential={:?}{}",
             whole.join(","),
             self.drop_attributes.join(","),
@@ -136,7 +136,7 @@ mod tests {
         let likeness = |words: &[&str]| Line::parse_from(words).of_reading.likeness(Across::Hour);
         assert_eq!(
             likeness(&["serve"]),
-            "whole= drop-attribute= sender-from= cumulative=On never-across=Hour instance-from-sender=false exponential=None"
+            "whole= drop-attribute= sender-from= cumulative=On split-at=Hour instance-from-sender=false exponential=None"
         );
         let words = ["serve", "--whole", "auto,s=ms", "--drop-attribute", "a,b", "--sender-from", "id"];
         let told = likeness(&words);

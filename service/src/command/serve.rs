@@ -7,7 +7,7 @@ use super::of_senders::OfSenders;
 use super::of_store::OfStore;
 use super::reading::OfReading;
 use super::retention::OfRetention;
-use super::values::{operator, orders_at, place, size, time, time_or, MayBeNone, SOCKET};
+use super::values::{operator, orders_at, place, size_from, time, time_or, MayBeNone, SOCKET};
 use super::version::Versions;
 use super::Ended;
 use crate::core::{self, Across};
@@ -71,16 +71,16 @@ pub struct Options {
     /// Where operators read: HOST:PORT; and order: unix:PATH, beside it or alone [default of this: unix:DIR/operate]
     #[arg(
         long,
-        env = "TOTXEGUN_OPERATE",
+        env = "TOTXEGUN_ADMIN",
         value_name = "ADDRESS",
         default_value = "127.0.0.1:4319",
         value_delimiter = ',',
         value_parser = operator
     )]
-    operate: Vec<String>,
+    admin: Vec<String>,
     /// Names of operators and digests of their tokens, as `totxegun token NAME` makes them: their orders are taken over TCP too
-    #[arg(long, env = "TOTXEGUN_OPERATE_TOKENS", value_name = "FILE")]
-    operate_tokens: Option<PathBuf>,
+    #[arg(long, env = "TOTXEGUN_ADMIN_TOKENS", value_name = "FILE")]
+    admin_tokens: Option<PathBuf>,
     /// Gives each sample of /totals the time at which the last interval of its series ended, in the place of the scrape's
     #[arg(long, env = "TOTXEGUN_TOTALS_TIMESTAMPS")]
     totals_timestamps: bool,
@@ -91,23 +91,23 @@ pub struct Options {
     #[arg(long)]
     new_sink: bool,
     /// How long between two flushes
-    #[arg(long, env = "TOTXEGUN_FLUSH_EVERY", value_name = "TIME", default_value = "10s", value_parser = time)]
-    flush_every: Duration,
+    #[arg(long, env = "TOTXEGUN_FLUSH_INTERVAL", value_name = "TIME", default_value = "10s", value_parser = time)]
+    flush_interval: Duration,
     /// What a point that is delivered never covers two of, in UTC, but where a point that was posted does itself
-    #[arg(long, env = "TOTXEGUN_NEVER_ACROSS", value_name = "WHAT", default_value = "hour", value_enum)]
-    never_across: Across,
+    #[arg(long, env = "TOTXEGUN_SPLIT_AT", value_name = "WHAT", default_value = "hour", value_enum)]
+    split_at: Across,
     /// What a post survives once it is answered: `disk` a loss of power, `process` the end of the process
-    #[arg(long, env = "TOTXEGUN_DURABLE", value_name = "WHAT", default_value = "disk", value_enum)]
-    durable: Durability,
+    #[arg(long, env = "TOTXEGUN_DURABILITY", value_name = "WHAT", default_value = "disk", value_enum)]
+    durability: Durability,
     /// How long a series is kept that nobody posts to where there are too many, or `never` to forget none
-    #[arg(long, env = "TOTXEGUN_FORGET_SERIES", value_name = "TIME", default_value = "7d", value_parser = time_or("never"))]
-    forget_series: MayBeNone,
+    #[arg(long, env = "TOTXEGUN_SERIES_TTL", value_name = "TIME", default_value = "7d", value_parser = time_or("never"))]
+    series_ttl: MayBeNone,
     /// Writes the first N reasons why points are foreign to the log, for each sender
-    #[arg(long, env = "TOTXEGUN_LOG_FOREIGN", value_name = "N", default_value_t = 0, value_parser = value_parser!(u32).range(..=1000))]
-    log_foreign: u32,
+    #[arg(long, env = "TOTXEGUN_LOG_REJECTED", value_name = "N", default_value_t = 0, value_parser = value_parser!(u32).range(..=1000))]
+    log_rejected: u32,
     /// What is meant to be left out, and so is counted by itself and not alerted on
-    #[arg(long, env = "TOTXEGUN_EXPECT_FOREIGN", value_name = "CAUSE", value_delimiter = ',', value_parser = causes())]
-    expect_foreign: Vec<Reason>,
+    #[arg(long, env = "TOTXEGUN_EXPECT_REJECTED", value_name = "CAUSE", value_delimiter = ',', value_parser = causes())]
+    expect_rejected: Vec<Reason>,
     /// What the log has: `debug` also what is only for a fault of the service
     #[arg(long, env = "TOTXEGUN_LOG_LEVEL", value_name = "LEVEL", default_value = "info", value_parser = levels())]
     log_level: LevelFilter,
@@ -115,14 +115,14 @@ pub struct Options {
     #[arg(long, env = "TOTXEGUN_LOG_JSON")]
     log_json: bool,
     /// The most memory that all posts may take until they are answered
-    #[arg(long, env = "TOTXEGUN_MOST_BYTES", value_name = "BYTES", default_value = "256MiB", value_parser = most_bytes)]
-    most_bytes: u64,
+    #[arg(long, env = "TOTXEGUN_MAX_BYTES", value_name = "BYTES", default_value = "256MiB", value_parser = size_from(LEAST_BYTES, "less than 1MiB would refuse most posts for good"))]
+    max_bytes: u64,
     /// How much late data is kept, the last: points that their series refused, for `totxegun late` and `adjust`
-    #[arg(long, env = "TOTXEGUN_MAX_LATE", value_name = "BYTES", default_value = "64MiB", value_parser = max_late)]
+    #[arg(long, env = "TOTXEGUN_MAX_LATE", value_name = "BYTES", default_value = "64MiB", value_parser = size_from(LEAST_LATE, "less than 1MiB has no room for a point with long attributes"))]
     max_late: u64,
     /// How many connections senders may have at a time
-    #[arg(long, env = "TOTXEGUN_MOST_CONNECTIONS", value_name = "N", default_value_t = 1024, value_parser = value_parser!(u32).range(1..=100_000))]
-    most_connections: u32,
+    #[arg(long, env = "TOTXEGUN_MAX_CONNECTIONS", value_name = "N", default_value_t = 1024, value_parser = value_parser!(u32).range(1..=100_000))]
+    max_connections: u32,
     /// How many threads serve senders: each reads its posts, so as many as there are processors
     #[arg(long, env = "TOTXEGUN_THREADS", value_name = "N", default_value_t = 4, value_parser = value_parser!(u16).range(1..=64))]
     threads: u16,
@@ -143,22 +143,6 @@ pub struct Options {
     of_runs: runs::Options,
     #[command(flatten)]
     of_book: OfBook,
-}
-
-fn most_bytes(text: &str) -> Result<u64, String> {
-    let bytes = size(text)?;
-    match bytes >= LEAST_BYTES {
-        true => Ok(bytes),
-        false => Err("less than 1MiB would refuse most posts for good".to_string()),
-    }
-}
-
-fn max_late(text: &str) -> Result<u64, String> {
-    let bytes = size(text)?;
-    match bytes >= LEAST_LATE {
-        true => Ok(bytes),
-        false => Err("less than 1MiB has no room for a point with long attributes".to_string()),
-    }
 }
 
 /// Refuses a setting that no option reads.
@@ -202,10 +186,12 @@ impl Options {
             .thread_keep_alive(IDLE)
             .enable_all();
         let runtime = building.build().context("no threads could be started")?;
-        let ended = runtime.block_on(service::run(Settings {
-            reload: config::reload(level, &metrics).map_err(Ended::Line)?,
-            ..self.settings(most_files, metrics.clone())?
-        }));
+        let reload = config::reload(level, &metrics)?;
+        core::bound_memory(self.of_book.memory());
+        metrics.limit_series(self.of_book.max_series);
+        let max_connections = self.connections(most_files);
+        let settings = self.settings(metrics)?;
+        let ended = runtime.block_on(service::run(Settings { reload, max_connections, ..settings }));
         runtime.shutdown_background(); // who still waits for a disk or a sender is not waited for
         ended?;
         log::finish();
@@ -215,8 +201,7 @@ impl Options {
     /// Passes if a start with these options would listen, and open its folder.
     pub fn check(self) -> Result<(), Ended> {
         look_at_settings()?;
-        let metrics = Arc::new(Metrics::new().context("metrics")?);
-        self.settings(u64::MAX, metrics).map(drop)
+        self.settings(Arc::new(Metrics::new().context("metrics")?)).map(drop)
     }
 
     /// What SIGHUP may change: `config::LIVE` names these options.
@@ -224,8 +209,8 @@ impl Options {
         Live {
             of_each: self.of_senders.of_each(),
             report_options: ReportOptions {
-                log_foreign: self.log_foreign as usize,
-                expected: self.expect_foreign.clone(),
+                log_rejected: self.log_rejected as usize,
+                expected: self.expect_rejected.clone(),
                 profile: self.of_reading.profile(),
             },
         }
@@ -240,20 +225,19 @@ impl Options {
     fn connections(&self, most_files: u64) -> usize {
         let addresses = 1 + u64::from(self.listen_grpc.is_some());
         let most = (most_files.saturating_sub(OWN_FILES) / addresses).max(1);
-        let wanted = u64::from(self.most_connections);
+        let wanted = u64::from(self.max_connections);
         if most < wanted {
             tracing::warn!(
                 "this process may have {most_files} open files, so senders may have {most} connections at a time and not \
-                 {wanted}: raise its limit (`LimitNOFILE` of systemd, `ulimit -Hn`), or lower --most-connections"
+                 {wanted}: raise its limit (`LimitNOFILE` of systemd, `ulimit -Hn`), or lower --max-connections"
             );
         }
         most.min(wanted) as usize
     }
 
-    fn settings(self, most_files: u64, metrics: Arc<Metrics>) -> Result<Settings, Ended> {
-        let (most_connections, live) = (self.connections(most_files), self.live());
-        core::bound_memory(self.of_book.memory());
-        metrics.limit_series(self.of_book.most_series);
+    /// Changes nothing: SIGHUP asks for it too.
+    fn settings(self, metrics: Arc<Metrics>) -> Result<Settings, Ended> {
+        let live = self.live();
         let data = absolute(&self.data)?;
         let sink = match self.sink {
             Some(sink) => sink,
@@ -266,7 +250,7 @@ impl Options {
         };
         let sink = self.of_sink.put_into(sink).map_err(Ended::Line)?;
         let retention = self.of_retention.retention(&sink).map_err(Ended::Line)?;
-        let likeness = self.of_reading.likeness(self.never_across);
+        let likeness = self.of_reading.likeness(self.split_at);
         let store = self.of_store.settings(likeness, &sink, self.of_senders.pair()).map_err(Ended::Line)?;
         let clock = self.of_reading.clock();
         let reading = self.of_reading.reading().map_err(Ended::Line)?;
@@ -281,11 +265,11 @@ impl Options {
                  or leave it out"
             )));
         }
-        let mut operate = operate(&self.operate, &data).map_err(Ended::Line)?;
-        let tokens = self.operate_tokens;
+        let mut operate = operate(&self.admin, &data).map_err(Ended::Line)?;
+        let tokens = self.admin_tokens;
         if tokens.is_some() && operate.tcp.is_none() {
             return Err(Ended::Line(anyhow!(
-                "--operate-tokens is for orders over TCP: give --operate HOST:PORT too, or leave it out"
+                "--admin-tokens is for orders over TCP: give --admin HOST:PORT too, or leave it out"
             )));
         }
         operate.tokens = tokens.map(|path| identity::operators(path, &metrics)).transpose()?;
@@ -303,19 +287,19 @@ impl Options {
             sink,
             retention,
             new_sink: self.new_sink,
-            durability: self.durable,
-            every: self.flush_every,
-            forget: self.forget_series.0,
+            durability: self.durability,
+            every: self.flush_interval,
+            forget: self.series_ttl.0,
             clock,
-            across: self.never_across,
+            across: self.split_at,
             runs: self.of_runs,
             pass,
             reading,
-            most_bytes: usize::try_from(self.most_bytes).unwrap_or(usize::MAX),
+            max_bytes: usize::try_from(self.max_bytes).unwrap_or(usize::MAX),
             max_late: self.max_late,
-            most_connections,
+            max_connections: self.max_connections as usize,
             threads: usize::from(self.threads),
-            most_series: self.of_book.most_series as usize,
+            max_series: self.of_book.max_series as usize,
             totals_times: match self.totals_timestamps {
                 true => Times::OfIntervals,
                 false => Times::None,
@@ -330,7 +314,7 @@ fn operate(addresses: &[String], data: &Path) -> anyhow::Result<Operate> {
     let is_socket = |address: &&String| address.starts_with(SOCKET);
     let (sockets, tcp): (Vec<&String>, Vec<&String>) = addresses.iter().partition(is_socket);
     if let Some(second) = sockets.get(1).or(tcp.get(1)) {
-        bail!("--operate has a second address like {second}: give one HOST:PORT and one unix:PATH at most");
+        bail!("--admin has a second address like {second}: give one HOST:PORT and one unix:PATH at most");
     }
     Ok(Operate {
         tcp: tcp.first().map(ToString::to_string),

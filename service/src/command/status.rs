@@ -63,8 +63,8 @@ mod tests {
         let wanted = format!(
             "\nRefused posts\n\
              sender              status  posts  last       last answer{wide}  what to do\n\
-             A                   403     1,234  1 min 1 s  quarantined{wide}  totxegun lift NAME once the sender is repaired\n\
-             - (who names none)  403     1,234  1 min 1 s  {long}..  totxegun lift NAME once the sender is repaired\n\
+             A                   403     1,234  1 min 1 s  quarantined{wide}  totxegun release NAME once the sender is repaired\n\
+             - (who names none)  403     1,234  1 min 1 s  {long}..  totxegun release NAME once the sender is repaired\n\
              3 more\n"
         );
         assert!(text.contains(&wanted), "{text}");

@@ -2,7 +2,8 @@
 
 use super::table::Table;
 use super::{ask, export, line, series};
-use crate::sinks::sql::export::{read, Line, What};
+use crate::sinks::sql::export::{Line, What};
+use crate::sinks::sql::reading::read;
 use crate::sinks::Address;
 use anyhow::Result;
 use clap::Args;

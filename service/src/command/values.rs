@@ -37,9 +37,14 @@ pub fn time_or(word: &'static str) -> impl Fn(&str) -> Result<MayBeNone, String>
 }
 
 /// `256MiB`, `1G`, `1048576`: bytes.
-pub fn size(text: &str) -> Result<u64, String> {
+fn size(text: &str) -> Result<u64, String> {
     scaled(text, &SIZES)
         .ok_or_else(|| "write a whole number, and KiB, MiB or GiB behind it or nothing: 256MiB".to_string())
+}
+
+/// One that is not less than this, for this reason.
+pub fn size_from(least: u64, why: &'static str) -> impl Fn(&str) -> Result<u64, String> + Clone {
+    move |text| size(text).and_then(|bytes| if bytes >= least { Ok(bytes) } else { Err(why.into()) })
 }
 
 /// `127.0.0.1:4318`: a host and its port. Whether there is such a one is another question.

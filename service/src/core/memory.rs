@@ -11,6 +11,9 @@ use std::cell::Cell;
 use std::sync::atomic::{AtomicI64, AtomicU64, Ordering::Relaxed};
 use std::sync::Mutex;
 
+/// The exit status of a process that ends for want of memory.
+pub const NONE_LEFT: i32 = 71;
+
 /// What a thread counts by itself before it counts with the others: the sum of all is off by as much for each.
 const DRIFT: i64 = 128 << 10;
 

@@ -27,12 +27,12 @@ pub use book::give_back as give_back_memory;
 #[cfg(test)]
 pub(crate) use book::{allocated, given_back};
 pub use flushed::Flushed;
-pub use memory::{bound as bound_memory, used as memory_used, with_reserve};
+pub use memory::{bound as bound_memory, used as memory_used, with_reserve, NONE_LEFT};
 pub use names::Names;
 pub use point_refusals::PointRefusal;
 pub use read::Read;
 pub use readers::{free_idle_readers, free_spare_readers};
-pub use recent::{Changed, Unknown};
+pub use recent::{series_of_text, BySeries, Changed};
 pub use refusal::Refused;
 pub use stretch::Across;
 
@@ -111,7 +111,7 @@ impl Core {
     }
 
     /// How many series it has room for, about.
-    pub fn most_series(&self) -> usize {
+    pub fn max_series(&self) -> usize {
         self.books * SERIES_OF_A_BOOK
     }
 
@@ -173,9 +173,6 @@ impl Book {
     pub fn admit(&mut self, read: &mut Read) -> Result<(), Refused> {
         let admitted = self.admit_in_turn(read);
         self.close_next_round();
-        if admitted.is_ok() {
-            self.note_recent(read);
-        }
         admitted
     }
 
@@ -194,18 +191,6 @@ impl Book {
         let admitted = self.admit_whole(read, first);
         self.close_full_rounds();
         admitted
-    }
-
-    /// The book has these points now.
-    fn note_recent(&mut self, read: &Read) {
-        if let (Body::Points(points), Some(names)) = (&read.post.body, read.named()) {
-            self.recent.note(names, points);
-        }
-    }
-
-    /// The same of posts that were put in again, as one or each by itself.
-    pub fn note_recent_again<'p>(&mut self, names: &Arc<Names>, posts: impl Iterator<Item = &'p Points>) {
-        posts.for_each(|points| self.recent.note(names, points));
     }
 
     fn admit_in_turn(&mut self, read: &mut Read) -> Result<(), Refused> {

@@ -9,7 +9,6 @@ use crate::files::{self, Points};
 use crate::otlp::series::words_of;
 use crate::work::locked;
 use bytes::Bytes;
-use std::alloc::{handle_alloc_error, Layout};
 use std::sync::atomic::{AtomicBool, AtomicU64, AtomicUsize, Ordering::Relaxed};
 use std::sync::{Arc, Mutex, MutexGuard, OnceLock, PoisonError, RwLock, RwLockReadGuard};
 
@@ -251,7 +250,8 @@ impl Names {
     }
 
     /// A request that is not kept. A start that goes on without one has not what the series' run had come to, and the next point
-    /// counts that again: so it may use up the reserve, and where there is none the process ends, as by any other want of memory.
+    /// counts that again; a commit does not say whose the series is. So it may use up the reserve, and where there is none the
+    /// process ends, and says what helps: the next start would come to the same.
     fn unkept_text(&self, number: u64) -> Vec<u8> {
         let asked = || memory::with_reserve(|| text_of(&mut self.handle(), number));
         let mut text = asked();
@@ -260,7 +260,13 @@ impl Names {
             text = asked();
         }
         match text {
-            Err(Refused::NoMemory) => handle_alloc_error(Layout::new::<[u8; TEXT]>()),
+            Err(Refused::NoMemory) => {
+                crate::complain(format_args!(
+                    "there is no memory for the name of a series, so the service ends: nothing is lost, since the journal has all that \
+                     was taken; give a greater --max-memory"
+                ));
+                std::process::exit(memory::NONE_LEFT)
+            }
             text => text.unwrap_or_default(),
         }
     }

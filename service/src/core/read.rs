@@ -2,11 +2,14 @@
 
 use super::book::Reader;
 use super::readers::{keep, reader};
+use super::recent::series_apart;
 use super::refusal::{check, Refused};
 use super::{Across, Core, Names};
 use crate::files::{self, Body, NoNames, Points, Post};
+use crate::otlp::series::Digest;
 use bytes::Bytes;
-use std::sync::Arc;
+use std::collections::HashSet;
+use std::sync::{Arc, OnceLock};
 
 /// What a post is read from: its points by number are in another order.
 enum Source {
@@ -33,6 +36,8 @@ pub struct Read {
     /// Its points by number where they are of several stretches, apart.
     pub(super) stretches: Vec<Points>,
     pub(super) is_of_known_series: bool,
+    /// See there.
+    series_apart: OnceLock<Option<HashSet<Digest>>>,
 }
 
 impl Read {
@@ -55,32 +60,16 @@ impl Read {
             ends,
             stretches,
             is_of_known_series,
+            series_apart: OnceLock::new(),
         }
     }
 
-    /// A post in protobuf as it came. Its points have no numbers.
+    /// A post in protobuf as it came, by which tests try what reads it by number. Its points have no numbers.
     pub fn of_body(core: &Core, sender: String, body: Bytes) -> Result<Read, Refused> {
         let post = Post { sender, foreign: 0, body: Body::Points(Points::default()) };
         let mut read = core.unread(post, None);
         read.source = Some(Source::Protobuf(body));
         read.read()
-    }
-
-    /// The same where its points have numbers by these names; `has_room` as of `number`. None where one
-    /// is foreign, where `has_all` says no to the first and the last of their ends, or where it can't be read or numbered: then
-    /// it is to be read otherwise.
-    pub fn of_protobuf(
-        core: &Core,
-        sender: String,
-        body: Bytes,
-        has_all: impl FnOnce(u64, u64) -> bool,
-        names: &Arc<Names>,
-        has_room: impl Fn(usize) -> bool,
-    ) -> Option<Read> {
-        let mut read = Read::of_body(core, sender, body).ok()?;
-        let is_within = read.ends().is_none_or(|(first, last)| has_all(first, last));
-        let is_plain = is_within && read.post.foreign == 0;
-        (is_plain && read.number(names, has_room)).then_some(read)
     }
 
     /// Another one by the same names, which is to be read.
@@ -118,6 +107,7 @@ impl Read {
         };
         self.post.body = Body::Points(points);
         self.names = Some(names.clone());
+        self.series_apart = OnceLock::new();
         self.split();
         true
     }
@@ -205,14 +195,15 @@ impl Read {
     pub fn keep(&mut self, points: Points) -> Result<(), Refused> {
         self.source = None;
         self.post.body = Body::Points(points);
+        self.series_apart = OnceLock::new();
         self.stretches.clear();
         self.be_read()
     }
 
-    /// Whether it was read from protobuf as it came.
-    #[cfg(test)]
-    pub(crate) fn is_of_protobuf(&self) -> bool {
-        matches!(self.source, Some(Source::Protobuf(_)))
+    /// The series for which no numbers stand that last, where it has such. They are found once, by reading it: who is to have the lock
+    /// of the book asks ahead of that.
+    pub fn series_apart(&self) -> Option<&HashSet<Digest>> {
+        self.series_apart.get_or_init(|| series_apart(&self.post, self.names.as_ref())).as_ref()
     }
 
     /// Those of the profile.

@@ -1,12 +1,15 @@
-//! What posts had last of each series, by the numbers of series: so that a repeat of what the book took is known as one.
+//! What posts had last of each series, by the numbers of series, so that a repeat of what the book took is known as one; and who
+//! posts those that the outbox does not have, so that the commit that first has one says whose it is.
 //!
 //! It belongs to the book: it is changed under its lock, when a post is taken, and goes where the book goes. What a checkpoint takes
 //! has it as it was then, and the outbox keeps that by the keys of series.
 
-use super::{Book, Names};
-use crate::files::{Points, PointsDigest, Recent, Recents, POSTS_KNOWN};
-use crate::otlp::series::{only, Digest};
+use super::{Book, Names, Read};
+use crate::files::{Body, Names as _, Noted, Points, PointsDigest, Post, Recent, Recents, POSTS_KNOWN};
+use crate::otlp::series::{only, posted, Digest, Digests};
 use crate::work::made_in_order;
+use ahash::AHashMap;
+use std::collections::{HashMap, HashSet};
 use std::sync::Arc;
 
 /// Series of one resource have neighbouring numbers, and of several slots each has some resources.
@@ -30,12 +33,17 @@ struct Entry {
 
 const NOTHING: Entry = Entry { id: NO_ID, recent: Recent([PointsDigest::NONE; POSTS_KNOWN]) };
 
+/// Who posts series, by their numbers.
+type Owners = AHashMap<u32, Arc<str>>;
+
 /// By the numbers of one generation of names.
 struct Table {
     names: Arc<Names>,
     pages: Vec<Option<Box<[Entry; PAGE]>>>,
     /// Those that have changed since the last checkpoint.
     changed: Vec<u32>,
+    /// Who posts those that have no id, as far as that was noted since.
+    owners: Owners,
 }
 
 /// Those of the names that are used now come last. The others' are here until a checkpoint has brought them to the outbox.
@@ -44,29 +52,42 @@ pub(super) struct RecentPoints {
     tables: Vec<Table>,
     /// By which the ids are.
     numbering: u64,
+    /// Those that no group has yet, which a checkpoint took: their sender is quarantined; and those that were posted without a number
+    /// that lasts, of which only the owner is noted. They are here until the outbox has them.
+    apart: HashMap<Digest, Noted>,
 }
 
 /// Something of series, by their numbers in each generation of names.
 type ByNumber<T> = Vec<(Arc<Names>, Vec<(u32, T)>)>;
 
+/// What had changed in a table, with the owners of those that have no id.
+struct OfTable {
+    names: Arc<Names>,
+    changed: Vec<(u32, Entry)>,
+    owners: Owners,
+}
+
 /// What had changed when a checkpoint took the book.
 #[derive(Default)]
 pub struct Changed {
-    of: ByNumber<Entry>,
+    of: Vec<OfTable>,
+    apart: HashMap<Digest, Noted>,
     numbering: u64,
 }
 
-/// Which numbers the outbox is to say the ids of, and those that went by their ids, of this numbering.
+/// The same for the outbox: by the series' ids there, if they are of its numbering, else by the digests of their keys. With which numbers
+/// these are of, and those that went by their ids.
 #[derive(Default)]
-pub struct Unknown {
+pub struct BySeries {
+    pub recents: Recents,
     of: ByNumber<Digest>,
     by_id: ByNumber<()>,
-    numbering: u64,
 }
 
 impl Table {
     fn new(names: &Arc<Names>) -> Table {
-        Table { names: names.clone(), pages: Vec::new(), changed: Vec::new() }
+        let (pages, changed, owners) = (Vec::new(), Vec::new(), Owners::new());
+        Table { names: names.clone(), pages, changed, owners }
     }
 
     fn get(&self, number: u64) -> Option<&Entry> {
@@ -87,7 +108,8 @@ impl Table {
         &mut self.pages[page].get_or_insert_with(|| Box::new([NOTHING; PAGE]))[number % PAGE]
     }
 
-    fn note(&mut self, points: &Points) {
+    fn note(&mut self, sender: &str, points: &Points) {
+        let mut owner: Option<Arc<str>> = None;
         for point in points.each() {
             let number = point[0] as u32; // names have fewer than 2^32
             let entry = self.at(number);
@@ -97,6 +119,10 @@ impl Table {
             }
             entry.recent.begin(&point[1..]);
             entry.id |= IN_POST;
+            if entry.id & NO_ID == NO_ID {
+                let owner = owner.get_or_insert_with(|| Arc::from(sender));
+                self.owners.entry(number).or_insert_with(|| owner.clone());
+            }
             self.note_change(number);
         }
         for number in points.numbers() {
@@ -129,30 +155,39 @@ impl Table {
 }
 
 impl RecentPoints {
-    /// The book has taken a post with these points. Where its numbers are of this post alone nothing is kept of it.
-    pub fn note(&mut self, names: &Arc<Names>, points: &Points) {
-        if names.are_of_one_post() {
-            return;
-        }
+    /// The book has taken a post of a sender with these points.
+    fn note(&mut self, sender: &str, names: &Arc<Names>, points: &Points) {
         let is_its = |table: &Table| Arc::ptr_eq(&table.names, names);
         let place = self.tables.iter().rposition(is_its).unwrap_or_else(|| {
             self.tables.push(Table::new(names));
             self.tables.len() - 1
         });
-        self.tables[place].note(points);
+        self.tables[place].note(sender, points);
+    }
+
+    fn note_apart(&mut self, sender: &str, series: &HashSet<Digest>) {
+        let owner: Arc<str> = sender.into();
+        for digest in series {
+            self.apart.entry(*digest).or_default().owner.get_or_insert_with(|| owner.clone());
+        }
     }
 
     /// What posts had last of a series, the last one first; the earlier ones where that is known of other names.
     fn of(&self, names: &Names, number: u64) -> Vec<PointsDigest> {
         let mut text = None;
+        let mut text = || text.get_or_insert_with(|| names.text_if_room(number)).clone();
         let entries = self.tables.iter().rev().filter_map(|table| match std::ptr::eq(&*table.names, names) {
             true => table.get(number),
-            false => {
-                let text = text.get_or_insert_with(|| names.text_if_room(number)).as_ref()?;
-                table.get(table.names.number_of(text).ok()?)
-            }
+            false => table.get(table.names.number_of(&text()?).ok()?),
         });
-        entries.flat_map(|entry| entry.recent.digests()).take(POSTS_KNOWN).collect()
+        let mut known: Vec<PointsDigest> = entries.flat_map(|entry| entry.recent.digests()).collect();
+        if known.len() < POSTS_KNOWN && !self.apart.is_empty() {
+            let apart = text().and_then(|text| self.apart.get(&only(&text)?.digest()));
+            let before = apart.into_iter().flat_map(|noted| noted.recent.digests());
+            known.extend(before.filter(|digest| !known.contains(digest)).collect::<Vec<_>>());
+        }
+        known.truncate(POSTS_KNOWN);
+        known
     }
 }
 
@@ -160,6 +195,20 @@ impl Book {
     /// The digests of what posts had last of a series, as far as they are here.
     pub fn recent(&self, names: &Names, number: u64) -> Vec<PointsDigest> {
         self.recent.of(names, number)
+    }
+
+    /// The book has taken a post; where it is several that went in as one, each of these.
+    pub fn note_recent(&mut self, read: &Read, each: &[Post]) {
+        let names = read.named();
+        let mut note = |post: &Post, apart: Option<&HashSet<Digest>>| match (&post.body, names, apart) {
+            (.., Some(apart)) => self.recent.note_apart(&post.sender, apart),
+            (Body::Points(points), Some(names), None) => self.recent.note(&post.sender, names, points),
+            _ => {} // there are none
+        };
+        match each {
+            [] => note(&read.post, read.series_apart()),
+            each => each.iter().for_each(|post| note(post, series_apart(post, names).as_ref())),
+        }
     }
 
     /// What has changed since this was asked last. What is of other names than those of now is gone with the next time.
@@ -171,55 +220,68 @@ impl Book {
             place += 1;
             place > last || !table.changed.is_empty()
         });
-        let of = recent.tables.iter_mut().map(|table| (table.names.clone(), table.take_changed()));
-        Changed { of: of.collect(), numbering: recent.numbering }
+        let take = |table: &mut Table| OfTable {
+            names: table.names.clone(),
+            changed: table.take_changed(),
+            owners: std::mem::take(&mut table.owners),
+        };
+        let of = recent.tables.iter_mut().map(take).collect();
+        Changed { of, apart: recent.apart.clone(), numbering: recent.numbering }
     }
 
-    /// The outbox has given ids to these, by this numbering.
-    pub fn note_ids(&mut self, numbering: u64, unknown: Unknown, ids: Vec<Option<u32>>) {
+    /// The outbox has given these ids to those that went by digests, by this numbering.
+    pub fn note_ids(&mut self, numbering: u64, noted: BySeries, ids: Vec<Option<u32>>) {
         let recent = &mut self.recent;
         if recent.numbering != numbering {
             recent.numbering = numbering;
             let tables = recent.tables.iter_mut().flat_map(|table| table.pages.iter_mut().flatten());
             tables.flat_map(|page| page.iter_mut()).for_each(|entry| entry.id |= NO_ID);
         }
-        if unknown.numbering != numbering {
+        let BySeries { recents, of, by_id } = noted;
+        if recents.numbering != numbering {
             // The outbox may have had others when it was told: these are told once more.
-            for (names, numbers) in unknown.by_id {
+            for (names, numbers) in by_id {
                 if let Some(table) = recent.tables.iter_mut().find(|table| Arc::ptr_eq(&table.names, &names))
                 {
                     numbers.into_iter().for_each(|(number, ())| table.note_change(number));
                 }
             }
         }
-        let mut ids = ids.into_iter();
-        for (names, numbers) in unknown.of {
-            let mut table = recent.tables.iter_mut().find(|table| Arc::ptr_eq(&table.names, &names));
-            for ((number, _), id) in numbers.into_iter().zip(&mut ids) {
-                match (&mut table, id.filter(|id| *id < NO_ID)) {
-                    (Some(table), Some(id)) => table.set_id(number, id),
-                    // It is held, and in no group yet; or there was no memory to name it.
-                    (Some(table), None) => table.note_change(number),
-                    (None, _) => {}
+        let known = recents.by_digest.keys().zip(ids).filter_map(|(digest, id)| Some((*digest, id?)));
+        let known: HashMap<Digest, u32> = known.collect();
+        for (names, numbers) in of {
+            let Some(table) = recent.tables.iter_mut().find(|table| Arc::ptr_eq(&table.names, &names)) else {
+                continue;
+            };
+            for (number, digest) in numbers {
+                if let Some(id) = known.get(&digest).filter(|id| **id < NO_ID) {
+                    table.set_id(number, *id);
                 }
             }
+        }
+        recent.apart.retain(|digest, _| !known.contains_key(digest));
+        // What is held is in no group yet.
+        let held = recents.by_digest.into_iter().filter(|(digest, _)| !known.contains_key(digest));
+        for (digest, noted) in held {
+            let kept = recent.apart.entry(digest).or_default();
+            kept.recent = noted.recent; // with what was kept of it
+            kept.owner = noted.owner.or(kept.owner.take());
         }
     }
 }
 
 impl Changed {
-    /// By the series' ids in the outbox, if they are of this numbering, else by the digests of their keys; and of which the ids are to
-    /// be asked for once the outbox has them.
-    pub fn by_series(self, numbering: u64) -> (Recents, Unknown) {
-        let mut recents = Recents { numbering, ..Recents::default() };
-        let mut unknown = Unknown { numbering, ..Unknown::default() };
+    /// For an outbox of this numbering.
+    pub fn by_series(self, numbering: u64) -> BySeries {
+        let mut all = BySeries::default();
+        (all.recents.numbering, all.recents.by_digest) = (numbering, self.apart);
         let has_ids = self.numbering == numbering;
-        for (names, changed) in self.of {
+        for OfTable { names, changed, mut owners } in self.of {
             let id = |entry: &Entry| Some(entry.id & NO_ID).filter(|id| has_ids && *id != NO_ID);
             let with_id = changed.iter().filter_map(|(_, entry)| Some((id(entry)?, entry.recent)));
-            recents.by_id.extend(with_id);
+            all.recents.by_id.extend(with_id);
             let numbers = changed.iter().filter_map(|(number, entry)| id(entry).map(|_| (*number, ())));
-            unknown.by_id.push((names.clone(), numbers.collect()));
+            all.by_id.push((names.clone(), numbers.collect()));
             let without: Vec<&(u32, Entry)> =
                 changed.iter().filter(|(_, entry)| id(entry).is_none()).collect();
             let mut found = Vec::with_capacity(without.len());
@@ -228,40 +290,54 @@ impl Changed {
                 |some| digests(&names, some),
                 |some| found.extend(some),
             );
-            for (_, digest, recent) in found.iter().filter(|(_, digest, _)| *digest != NO_TEXT) {
-                let known = recents.by_digest.entry(*digest).or_default();
-                *known = known.then(*recent);
+            for ((number, entry), (_, digest)) in without.into_iter().zip(&found) {
+                let known = all.recents.by_digest.entry(*digest).or_default();
+                known.recent = known.recent.then(entry.recent);
+                known.owner = known.owner.take().or_else(|| owners.remove(number));
             }
-            unknown.of.push((names, found.into_iter().map(|(number, digest, _)| (number, digest)).collect()));
+            all.of.push((names, found));
         }
-        (recents, unknown)
+        all
     }
 }
 
-/// In the place of a digest, where there is no memory for the text: that is asked for again at the next checkpoint.
-const NO_TEXT: Digest = [0; 32];
-
-/// Of these numbers the digests of their series' keys.
-fn digests(names: &Names, some: &[&(u32, Entry)]) -> Vec<(u32, Digest, Recent)> {
-    let digest = |(number, entry): &&(u32, Entry)| {
-        let key = names.text_if_room((*number).into()).and_then(|text| only(&text));
-        (*number, key.map_or(NO_TEXT, |key| key.digest()), entry.recent)
+/// Of these numbers the digests of their series' keys. Each has a text: the book took points of it.
+fn digests(names: &Names, some: &[&(u32, Entry)]) -> Vec<(u32, Digest)> {
+    let digest = |(number, _): &&(u32, Entry)| {
+        let key = only(&names.text((*number).into()));
+        (*number, key.map_or([0; 32], |key| key.digest()))
     };
     some.iter().map(digest).collect()
 }
 
-impl Unknown {
+/// The series of a post of which only the owner is noted; none where numbers that last stand for them.
+pub(super) fn series_apart(post: &Post, names: Option<&Arc<Names>>) -> Option<HashSet<Digest>> {
+    match (&post.body, names) {
+        (Body::Text(text), _) => series_of_text(text),
+        (Body::Points(points), Some(names)) if names.are_of_one_post() => {
+            let numbers: HashSet<u64> = points.numbers().collect();
+            let keys = numbers.into_iter().filter_map(|number| only(&names.text(number)));
+            Some(keys.map(|key| key.digest()).collect())
+        }
+        (Body::Points(_), _) => None,
+    }
+}
+
+/// The series of a body, as the book reads it; none where the book would refuse it whole.
+pub fn series_of_text(body: &[u8]) -> Option<HashSet<Digest>> {
+    let (mut series, mut digests) = (HashSet::new(), Digests::default());
+    posted(body, |key| {
+        series.insert(digests.of_text(key));
+    })?;
+    Some(series)
+}
+
+impl BySeries {
+    /// Those of which the ids are to be asked for once the outbox has them.
     pub fn digests(&self) -> impl Iterator<Item = &Digest> {
-        self.of.iter().flat_map(|(_, numbers)| numbers.iter().map(|(_, digest)| digest))
+        self.recents.by_digest.keys()
     }
 }
 
 #[cfg(test)]
-mod tests {
-    use super::*;
-
-    #[test]
-    fn an_entry_has_sixteen_bytes() {
-        assert_eq!(size_of::<Entry>(), 16);
-    }
-}
+mod tests;

@@ -7,7 +7,6 @@ use std::collections::BTreeMap;
 mod blocks;
 mod bodies;
 mod points;
-mod protobuf;
 mod rounds;
 mod sizes;
 mod statuses;

@@ -3,7 +3,7 @@
 //! | file | what it is |
 //! |---|---|
 //! | `lock` | locked by the service that has the folder |
-//! | `version` | lines: `totxegun 3`, the format's version; `epoch`, 16 hexadecimal digits; `lock`, the inode of the lock's file; `born`, when the lock's file was made, in nanoseconds since 1970, if the file system knows it; `begun`, the journal's segment that the last start has begun; `sink`, the id (or `-`), kind and address of the sink; `moved`, the store that has all of it: then no service starts on it |
+//! | `version` | JSON: `totxegun`, the format's version; `epoch`, 16 hexadecimal digits; `lock`, the inode of the lock's file and when it was born, in nanoseconds since 1970, if the file system knows it; `begun`, the journal's segment that the last start has begun; `sink`, its kind, address and id; `moved`, the store that has all of it: then no service starts on it |
 //! | `slot-0/journal`, `slot-0/outbox` | segments |
 //! | `dead/` | one file a request that was refused for good |
 //!
@@ -22,7 +22,7 @@ use super::{locked, segment, Dead, Durability, Fault, Journal, Outbox};
 use nix::errno::Errno;
 use nix::fcntl::{flock, FlockArg};
 use std::fs::{File, OpenOptions};
-use std::io::{ErrorKind, Read};
+use std::io::{self, ErrorKind, Read};
 use std::os::fd::AsRawFd;
 use std::os::unix::fs::OpenOptionsExt;
 use std::path::{Path, PathBuf};
@@ -164,7 +164,8 @@ impl Folder {
         let mut changed = version.clone();
         make(&mut changed);
         let path = self.path.join("version");
-        self.disk.put_file(&path, changed.text().as_bytes())?;
+        let text = serde_json::to_vec(&changed).map_err(io::Error::from).map_err(io_fault(&path))?;
+        self.disk.put_file(&path, &text)?;
         *version = changed;
         Ok(())
     }
@@ -286,7 +287,6 @@ fn find(disk: &Disk, folder: &Path) -> Result<Option<Version>, FolderFault> {
         Some(version) => version.check_here(folder)?,
         None => check_new(disk, folder)?,
     }
-    check_alone(disk, folder)?;
     Ok(version)
 }
 
@@ -296,17 +296,6 @@ fn check_new(disk: &Disk, folder: &Path) -> Result<(), Fault> {
         if name.to_str().is_some_and(|name| name.starts_with("slot-") || name == "dead") {
             let what = "this file is missing, and the folder is not new: put it back".into();
             return Err(Fault::Damaged { path: folder.join("version"), at: 0, what });
-        }
-    }
-    Ok(())
-}
-
-/// What is in another slot nobody would deliver.
-fn check_alone(disk: &Disk, folder: &Path) -> Result<(), FolderFault> {
-    for name in disk.names(folder)? {
-        if name != SLOT && name.as_encoded_bytes().starts_with(b"slot-") {
-            let what = format!("is no part of a folder, which has {SLOT} alone: move it out of this folder");
-            return Err(FolderFault::Unusable { path: folder.join(name), what });
         }
     }
     Ok(())

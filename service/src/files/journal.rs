@@ -4,12 +4,11 @@
 //! |---|---|
 //! | 16 post | seconds since 1970 (u64), foreign points (u64), length of the sender's name (u64), name, body |
 //! | 17 held | JSON: of each quarantined sender its name, how many of its posts are in its own file, and where they end there |
-//! | 18 name | number, JSON: a request of one point, whose series has the number in this file from here on |
+//! | 18 name | number, a request of one point, whose series has the number in this file from here on, beside the one before (`text_row`) |
 //! | 19 points | as a post, but its body is points, and packed as its numbers are (`packed`) |
 //! | 20 runs | the same of points some of which were made of cumulative ones: ahead of them is what their runs are (`packed::runs`) |
-//! | 21 name after another | number, how many bytes its request begins with of the name before in this file, with how many it ends behind these, what is between |
 //!
-//! Numbers of 18 and 21 are packed. A name is written with the first points of a segment that need it, by the same write.
+//! Numbers of 18 are packed. A name is written with the first points of a segment that need it, by the same write.
 //!
 //! A record gets its place under one short lock, so that the order in the file is the order of the calls, and is in memory
 //! until the next write, which is for all that were appended (`write`). One thread syncs, once for all that wait; if posts are only
@@ -18,7 +17,6 @@
 mod by_number;
 mod earlier_segment;
 mod held;
-mod name_records;
 mod named_numbers;
 mod open;
 mod packed;
@@ -38,9 +36,9 @@ use super::{locked, seconds, Durability, Fault};
 use crate::work::{others_first, own_call};
 pub use by_number::ByNumber;
 pub use held::Held;
-pub use name_records::shared_ends;
 use named_numbers::NamedNumbers;
 pub use open::Left;
+pub(super) use packed::{put_number, take_number};
 pub use post::{Body, Names, NoNames, OfRun, Points, Post, Replayed};
 use std::collections::{BTreeMap, BTreeSet};
 use std::path::{Path, PathBuf};
@@ -54,7 +52,6 @@ const HELD: u8 = records::OWN + 1;
 const NAME: u8 = records::OWN + 2;
 const POINTS: u8 = records::OWN + 3;
 const RUNS: u8 = records::OWN + 4;
-const NAME_AFTER: u8 = records::OWN + 5;
 
 /// How the thread is named that syncs, and the one that writes.
 pub(super) const SYNCER: &str = "journal";
@@ -162,15 +159,11 @@ impl Journal {
     pub fn turn(&self) -> (u64, Ticket) {
         self.shared.alone(|place| {
             let next = place.segment.number + 1;
-            self.turn_to(place, next);
+            if let Err(fault) = self.shared.begin(place, next) {
+                let Lost = self.shared.disk.fail(fault);
+            }
             (next, Ticket(place.ticket))
         })
-    }
-
-    fn turn_to(&self, place: &mut Place, number: u64) {
-        if let Err(fault) = self.shared.begin(place, number) {
-            let Lost = self.shared.disk.fail(fault);
-        }
     }
 
     /// A ticket for all that was appended until now. Of a drive it is for a sync that begins later, also where nothing was
@@ -223,15 +216,6 @@ impl Journal {
     /// Whether there is room for what is written.
     pub(crate) fn free_space(&self) -> &Arc<FreeSpace> {
         &self.shared.free_space
-    }
-
-    /// Makes sure that the next segment's number is at least this: the outbox may know of a later segment than is left.
-    pub fn reach(&self, segment: u64) {
-        self.shared.alone(|place| {
-            if place.segment.number < segment {
-                self.turn_to(place, segment);
-            }
-        });
     }
 
     /// Makes the last turn and the last note of what is held durable before what comes next, whatever was asked for posts.

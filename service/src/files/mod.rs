@@ -15,6 +15,7 @@ mod segment;
 pub(crate) mod test_random;
 #[cfg(test)]
 pub(crate) mod test_runs;
+mod text_row;
 mod torn_tail;
 
 pub use dead::Dead;
@@ -25,13 +26,14 @@ pub use drive::{Drive, Lost, Tenure};
 pub use folder::{Folder, FolderFault, KnownSink};
 pub(crate) use free_space::FreeSpace;
 pub use journal::{
-    shared_ends, Body, ByNumber, Held, Journal, Left, Names, NoNames, OfRun, Points, Post, Replayed, Ticket,
+    Body, ByNumber, Held, Journal, Left, Names, NoNames, OfRun, Points, Post, Replayed, Ticket,
 };
 pub use outbox::{
-    Beginning, Epochs, GoesOn, Outbox, Owned, PointsDigest, Recent, Recents, Runs, Series, UnitOfMetric,
-    Waits, POSTS_KNOWN,
+    Beginning, Committed, Epochs, GoesOn, Noted, Outbox, Owned, PointsDigest, Recent, Recents, Runs, Series,
+    UnitOfMetric, Waits, POSTS_KNOWN,
 };
 pub use segment::Dropped;
+pub use text_row::shared_ends;
 
 use crate::work::locked;
 

@@ -37,7 +37,7 @@ use changes::Change;
 pub use changes::UnitOfMetric;
 pub use epochs::{Epochs, GoesOn};
 pub use owned::Owned;
-pub use recent::{PointsDigest, Recent, Recents, POSTS_KNOWN};
+pub use recent::{Noted, PointsDigest, Recent, Recents, POSTS_KNOWN};
 use state::{Age, State};
 use std::collections::{BTreeSet, HashMap, HashSet};
 use std::io;
@@ -48,6 +48,7 @@ use std::time::Duration;
 use texts::{Texts, PART};
 use tokio::sync::Notify;
 use writer::Writer;
+pub use written::Committed;
 
 /// A segment that is as long, and twice its snapshot, is followed by another.
 const SEGMENT: u64 = 16 << 20;
@@ -60,7 +61,7 @@ const OURS: Duration = Duration::from_millis(if cfg!(test) { 300 } else { 10_000
 pub struct Series {
     /// Where its last forwarded point ends.
     pub frontier: u64,
-    /// Unknown until the journal's posts of its first group were looked through.
+    /// Known by the commit that first has it: none is a fault of this program.
     pub owner: Option<Arc<str>>,
     /// When a group last had a point of it, in seconds since 1970: for the next eighty years these have 32 bits.
     pub seen: u32,
@@ -100,8 +101,6 @@ pub struct Outbox {
     arrived: Notify,
     /// Requests before this number are durable.
     settled: AtomicU64,
-    /// Requests from this number on wait until the owners of their series are known.
-    without_owners: AtomicU64,
     /// Which segment the last run wrote to, and up to where.
     ended: (PathBuf, u64),
     dropped: Vec<Dropped>,
@@ -139,19 +138,6 @@ impl Outbox {
     /// What is made of each that has a run.
     pub fn with_run<T: Send>(&self, make: impl Fn(SeriesKey, Series) -> T + Sync) -> Vec<T> {
         self.each_of(|series| series.run.is_some(), make)
-    }
-
-    /// The series whose owners are unknown.
-    pub fn without_owner(&self) -> HashSet<Digest> {
-        let unknown = self.each_of(|series| series.owner.is_none(), |key, _| key.digest());
-        unknown.into_iter().collect()
-    }
-
-    /// The key of a series that is known.
-    pub fn key(&self, series: &Digest) -> Option<SeriesKey> {
-        let state = locked(&self.state);
-        let key = state.series.keys(state.series.id_of(series).into_iter()).next();
-        key
     }
 
     /// What is made of each that is wanted. Keys are read without the lock, and all of them together may be very long.
@@ -261,8 +247,7 @@ impl Outbox {
     pub async fn first(&self) -> Result<(Waiting, Vec<u8>), Fault> {
         loop {
             let front = locked(&self.state).front();
-            let with_owners = self.without_owners.load(SeqCst);
-            let Some(front) = front.filter(|front| front.waiting.number < with_owners) else {
+            let Some(front) = front else {
                 // A call that came between is kept for this one.
                 self.arrived.notified().await;
                 continue;
@@ -277,16 +262,6 @@ impl Outbox {
                 }
             }
         }
-    }
-
-    /// What is committed from now on waits until the owners of its series are known: a sink writes them down.
-    pub fn wait_for_owners(&self) {
-        self.without_owners.store(locked(&self.state).facts.next, SeqCst);
-    }
-
-    pub fn owners_are_known(&self) {
-        self.without_owners.store(u64::MAX, SeqCst);
-        self.arrived.notify_one();
     }
 
     /// Makes durable all that was written. In a folder it is already.

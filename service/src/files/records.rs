@@ -36,8 +36,8 @@ pub enum Which {
     Held = 3,
 }
 
-/// Of the records and of what is in them, in each file. 1 to 4 stood for other forms.
-const VERSION: u16 = 5;
+/// Of the records and of what is in them, in each file.
+const VERSION: u16 = 1;
 
 /// Appends a record made of parts.
 pub fn put(out: &mut Vec<u8>, kind: u8, parts: &[&[u8]]) {

@@ -71,16 +71,16 @@ struct Served {
 }
 
 impl Served {
-    async fn with(outcome: Option<Outcome>, most_bytes: usize) -> Served {
-        Served::behind(Door::default(), outcome, most_bytes).await
+    async fn with(outcome: Option<Outcome>, max_bytes: usize) -> Served {
+        Served::behind(Door::default(), outcome, max_bytes).await
     }
 
-    async fn behind(door: Door, outcome: Option<Outcome>, most_bytes: usize) -> Served {
+    async fn behind(door: Door, outcome: Option<Outcome>, max_bytes: usize) -> Served {
         let kept = Arc::new(Kept { posts: Mutex::new(Vec::new()), turned: Mutex::new(Vec::new()), outcome });
-        let budget = Budget::new(most_bytes);
+        let budget = Budget::new(max_bytes);
         let metrics = Arc::new(Metrics::new().unwrap());
         let intake = Intake::of(
-            Slots::one(kept.clone()),
+            Slots::one(Some(kept.clone())),
             kept.clone(),
             Arc::new(Reading::default()),
             budget.clone(),
@@ -309,7 +309,7 @@ async fn a_deadline_ends_the_call_and_not_the_post() {
 #[tokio::test]
 async fn headers_are_dropped_while_a_message_comes() {
     let (kept, metrics) = (Served::start().await.kept, Arc::new(Metrics::new().unwrap()));
-    let (slots, reading) = (Slots::one(kept), Arc::new(Reading::default()));
+    let (slots, reading) = (Slots::one(Some(kept)), Arc::new(Reading::default()));
     let intake = Intake::of(slots, Arc::new(()), reading, Budget::new(1 << 20), metrics);
     let (with_headers, (_sender, body)) = (Arc::new(()), Body::channel());
     let are_there = Arc::downgrade(&with_headers);

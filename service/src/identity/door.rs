@@ -20,13 +20,13 @@ pub struct Door {
     hosts: Option<Arc<AllowedHosts>>,
 }
 
-/// The file of `--operate-tokens`.
+/// The file of `--admin-tokens`.
 pub fn operators(path: PathBuf, metrics: &Metrics) -> Result<Arc<Reloaded<Tokens>>> {
     let reader = Reader {
         read: Box::new(|contents: &[Vec<u8>]| Tokens::read(&contents.concat())?.of_operators()),
         shut: Tokens::shut,
     };
-    Reloaded::open(vec![("--operate-tokens", path)], reader, metrics)
+    Reloaded::open(vec![("--admin-tokens", path)], reader, metrics)
 }
 
 impl Door {

@@ -198,7 +198,7 @@ impl<'r> Reader<'r> {
         let reading = slot.map_or(self.reading, |slot| slot.reading(self.reading));
         let known = match encoding {
             Encoding::Json => None,
-            Encoding::Protobuf => slot.and_then(|slot| slot.of_protobuf(&body, reading)),
+            Encoding::Protobuf => slot.and_then(|slot| slot.numbered(&body, reading)).map(Request::from),
         };
         let (request, rounded) = match known {
             Some(mut request) => {

@@ -15,7 +15,7 @@ pub enum Full {
     #[error("too many bytes in flight")]
     Now,
     /// There is never so much: the same would be refused again.
-    #[error("body too long for the memory that posts may take: --most-bytes")]
+    #[error("body too long for the memory that posts may take: --max-bytes")]
     Ever,
 }
 

@@ -7,10 +7,12 @@
 //! there is none for that either it is tried again later. What was taken is not given back, since points of a later hour may
 //! have come meanwhile: without memory to write it, that is tried again, and then the process ends.
 
-use super::owners::find_owners;
 use super::{Carried, Keeper, Trouble};
-use crate::core::{Book, Changed, Flushed, Refused, Unknown};
-use crate::files::{Fault, Runs, Ticket};
+use crate::core::{Book, BySeries, Changed, Flushed, Refused};
+use crate::files::{Committed, Fault, Runs, Ticket};
+use crate::log::shown;
+use crate::otlp::series::SeriesKey;
+use crate::post_reports::SERIES_SHOWN;
 use crate::runs::State;
 use crate::slot::Slot;
 use crate::work::blocking;
@@ -147,17 +149,17 @@ fn turn(slot: &Slot, runs: &State, book: &mut Book) -> Group {
 
 /// As `commit`, for who has no lock: what the outbox has now is noted.
 pub(super) fn commit_and_note(slot: &Slot, bodies: &[Vec<u8>], group: Group) -> Result<u64, Fault> {
-    let (requests, saved, unknown) = commit(slot, bodies, group)?;
+    let (requests, saved, noted) = commit(slot, bodies, group)?;
     slot.runs.lock().saved(&saved);
-    let (numbering, ids) = slot.outbox.ids(unknown.digests());
-    slot.core.lock().note_ids(numbering, unknown, ids);
+    let (numbering, ids) = slot.outbox.ids(noted.digests());
+    slot.core.lock().note_ids(numbering, noted, ids);
     Ok(requests)
 }
 
 /// Journal first, then outbox: a group is committed once all its posts are on the disk, and so is what no flush takes. How many
 /// requests it has, which runs, and of which series the ids are to be asked for. Where a drive keeps that order by itself, nothing is waited for: who has a lock may call
 /// it, and settles the outbox without.
-pub(super) fn commit(slot: &Slot, bodies: &[Vec<u8>], group: Group) -> Result<(u64, Runs, Unknown), Fault> {
+pub(super) fn commit(slot: &Slot, bodies: &[Vec<u8>], group: Group) -> Result<(u64, Runs, BySeries), Fault> {
     let Group { posts, next, turned, runs, recents } = group;
     let first = slot.outbox.journal();
     slot.journal.settle(turned);
@@ -167,16 +169,28 @@ pub(super) fn commit(slot: &Slot, bodies: &[Vec<u8>], group: Group) -> Result<(u
         slot.journal.hold(&held, first, next)?;
     }
     let requests = bodies.len() as u64;
-    let (recents, unknown) = recents.by_series(slot.outbox.numbering());
-    slot.outbox.wait_for_owners();
-    let saved = slot.outbox.commit_with(bodies, next, runs, &recents)?;
+    let noted = recents.by_series(slot.outbox.numbering());
+    let Committed { runs, unowned } = slot.outbox.commit_with(bodies, next, runs, &noted.recents)?;
+    tell_unowned(slot, unowned);
     slot.count_grouped(posts);
     slot.metrics.forwarded_requests.inc_by(requests);
-    find_owners(slot, first, next)?;
-    slot.outbox.owners_are_known();
     slot.journal.forget(next)?;
     slot.metrics.checkpoints.with_label_values(&["done"]).inc();
-    Ok((requests, saved, unknown))
+    Ok((requests, runs, noted))
+}
+
+/// This is a fault of this program, and a late repeat to such a series may be taken after a start.
+fn tell_unowned(slot: &Slot, (count, one): (usize, Option<SeriesKey>)) {
+    if let Some(one) = one {
+        slot.metrics.faults.with_label_values(&["owner"]).inc_by(count as u64);
+        let (slot, series) = (slot.number(), shown(&one.0, SERIES_SHOWN));
+        tracing::error!(
+            slot,
+            series_count = count,
+            series,
+            "slot {slot}: {count} series were forwarded and are in no post, such as {series}"
+        );
+    }
 }
 
 #[cfg(test)]

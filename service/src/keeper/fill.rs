@@ -232,8 +232,8 @@ impl Fresh<'_> {
         let read = again.was_read()?;
         if let (Body::Points(points), Some(names)) = (&read.post.body, read.named()) {
             self.filled.runs.replay(names, points);
-            self.book.note_recent_again(names, again.posts_of(points));
         }
+        self.book.note_recent(read, again.each_post());
         Ok(read.post.foreign)
     }
 
@@ -269,16 +269,16 @@ fn not_filled(outbox: &Outbox, sender: &str, refused: Refused) -> Trouble {
     );
     match refused {
         Refused::NoMemory | Refused::HalfTaken => {
-            Trouble::NoMemoryToFill(format!("{why}: give a greater --book-memory"))
+            Trouble::NoMemoryToFill(format!("{why}: give a greater --max-memory"))
         }
-        Refused::TooManySeries => Trouble::NotFilled(format!("{why}: give a greater --most-series")),
+        Refused::TooManySeries => Trouble::NotFilled(format!("{why}: give a greater --max-series")),
         _ => Trouble::NotFilled(format!("{why}: the log of the run before may say more")),
     }
 }
 
 fn not_taken(refused: Refused) -> Trouble {
     Trouble::NoMemoryToFill(format!(
-        "what the book has can't be taken of it: {refused}. Nothing is lost: give a greater --book-memory"
+        "what the book has can't be taken of it: {refused}. Nothing is lost: give a greater --max-memory"
     ))
 }
 

@@ -126,7 +126,7 @@ fn with_posts(slot: &Slot) -> Result<HashSet<Digest>, Fault> {
     let mut found = HashSet::new();
     let mut series = SeriesOfPosts::default();
     slot.journal.posts(slot.outbox.journal(), u64::MAX, |post| {
-        found.extend(series.of(&post).into_iter().flat_map(|read| read.series));
+        found.extend(series.of(&post).into_iter().flatten());
         true
     })?;
     Ok(found)

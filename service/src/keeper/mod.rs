@@ -1,22 +1,20 @@
 //! Keeps the book: checkpoints, quarantines, what is forgotten, and its start.
 //!
 //! One task does all of this, one after the other: `run` waits for what is to be done, `checkpoint` moves what the book
-//! has to the outbox, `forget` leaves out series or puts their ends back, `fill` gives a fresh book what the files say, `owners`
-//! finds whose series these are, `series` says which ones a post has, `numbers` gives them numbers for the book, `rest` gives back memory where nobody posts, `unfilled` waits where a start has too little memory. What takes long is done on threads beside the runtime's.
+//! has to the outbox, `forget` leaves out series or puts their ends back, `fill` gives a fresh book what the files say, `series`
+//! says which ones a post has, `numbers` gives them numbers for the book, `rest` gives back memory where nobody posts, `unfilled` waits where a start has too little memory. What takes long is done on threads beside the runtime's.
 
 mod checkpoint;
 mod fill;
 mod forget;
 mod numbers;
 mod orders;
-mod owners;
 mod rest;
 mod run;
 mod series;
 mod unfilled;
 
 pub use fill::Priming;
-pub(crate) use run::settle;
 
 use crate::core::Refused;
 use crate::files::{Fault, Lost};
@@ -77,7 +75,7 @@ pub enum Trouble {
     #[error(transparent)]
     Lost(#[from] Lost),
     /// It was tried often enough. The journal has all.
-    #[error("there is no memory to flush the book: nothing is lost, since the journal has all that was taken; give a greater --book-memory")]
+    #[error("there is no memory to flush the book: nothing is lost, since the journal has all that was taken; give a greater --max-memory")]
     NoMemory,
     /// No book answers so.
     #[error("the book does not end what was taken of it ({0}): this is a fault of totxegun")]

@@ -2,7 +2,6 @@
 
 use super::fill::{fill_primed, Filled};
 use super::{Keeper, Trouble};
-use crate::files::Fault;
 use crate::latch::Latch;
 use crate::log::shown;
 use crate::post_reports::SERIES_SHOWN;
@@ -84,10 +83,10 @@ impl Keeper {
         }
     }
 
-    /// Brings the files to where the last commit left them.
+    /// Deletes what the last commit has left of the journal.
     pub(super) async fn begin(&mut self) -> Result<(), Trouble> {
         let slot = self.slot.clone();
-        blocking(move || Ok(settle(&slot)?)).await
+        blocking(move || Ok(slot.journal.forget(slot.outbox.journal())?)).await
     }
 
     /// Fills the book: false where it was told to stop before.
@@ -192,16 +191,6 @@ impl Keeper {
     }
 }
 
-/// Brings the files of a slot to where the last commit left them.
-pub(crate) fn settle(slot: &Slot) -> Result<(), Fault> {
-    let first = slot.outbox.journal();
-    slot.journal.reach(first);
-    // A commit may have come without the owners of its series.
-    super::owners::find_owners_left(slot, first)?;
-    slot.outbox.owners_are_known();
-    slot.journal.forget(first)
-}
-
 /// Of such series right points are refused.
 fn tell_ahead(slot: &Slot) {
     let now = SystemTime::now().duration_since(UNIX_EPOCH).unwrap_or_default() + AHEAD;
@@ -213,7 +202,7 @@ fn tell_ahead(slot: &Slot) {
             series_count,
             series,
             "slot {slot}: {series_count} series end over an hour ahead of this clock, such as {series}: until then right points of \
-             them are refused; totxegun repair puts their ends back"
+             them are refused; totxegun rewind puts their ends back"
         );
     }
 }

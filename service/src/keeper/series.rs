@@ -1,7 +1,8 @@
 //! The series of the journal's posts, whether they are texts or points by number.
 
-use crate::files::{Body, Points, Replayed};
-use crate::otlp::series::{only, posted, Digest, Digests};
+use crate::core::series_of_text;
+use crate::files::{Body, Replayed};
+use crate::otlp::series::{only, Digest};
 use std::collections::{HashMap, HashSet};
 
 /// Reads posts one after the other, each in its turn: a later one does not say again what a number stands for.
@@ -11,40 +12,23 @@ pub(super) struct SeriesOfPosts {
     named: HashMap<u64, Option<Digest>>,
 }
 
-/// What a post has, read as the book reads it.
-pub(super) struct OfPost {
-    /// Those with points of the profile.
-    pub series: HashSet<Digest>,
-    pub foreign: u64,
-}
-
 impl SeriesOfPosts {
-    /// None where the book would refuse it whole.
-    pub fn of(&mut self, read: &Replayed) -> Option<OfPost> {
+    /// Those with points of the profile; none where the book would refuse the post whole.
+    pub fn of(&mut self, read: &Replayed) -> Option<HashSet<Digest>> {
         for (number, text) in &read.named {
             self.named.insert(*number, only(text).map(|key| key.digest()));
         }
-        Some(match &read.post.body {
-            Body::Text(body) => {
-                let (mut series, mut digests) = (HashSet::new(), Digests::default());
-                let foreign = posted(body, |key| {
-                    series.insert(digests.of_text(key));
-                })?;
-                OfPost { series, foreign }
-            }
-            Body::Points(points) => OfPost { series: self.of_points(points)?, foreign: read.post.foreign },
-        })
-    }
-
-    fn of_points(&self, points: &Points) -> Option<HashSet<Digest>> {
-        points.numbers().map(|number| *self.named.get(&number)?).collect()
+        match &read.post.body {
+            Body::Text(body) => series_of_text(body),
+            Body::Points(points) => points.numbers().map(|number| *self.named.get(&number)?).collect(),
+        }
     }
 }
 
 #[cfg(test)]
 mod tests {
     use super::*;
-    use crate::files::Post;
+    use crate::files::{Points, Post};
     use bytes::Bytes;
 
     fn text(name: &str, end: u64) -> Bytes {
@@ -59,7 +43,7 @@ mod tests {
     fn of(series: &mut SeriesOfPosts, body: Body, named: &[(u64, &str)]) -> Option<HashSet<Digest>> {
         let post = Post { sender: "s".into(), foreign: 0, body };
         let named = named.iter().map(|(number, name)| (*number, text(name, 2)));
-        Some(series.of(&Replayed { post, named: named.collect() })?.series)
+        series.of(&Replayed { post, named: named.collect() })
     }
 
     fn series<const N: usize>(names: [&str; N]) -> Option<HashSet<Digest>> {

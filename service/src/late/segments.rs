@@ -17,32 +17,29 @@ const MAX_WRITE: u64 = 1 << 20;
 /// A segment, by its number, and how long it is.
 type Segment = (u64, u64);
 
+/// Its folder is looked at before each write: what somebody has deleted there is not kept.
 pub(super) struct Segments {
     folder: PathBuf,
     max_bytes: u64,
-    /// The oldest first; lines go to the last one.
-    all: VecDeque<Segment>,
-    /// The last one.
-    file: Option<File>,
 }
 
 impl Segments {
     pub fn new(folder: PathBuf, max_bytes: u64) -> Segments {
-        let all = listed(&folder).unwrap_or_default();
-        Segments { folder, max_bytes, all, file: None }
+        Segments { folder, max_bytes }
     }
 
     pub fn folder(&self) -> &Path {
         &self.folder
     }
 
+    /// How long all are together, as far as they can be listed.
     pub fn bytes(&self) -> u64 {
-        self.all.iter().map(|(_, bytes)| bytes).sum()
+        bytes(&listed(&self.folder).unwrap_or_default())
     }
 
     /// Puts these lines behind the others, each with its end of line: how many, and why it was not all. A line that no segment has room
     /// for is passed over, and so is what follows once they are together as long as a segment: one post does not take the others' room.
-    pub fn append(&mut self, lines: impl Iterator<Item = Vec<u8>>) -> (u64, Result<()>) {
+    pub fn append(&self, lines: impl Iterator<Item = Vec<u8>>) -> (u64, Result<()>) {
         let of_one = self.max_bytes / SEGMENTS;
         let (mut written, mut bytes) = (0, 0);
         let (mut part, mut count) = (Vec::new(), 0);
@@ -68,59 +65,39 @@ impl Segments {
         }
     }
 
-    fn put(&mut self, part: &[u8]) -> Result<()> {
+    fn put(&self, part: &[u8]) -> Result<()> {
         if part.is_empty() {
             return Ok(());
         }
-        self.make_room(part.len() as u64)?;
-        self.write(part)
+        std::fs::DirBuilder::new().recursive(true).mode(0o700).create(&self.folder)?;
+        open(&self.folder, self.with_room(part.len() as u64)?)?.write_all(part)
     }
 
-    /// Begins a new segment unless the last one takes so many bytes.
-    fn make_room(&mut self, bytes: u64) -> Result<()> {
+    /// The last segment, or a new one if that does not take so many bytes.
+    fn with_room(&self, part: u64) -> Result<u64> {
         let of_one = self.max_bytes / SEGMENTS;
-        if self.all.back().is_some_and(|(_, length)| length + bytes <= of_one) {
-            return Ok(());
-        }
-        self.file = None;
-        let number = self.all.back().map_or(1, |(number, _)| number + 1);
-        self.all.push_back((number, 0));
-        while self.bytes() + of_one > self.max_bytes && self.all.len() > 1 {
-            let (oldest, _) = self.all[0];
+        let mut all = listed(&self.folder)?;
+        let next = match all.back() {
+            Some((number, length)) if length + part <= of_one => return Ok(*number),
+            last => last.map_or(1, |(number, _)| number + 1),
+        };
+        while bytes(&all) + of_one > self.max_bytes {
+            let Some((oldest, _)) = all.pop_front() else { break };
             match std::fs::remove_file(path(&self.folder, oldest)) {
-                Err(error) if error.kind() != ErrorKind::NotFound => {
-                    self.all.pop_back();
-                    return Err(error);
-                }
-                _ => drop(self.all.pop_front()),
+                Err(error) if error.kind() != ErrorKind::NotFound => return Err(error),
+                _ => {}
             }
         }
-        Ok(())
+        Ok(next)
     }
+}
 
-    fn write(&mut self, part: &[u8]) -> Result<()> {
-        let written = self.try_write(part);
-        if written.is_err() {
-            self.file = None; // which may end within a line
-        }
-        written
-    }
-
-    fn try_write(&mut self, part: &[u8]) -> Result<()> {
-        let Some((number, length)) = self.all.back_mut() else { return Ok(()) };
-        let file = match &mut self.file {
-            Some(file) => file,
-            none => none.insert(open(&self.folder, *number)?),
-        };
-        let written = file.write_all(part);
-        *length = file.metadata()?.len();
-        written
-    }
+fn bytes(all: &VecDeque<Segment>) -> u64 {
+    all.iter().map(|(_, bytes)| bytes).sum()
 }
 
 /// Opens a segment, whose last line has its end.
 fn open(folder: &Path, number: u64) -> Result<File> {
-    std::fs::DirBuilder::new().recursive(true).mode(0o700).create(folder)?;
     let mut options = OpenOptions::new();
     let mut file = options.read(true).append(true).create(true).mode(0o600).open(path(folder, number))?;
     if file.metadata()?.len() > 0 {

@@ -114,6 +114,21 @@ fn what_can_t_be_written_is_counted() {
     assert!(read(&folder).is_empty());
 }
 
+/// By an operator, who wants room or has copied it: what comes later is kept, and no more than is there is said to be.
+#[test]
+fn what_comes_after_files_were_deleted_is_kept() {
+    let place = tempfile::tempdir().unwrap();
+    let folder = place.path().join("late");
+    let mut segments = Segments::new(folder.clone(), 1 << 20);
+    append(&mut segments, [line(10), line(11)]);
+    std::fs::remove_file(folder.join("0000000001.jsonl")).unwrap();
+    append(&mut segments, [line(12)]);
+    assert_eq!((read(&folder), segments.bytes()), (vec![12], line(12).len() as u64));
+    std::fs::remove_dir_all(&folder).unwrap();
+    append(&mut segments, [line(13)]);
+    assert_eq!((read(&folder), segments.bytes()), (vec![13], line(13).len() as u64));
+}
+
 fn append(segments: &mut Segments, lines: impl IntoIterator<Item = Vec<u8>>) -> u64 {
     let (written, result) = segments.append(lines.into_iter());
     result.unwrap();

@@ -40,15 +40,15 @@ metrics! {
         // Both by `sender`, of which so many have a label.
         accepted_points: IntCounterVec = "accepted_points_total" ["sender"], "Points that were taken";
         rejected_points: IntCounterVec = "rejected_points_total" ["sender", "reason"],
-            "Points that were not taken, of requests that were, but for those of --expect-foreign";
+            "Points that were not taken, of requests that were, but for those of --expect-rejected";
         duplicate_points: IntCounterVec = "duplicate_points_total" ["sender"],
             "Points that were taken before: they are left out, and answered as the first time";
         pub late_points: IntCounterVec = "late_points_total" ["outcome"] of ["kept", "not_kept"],
             "Points that their series refused, by whether they are kept as late data (`totxegun late`)";
         expected_rejected_points: IntCounterVec = "expected_rejected_points_total" ["reason"],
-            "Points that were not taken, as --expect-foreign says";
+            "Points that were not taken, as --expect-rejected says";
         pub passed_points: IntCounterVec = "passed_points_total" ["outcome"] of ["taken", "refused", "lost", "dropped"],
-            "Points outside the profile that --pass was to hand on, by what became of them";
+            "Points outside the profile that --forward-unsupported was to hand on, by what became of them";
         pub rounded_values: IntCounterVec = "rounded_values_total" ["whole"],
             "Values of posts that were taken that `--whole` has rounded, by its rule";
         pub rounding: CounterVec = "rounding_units_total" ["whole"],
@@ -78,7 +78,7 @@ metrics! {
         pub stale_files: IntGaugeVec = "stale_files" ["option"],
             "1 while the file of an option has changed and is not used, since it can't be, or since a setting needs a restart";
         // What must never be.
-        pub faults: IntCounterVec = "faults_total" ["kind"] of ["reading", "owner", "replay", "points_rejected_by_sink"],
+        pub faults: IntCounterVec = "faults_total" ["kind"] of ["owner", "replay", "points_rejected_by_sink"],
             "Points that the sink rejected, and faults of the program";
         pub checkpoint_pause_seconds: Histogram = "checkpoint_pause_seconds", "How long a checkpoint held the posts";
         pub last_recovery: Gauge = "last_recovery_duration_seconds",
@@ -123,7 +123,7 @@ metrics! {
         pub series: IntGauge = "series", "Series that are known";
         pub cumulative_series: IntGauge = "cumulative_series", "Series whose points come cumulative";
         pub series_limit: IntGauge = "series_limit", "So many series fit for sure";
-        pub book_memory_bytes: IntGauge = "book_memory_bytes", "Memory that the book has";
+        pub book_memory_bytes: IntGauge = "memory_bytes", "Memory that the book has";
         pub memory_limit_bytes: IntGauge = "memory_limit_bytes", "Memory that the book may have";
     }
 }
@@ -166,8 +166,7 @@ impl Metrics {
 
     /// Counts points that were taken before.
     pub fn duplicates(&self, sender: &str, points: u64) {
-        let label = if self.has_label(sender) { sender } else { OTHER };
-        self.duplicate_points.with_label_values(&[label]).inc_by(points);
+        self.duplicate_points.with_label_values(&[self.label(sender)]).inc_by(points);
     }
 
     /// Counts points that were not taken, of a request that was.
@@ -177,8 +176,7 @@ impl Metrics {
             if expected.contains(&reason) {
                 self.expected_rejected_points.with_label_values(&[name]).inc_by(points);
             } else {
-                let label = if self.has_label(sender) { sender } else { OTHER };
-                self.rejected_points.with_label_values(&[label, name]).inc_by(points);
+                self.rejected_points.with_label_values(&[self.label(sender), name]).inc_by(points);
             }
         }
     }
@@ -235,8 +233,12 @@ impl Metrics {
         self.by_series.of_rule(rule)
     }
 
-    fn has_label(&self, sender: &str) -> bool {
-        self.count_sender(sender, |_| ())
+    fn label<'s>(&self, sender: &'s str) -> &'s str {
+        if self.count_sender(sender, |_| ()) {
+            sender
+        } else {
+            OTHER
+        }
     }
 
     /// Counts points of a sender: whether it has a label of its own. Names of senders come from outside: so many have one.
@@ -260,7 +262,7 @@ impl Metrics {
         self.sender_share.reset();
         for used in nearest {
             let both = [
-                ("series", used.most_series, used.part_of_series()),
+                ("series", used.max_series, used.part_of_series()),
                 ("points", used.most_points, used.part_of_points()),
             ];
             for (of, _, part) in both.into_iter().filter(|(_, most, _)| most.is_some()) {

@@ -72,11 +72,11 @@ pub struct Acts {
 /// What was asked for.
 #[derive(Clone, Debug, PartialEq, Eq)]
 pub struct Asked {
-    /// `quarantine`, `lift`, `dead drop`, `dead resend`, `close`, `open`, `adjust`, `repair`, `forget`, `new sink`.
+    /// `quarantine`, `release`, `dead-letters drop`, `dead-letters resend`, `close`, `reopen`, `adjust`, `rewind`, `forget`, `new sink`.
     pub what: &'static str,
     /// A sender, a key, a period, an adjustment, a series, a sink.
     pub of: String,
-    /// By which of these it was asked for: `--all`, `--anyway`, `--flush`.
+    /// By which of these it was asked for: `--all`, `--force`, `--flush`.
     pub given: Vec<&'static str>,
 }
 
@@ -226,10 +226,10 @@ mod tests {
     fn an_act_is_there_before_it_is_carried_out_and_then_how_it_ended() {
         let folder = tempfile::tempdir().unwrap();
         let acts = Acts::in_folder(folder.path());
-        let act = Act::new(Actor::User(None), Asked::new("dead drop", "0-a-1\n{\"who\":\"root\"}"));
+        let act = Act::new(Actor::User(None), Asked::new("dead-letters drop", "0-a-1\n{\"who\":\"root\"}"));
         acts.begins(&act);
         let first = lines(folder.path(), NAME);
-        assert_eq!((&first[0]["who"], &first[0]["act"]), (&"operator".into(), &"dead drop".into()));
+        assert_eq!((&first[0]["who"], &first[0]["act"]), (&"operator".into(), &"dead-letters drop".into()));
         assert!(first[0].get("outcome").is_none() && first.len() == 1, "{first:?}");
         let mode = std::fs::metadata(folder.path().join(NAME)).unwrap().permissions().mode();
         assert_eq!(mode & 0o077, 0, "{mode:o}: others may read it");
@@ -259,21 +259,20 @@ mod tests {
     fn what_was_given_beside_it_is_written_down() {
         let folder = tempfile::tempdir().unwrap();
         let acts = Acts::in_folder(folder.path());
-        for (all, anyway) in [(false, false), (true, false), (true, true)] {
-            let asked =
-                Asked::new("forget", "a".repeat(2 * SHOWN)).with("--all", all).with("--anyway", anyway);
+        for (all, force) in [(false, false), (true, false), (true, true)] {
+            let asked = Asked::new("forget", "a".repeat(2 * SHOWN)).with("--all", all).with("--force", force);
             acts.begins(&Act::new(Actor::User(None), asked));
         }
         let given = |line: &serde_json::Value| line.get("given").map(ToString::to_string);
         let found: Vec<_> = lines(folder.path(), NAME).iter().map(given).collect();
-        assert_eq!(found, [None, Some(r#"["--all"]"#.into()), Some(r#"["--all","--anyway"]"#.into())]);
+        assert_eq!(found, [None, Some(r#"["--all"]"#.into()), Some(r#"["--all","--force"]"#.into())]);
     }
 
     #[test]
     fn the_file_does_not_grow_for_ever() {
         let folder = tempfile::tempdir().unwrap();
         let acts = Acts::in_folder(folder.path());
-        let act = Act::new(Actor::User(None), Asked::new("lift", "A"));
+        let act = Act::new(Actor::User(None), Asked::new("release", "A"));
         for fill in [MOST, MOST] {
             acts.begins(&act);
             let file = OpenOptions::new().write(true).open(folder.path().join(NAME)).unwrap();
@@ -292,7 +291,7 @@ mod tests {
         let cut = "{\"time\":\"2026-11-27T1";
         std::fs::write(folder.path().join(NAME), cut).unwrap();
         let acts = Acts::in_folder(folder.path());
-        let act = Act::new(Actor::User(None), Asked::new("lift", "A"));
+        let act = Act::new(Actor::User(None), Asked::new("release", "A"));
         acts.begins(&act);
         acts.ended(&act, "done");
         let text = std::fs::read_to_string(folder.path().join(NAME)).unwrap();
@@ -308,6 +307,6 @@ mod tests {
     #[test]
     fn an_act_goes_on_where_it_can_t_be_written() {
         let acts = Acts::in_folder(Path::new("/nowhere/at/all"));
-        acts.begins(&Act::new(Actor::User(None), Asked::new("lift", "A")));
+        acts.begins(&Act::new(Actor::User(None), Asked::new("release", "A")));
     }
 }

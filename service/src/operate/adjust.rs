@@ -5,10 +5,9 @@ use super::reach::Answer;
 use super::{Actor, Asked, Desk};
 use crate::late::{LatePoint, LateValue};
 use crate::log::of_nanoseconds;
-use crate::sinks::periods::{hour_shown, Adjustment, Deed, Period, Which};
+use crate::sinks::periods::{hour_shown, Adjustment, Deed, Which};
 use crate::sinks::sql::totals::SeriesTotal;
-use bytes::Bytes;
-use hyper::body::HttpBody;
+use crate::work::whole_body;
 use hyper::Body;
 use serde::{Deserialize, Serialize};
 use std::sync::Arc;
@@ -39,14 +38,6 @@ pub struct AskedAdjustment {
     pub dry_run: bool,
 }
 
-/// By hand, what is to be known.
-struct ByHand {
-    series: Meant,
-    hour: Period,
-    value: i64,
-    reason: String,
-}
-
 /// Which series somebody means.
 enum Meant {
     Number(i64),
@@ -55,8 +46,9 @@ enum Meant {
 
 impl AskedAdjustment {
     async fn of(body: Body) -> Result<AskedAdjustment, String> {
-        let read: Result<AskedAdjustment, _> = serde_json::from_slice(&whole(body).await?);
-        read.map_err(|why| {
+        let body = whole_body(body, MAX_BODY).await.map_err(|error| error.to_string())?;
+        let body = body.ok_or_else(|| format!("a body of over {MAX_BODY} bytes is no adjustment"))?;
+        serde_json::from_slice(&body).map_err(|why| {
             format!("write {{\"series\":TEXT,\"hour\":TEXT,\"value\":NUMBER,\"reason\":TEXT}} or {{\"late\":KEY}}: {why}")
         })
     }
@@ -74,44 +66,23 @@ impl AskedAdjustment {
         Asked::new("adjust", of)
     }
 
-    fn by_hand(&self) -> Result<ByHand, String> {
+    /// What is done, but for the series: that is found later.
+    fn by_hand(&self) -> Result<(Meant, Adjustment), String> {
         let missing = |what: &str| format!("an adjustment by hand has a {what}");
         let series = self.series.as_deref().ok_or_else(|| missing("series"))?;
         let named = || series.parse().map(|named| Meant::Named(named, series.to_string()));
-        let adjusted = ByHand {
-            series: series.parse().map_or_else(|_| named(), |number| Ok(Meant::Number(number)))?,
+        let meant = series.parse().map_or_else(|_| named(), |number| Ok(Meant::Number(number)))?;
+        let adjustment = Adjustment {
+            series: Which::Number(0),
             hour: self.hour.as_deref().ok_or_else(|| missing("hour"))?.parse()?,
             value: self.value.ok_or_else(|| missing("value"))?,
             reason: self.reason.as_deref().unwrap_or_default().trim().to_string(),
-        };
-        adjusted.of(Which::Number(0), self.dry_run).check()?;
-        Ok(adjusted)
-    }
-}
-
-impl ByHand {
-    fn of(&self, series: Which, is_dry: bool) -> Adjustment {
-        let ByHand { hour, value, reason, .. } = self;
-        Adjustment {
-            series,
-            hour: hour.clone(),
-            value: *value,
-            reason: reason.clone(),
             late_key: String::new(),
-            is_dry,
-        }
+            is_dry: self.dry_run,
+        };
+        adjustment.check()?;
+        Ok((meant, adjustment))
     }
-}
-
-async fn whole(mut body: Body) -> Result<Bytes, String> {
-    let mut whole = Vec::new();
-    while let Some(part) = body.data().await {
-        whole.extend_from_slice(&part.map_err(|error| error.to_string())?);
-        if whole.len() > MAX_BODY {
-            return Err(format!("a body of over {MAX_BODY} bytes is no adjustment"));
-        }
-    }
-    Ok(whole.into())
 }
 
 /// Why late data can't be booked as it is, or what it is booked as. A point counts in the hour in which it ends.
@@ -162,9 +133,8 @@ impl Desk {
         let adjustment = match &asked.late {
             Some(key) => self.late_adjustment(key, &asked).await?,
             None => {
-                let by_hand = asked.by_hand().map_err(|why| Answer::told(400, &why))?;
-                let series = self.meant(&by_hand.series).await?;
-                by_hand.of(series, asked.dry_run)
+                let (meant, adjustment) = asked.by_hand().map_err(|why| Answer::told(400, &why))?;
+                Adjustment { series: self.meant(&meant).await?, ..adjustment }
             }
         };
         let has = match adjustment.is_dry {
@@ -211,9 +181,8 @@ impl Desk {
             let why = "keeps no hours: only a SQLite or PostgreSQL sink can be adjusted";
             return Err(Answer::told(409, &format!("the sink {} {why}", self.sink.name())));
         };
-        let is_meant = move |series: &SeriesTotal| of.name.as_ref() == Some(&series.name) && of.takes(series);
         let read = totals.read(move |mut all| {
-            all.retain(is_meant);
+            all.retain(|series| of.takes(series));
             Ok(all)
         });
         let mut found = read.await.map_err(|why| Answer::told(503, &why))?;
@@ -241,7 +210,7 @@ impl Desk {
             return String::new();
         };
         let hour = adjustment.hour.from.unsigned_abs();
-        let hours = totals.hours((**series).clone(), hour).await.ok().flatten().unwrap_or_default();
+        let hours = totals.hours(series.digest, hour).await.ok().flatten().unwrap_or_default();
         match hours.iter().find(|found| found.hour == hour) {
             Some(found) => format!("; it has counted {} there", found.total),
             None => "; it has counted nothing there".into(),
@@ -310,11 +279,11 @@ mod tests {
             reason: Some(" counted twice ".into()),
             ..AskedAdjustment::default()
         };
-        let by_hand = right.by_hand().unwrap();
-        assert_eq!((by_hand.value, by_hand.reason.as_str()), (-250, "counted twice"));
-        assert!(matches!(by_hand.series, Meant::Named(..)));
+        let (meant, adjustment) = right.by_hand().unwrap();
+        assert_eq!((adjustment.value, adjustment.reason.as_str()), (-250, "counted twice"));
+        assert!(matches!(meant, Meant::Named(..)));
         let number = AskedAdjustment { series: Some("7".into()), ..right.clone() }.by_hand().unwrap();
-        assert!(matches!(number.series, Meant::Number(7)));
+        assert!(matches!(number.0, Meant::Number(7)));
         let text = |text: &str| Some(text.to_string());
         for (asked, part) in [
             (AskedAdjustment { series: None, ..right.clone() }, "has a series"),

@@ -140,19 +140,14 @@ fn listed(point: &LatePoint) -> Value {
         }
     }
     if let Ok(of) = SeriesTotal::of_none(&point.series()) {
-        for (name, value) in [
-            ("name", json!(of.name)),
-            ("unit", json!(of.unit)),
-            ("kind", json!(of.kind)),
-            ("attributes", json!(of.attributes)),
-            ("resource", json!(of.resource)),
-            ("scope_name", json!(of.scope_name)),
-            ("scope_version", json!(of.scope_version)),
-            ("scope_attributes", json!(of.scope_attributes)),
-            ("bounds", json!(of.histogram.map(|histogram| histogram.bounds))),
-        ] {
-            shown[name] = value;
+        let mut of = json!(of);
+        for name in ["name", "unit", "kind", "attributes", "resource"] {
+            shown[name] = of[name].take();
         }
+        for name in ["scope_name", "scope_version", "scope_attributes"] {
+            shown[name] = of[name].take();
+        }
+        shown["bounds"] = of["histogram"]["bounds"].take();
     }
     shown
 }

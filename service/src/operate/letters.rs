@@ -6,7 +6,7 @@
 
 use super::reach::Answer;
 use super::{Asked, Desk, Unit};
-use crate::files::dead::{sent_as, Became, Letter};
+use crate::files::dead::{sent_as, Became};
 use crate::files::{Dead, Fault};
 use crate::sinks::{of_part, Fate, Forwarded};
 use crate::work::blocking;
@@ -39,27 +39,25 @@ impl OfLetter {
     pub fn act(self, key: &str) -> Option<Asked> {
         match self {
             OfLetter::Show => None,
-            OfLetter::Resend => Some(Asked::new("dead resend", key)),
-            OfLetter::Drop => Some(Asked::new("dead drop", key)),
+            OfLetter::Resend => Some(Asked::new("dead-letters resend", key)),
+            OfLetter::Drop => Some(Asked::new("dead-letters drop", key)),
         }
     }
 }
 
 impl Desk {
-    /// Those of the slots that are here.
+    /// Those of the slots that are here, the oldest first.
     pub(super) async fn letters(&self) -> Answer {
-        let all = self.own_letters().await;
-        answered(all.map(|all| Answer::new(200, json!(all).to_string())))
-    }
-
-    /// The oldest first.
-    async fn own_letters(&self) -> Result<Vec<Letter>, Fault> {
-        let mut all = Vec::new();
-        for unit in self.units.all() {
-            all.extend(all_letters(&unit).await?);
-        }
-        all.sort_by_key(|letter| letter.since); // letters of one time stay in their slots' order
-        Ok(all)
+        let units = self.units.all();
+        let listed = blocking(move || {
+            let mut all = Vec::new();
+            for unit in units {
+                all.extend(unit.dead.list()?);
+            }
+            all.sort_by_key(|letter| letter.since); // letters of one time stay in their slots' order
+            Ok(Answer::new(200, json!(all).to_string()))
+        });
+        answered(listed.await)
     }
 
     /// Of a letter of a slot that is here.
@@ -69,29 +67,35 @@ impl Desk {
             Err(elsewhere) => return elsewhere,
         };
         answered(match what {
-            OfLetter::Show => body(&unit, key).await,
+            OfLetter::Show => of_dead(&unit, key, body).await,
             OfLetter::Resend => self.resend(&unit, key).await,
-            OfLetter::Drop => dropped(&unit, key).await,
+            OfLetter::Drop => of_dead(&unit, key, dropped).await,
         })
     }
 
     async fn resend(&self, unit: &Unit, key: &str) -> Result<Answer, Fault> {
         let _held = self.sink.keys().hold(sent_as(key)).await;
-        let Some(body) = of_dead(unit, key, |dead, key| dead.body(key)).await? else {
-            return sent_before(unit, key).await;
+        let Some(body) = of_dead(unit, key, Dead::body).await? else {
+            return of_dead(unit, key, sent_before).await;
         };
         let Some(request) = forwarded(key, body) else {
-            return of_a_part(unit, key).await;
+            return of_dead(unit, key, of_a_part).await;
         };
         let (reason, later) = match self.sink.deliver(&request).await {
             Fate::Taken => {
-                end(unit, key, Became::Taken).await?;
+                of_dead(unit, key, |dead, key| dead.end(key, Became::Taken)).await?;
                 tracing::info!(key, "the sink has taken {key}, which was put aside");
                 (None, false)
             }
             Fate::TakenPartly { rejected, reason, left } => {
                 let reason = of_part(rejected, &reason, left.is_some());
-                keep_part(unit, key, left.unwrap_or(request.body), reason.clone()).await?;
+                // What the sink has a part of is kept under another key: it must not be sent again.
+                let (why, left) = (reason.clone(), left.unwrap_or(request.body));
+                let keep = move |dead: &Dead, whole: &str| {
+                    dead.keep(&format!("{whole}-partial"), &why, &left)?;
+                    dead.end(whole, Became::TakenPartly(why))
+                };
+                of_dead(unit, key, keep).await?;
                 return Ok(taken(key, Some(reason)));
             }
             Fate::Refused { reason } => (Some(reason), false),
@@ -115,41 +119,24 @@ async fn of_dead<T: Send + 'static>(
     blocking(move || call(&dead, &key)).await
 }
 
-/// The oldest first.
-async fn all_letters(unit: &Unit) -> Result<Vec<Letter>, Fault> {
-    let dead = unit.dead.clone();
-    blocking(move || dead.list()).await
-}
-
-async fn end(unit: &Unit, key: &str, as_what: Became) -> Result<bool, Fault> {
-    of_dead(unit, key, |dead, key| dead.end(key, as_what)).await
-}
-
-async fn became(unit: &Unit, key: &str) -> Result<Option<Became>, Fault> {
-    of_dead(unit, key, Dead::became).await
-}
-
-async fn body(unit: &Unit, key: &str) -> Result<Answer, Fault> {
-    match of_dead(unit, key, |dead, key| dead.body(key)).await? {
+fn body(dead: &Dead, key: &str) -> Result<Answer, Fault> {
+    match dead.body(key)? {
         Some(body) => Ok(Answer::new(200, String::from_utf8_lossy(&body))),
-        None => Ok(gone(became(unit, key).await?)),
+        None => Ok(gone(dead.became(key)?)),
     }
 }
 
 /// One that was dropped already is as if it were now: who asks had no answer.
-async fn dropped(unit: &Unit, key: &str) -> Result<Answer, Fault> {
-    if end(unit, key, Became::Dropped).await? {
-        return Ok(Answer::new(200, "{}"));
+fn dropped(dead: &Dead, key: &str) -> Result<Answer, Fault> {
+    match dead.end(key, Became::Dropped)? || dead.became(key)? == Some(Became::Dropped) {
+        true => Ok(Answer::new(200, "{}")),
+        false => Ok(gone(dead.became(key)?)),
     }
-    Ok(match became(unit, key).await? {
-        Some(Became::Dropped) => Answer::new(200, "{}"),
-        other => gone(other),
-    })
 }
 
 /// One that the sink has taken already is answered as it was then.
-async fn sent_before(unit: &Unit, key: &str) -> Result<Answer, Fault> {
-    Ok(match became(unit, key).await? {
+fn sent_before(dead: &Dead, key: &str) -> Result<Answer, Fault> {
+    Ok(match dead.became(key)? {
         Some(Became::Taken) => taken(key, None),
         Some(Became::TakenPartly(reason)) => taken(key, Some(reason)),
         other => gone(other),
@@ -167,22 +154,13 @@ fn gone(became: Option<Became>) -> Answer {
 }
 
 /// What stands under no key of a request is of one that the sink has taken, and says why.
-async fn of_a_part(unit: &Unit, key: &str) -> Result<Answer, Fault> {
-    let letter = all_letters(unit).await?.into_iter().find(|letter| letter.key == key);
+fn of_a_part(dead: &Dead, key: &str) -> Result<Answer, Fault> {
+    let letter = dead.list()?.into_iter().find(|letter| letter.key == key);
     let reason = letter.map_or(String::new(), |letter| format!(": {}", letter.reason));
     Ok(Answer::told(
         400,
         &format!("the sink has the other points of this one, and never takes these{reason}; look at it, and drop it"),
     ))
-}
-
-/// What the sink has a part of is kept under another key: it must not be sent again.
-async fn keep_part(unit: &Unit, key: &str, left: Vec<u8>, why: String) -> Result<bool, Fault> {
-    let keep = move |dead: &Dead, whole: &str| {
-        dead.keep(&format!("{whole}-partial"), &why, &left)?;
-        dead.end(whole, Became::TakenPartly(why))
-    };
-    of_dead(unit, key, keep).await
 }
 
 fn taken(key: &str, reason: Option<String>) -> Answer {

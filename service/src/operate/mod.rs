@@ -30,7 +30,7 @@ pub use adjust::{AskedAdjustment, ADJUSTMENTS};
 pub use late_sums::LateSum;
 pub use letters::Resent;
 pub use named::Named;
-pub use periods::{ANYWAY, FLUSHED};
+pub use periods::{FLUSHED, FORCE};
 pub use reach::Others;
 pub use status::{DatabaseStatus, Pulse, Status};
 pub use store_health::StoreHealth;
@@ -45,6 +45,7 @@ use crate::late::LateData;
 use crate::metrics::Metrics;
 use crate::post_reports::SenderActivity;
 use crate::shares::Shares;
+use crate::sinks::periods::Deed;
 use crate::sinks::Sink;
 use hyper::header::{HeaderValue, ALLOW, CONTENT_TYPE, LOCATION};
 use hyper::{Body, Method, Request, Response, StatusCode, Uri};
@@ -86,7 +87,7 @@ pub struct Desk {
     pub is_local: bool,
     pub data: String,
     /// So many fit.
-    pub most_series: usize,
+    pub max_series: usize,
     pub begun: Instant,
 }
 
@@ -109,10 +110,11 @@ enum Route {
     LateOf(String),
     /// Its body says which.
     Adjust,
-    /// `close` or `open`, and the parts of the path behind it.
-    Period(Vec<String>),
-    /// `repair` or `forget`, and the part of the path behind it.
-    Amend(Vec<String>),
+    /// Of a period.
+    Close(String),
+    Open(String),
+    /// `rewind` to this time, or `forget`.
+    Amend(Option<String>),
     Page(Page),
 }
 
@@ -121,9 +123,9 @@ impl Route {
     fn of(path: &str) -> Option<(Method, Route)> {
         let parts: Vec<&str> = path.strip_prefix('/')?.split('/').collect();
         Some(match parts[..] {
-            ["flush" | "checkpoint"] => (Method::POST, Route::Order(Command::Flush)),
+            ["flush"] => (Method::POST, Route::Order(Command::Flush)),
             ["quarantine", sender] => (Method::POST, Route::Order(Command::Quarantine(decoded(sender)))),
-            ["lift", sender] => (Method::POST, Route::Order(Command::Lift(decoded(sender)))),
+            ["release", sender] => (Method::POST, Route::Order(Command::Release(decoded(sender)))),
             ["report"] => (Method::GET, Route::Report),
             ["metrics"] => (Method::GET, Route::Metrics),
             ["totals"] => (Method::GET, Route::Totals),
@@ -138,8 +140,10 @@ impl Route {
             ["dead", key, "resend"] => (Method::POST, Route::Letter(OfLetter::Resend, decoded(key))),
             ["dead", key, "drop"] => (Method::POST, Route::Letter(OfLetter::Drop, decoded(key))),
             ["v1", "adjustments"] => (Method::POST, Route::Adjust),
-            ["close" | "open", _, ..] => (Method::POST, Route::Period(all_decoded(&parts))),
-            ["repair", _] | ["forget"] => (Method::POST, Route::Amend(all_decoded(&parts))),
+            ["close", period] => (Method::POST, Route::Close(decoded(period))),
+            ["reopen", period] => (Method::POST, Route::Open(decoded(period))),
+            ["rewind", to] => (Method::POST, Route::Amend(Some(decoded(to)))),
+            ["forget"] => (Method::POST, Route::Amend(None)),
             [""] => (Method::GET, Route::Page(Page::Overview)),
             ["series"] => (Method::GET, Route::Page(Page::Series)),
             ["page.css"] => (Method::GET, Route::Page(Page::Style)),
@@ -157,7 +161,8 @@ impl Route {
             | Route::Late
             | Route::LateOf(_)
             | Route::Adjust
-            | Route::Period(_)
+            | Route::Close(_)
+            | Route::Open(_)
             | Route::Amend(_) => OverTcp::Operators,
             Route::Report => OverTcp::Nobody,
             _ => OverTcp::All,
@@ -263,8 +268,16 @@ impl Desk {
             Route::Late => self.late(query).await.into(),
             Route::LateOf(period) => self.late_of(&period).await.into(),
             Route::Adjust => self.adjust(actor, body).await.into(),
-            Route::Period(parts) => self.period(actor, &parts, query).await.into(),
-            Route::Amend(parts) => self.amend(actor, &parts, query).await.into(),
+            Route::Close(period) => {
+                let (force, flushed) = (query.has(FORCE), query.has(FLUSHED));
+                let asked = Asked::new("close", &period).with("--force", force).with("--flush", flushed);
+                self.settle(actor, asked, period.parse().map(Deed::Close), force || flushed).await.into()
+            }
+            Route::Open(period) => {
+                let asked = Asked::new("reopen", &period);
+                self.settle(actor, asked, period.parse().map(Deed::Open), true).await.into()
+            }
+            Route::Amend(to) => self.amend(actor, to.as_deref(), query).await.into(),
             Route::Page(page) => self.page(page, query).await,
         }
     }
@@ -273,10 +286,6 @@ impl Desk {
 /// A part of a path that names something: it may be percent-encoded. What is no text names nothing.
 fn decoded(part: &str) -> String {
     percent_decode_str(part).decode_utf8_lossy().into_owned()
-}
-
-fn all_decoded(parts: &[&str]) -> Vec<String> {
-    parts.iter().map(|part| decoded(part)).collect()
 }
 
 /// Where the same is asked for elsewhere: the answer has the instance's address alone.
@@ -307,85 +316,4 @@ pub(crate) fn reply(status: u16, kind: &'static str, body: impl Into<Body>) -> R
 }
 
 #[cfg(test)]
-mod tests {
-    use super::*;
-
-    /// Orders, and what shows bodies, are taken at the socket, or with a token.
-    #[test]
-    fn each_path_has_one_method() {
-        let (read, order, local) = (OverTcp::All, OverTcp::Operators, OverTcp::Nobody);
-        for (path, method, over_tcp) in [
-            ("/flush", Method::POST, order),
-            ("/checkpoint", Method::POST, order),
-            ("/quarantine/A", Method::POST, order),
-            ("/lift/A", Method::POST, order),
-            ("/report", Method::GET, local),
-            ("/metrics", Method::GET, read),
-            ("/totals", Method::GET, read),
-            ("/healthz", Method::GET, read),
-            ("/readyz", Method::GET, read),
-            ("/startupz", Method::GET, read),
-            ("/status", Method::GET, read),
-            ("/dead", Method::GET, order),
-            ("/late", Method::GET, order),
-            ("/late/2026-11", Method::GET, order),
-            ("/dead/0-a-1", Method::GET, order),
-            ("/dead/0-a-1/resend", Method::POST, order),
-            ("/dead/0-a-1/drop", Method::POST, order),
-            ("/close/2026-11", Method::POST, order),
-            ("/open/2026-11", Method::POST, order),
-            (ADJUSTMENTS, Method::POST, order),
-            ("/repair/2026-11-05T13", Method::POST, order),
-            ("/forget", Method::POST, order),
-            ("/", Method::GET, read),
-            ("/series", Method::GET, read),
-            ("/page.css", Method::GET, read),
-            ("/page.js", Method::GET, read),
-        ] {
-            let found = Route::of(path).map(|(method, route)| (method, route.over_tcp()));
-            assert_eq!(found, Some((method, over_tcp)), "{path}");
-        }
-    }
-
-    #[test]
-    fn a_path_may_be_percent_encoded() {
-        let parts = |path| match Route::of(path).unwrap().1 {
-            Route::Period(parts) | Route::Amend(parts) => parts,
-            Route::Order(Command::Quarantine(sender) | Command::Lift(sender)) => vec![sender],
-            Route::Letter(_, key) => vec![key],
-            _ => vec![],
-        };
-        assert_eq!(parts("/repair/2026-11-05T13%3A30%3A15"), ["repair", "2026-11-05T13:30:15"]);
-        assert_eq!(parts("/close/2026-11-05%2013:00"), ["close", "2026-11-05 13:00"]);
-        for path in [
-            "/quarantine/shop%2D1",
-            "/lift/shop%2d1",
-            "/dead/shop%2D1",
-            "/dead/shop%2D1/resend",
-            "/dead/shop%2D1/drop",
-        ] {
-            assert_eq!(parts(path), ["shop-1"], "{path}");
-        }
-    }
-
-    #[test]
-    fn nothing_else_is_a_path() {
-        for path in [
-            "",
-            "//",
-            "/v1/metrics",
-            "/flush/",
-            "/health",
-            "/ready",
-            "/renew",
-            "/quarantine",
-            "/close",
-            "/repair",
-            "/quarantine/A/B",
-            "/dead/0-a-1/send",
-            "flush",
-        ] {
-            assert!(Route::of(path).is_none(), "{path}");
-        }
-    }
-}
+mod tests;

@@ -19,12 +19,10 @@ impl Named {
         match self {
             Named::One(one) => one == key,
             Named::Some(filter) => {
-                let name = filter.name.as_deref().unwrap_or_default();
                 // Most are of other names: these are not read.
-                let may_be = key.0.contains(&Value::from(name).to_string());
-                may_be
-                    && SeriesTotal::of_none(key)
-                        .is_ok_and(|series| series.name == name && filter.takes(&series))
+                let has = |name: &String| key.0.contains(&Value::from(name.as_str()).to_string());
+                filter.name.as_ref().is_none_or(has)
+                    && SeriesTotal::of_none(key).is_ok_and(|series| filter.takes(&series))
             }
         }
     }

@@ -4,7 +4,7 @@ use super::reach::{Answer, Command};
 use super::{reply, Desk, Unit, TEXT};
 use crate::command::values::{bytes_shown, counted};
 use crate::otlp::Reason;
-use crate::slot::{is_sender, Phase};
+use crate::slot::is_sender;
 use crate::work::blocking;
 use hyper::{Body, Response};
 use serde_json::json;
@@ -44,19 +44,18 @@ impl Desk {
         self.unavailable().is_none()
     }
 
-    /// Why a start is not done: how far it is. None once each book here has all of its journal, whatever comes later.
+    /// Why a start is not done: how far it is. None once each book here had all of its journal, whatever comes later.
     pub(super) fn starting(&self) -> Option<String> {
-        let units = self.units.all();
-        let begun = units.iter().map(|unit| &unit.slot).find(|slot| slot.phase() == Phase::Recovering)?;
+        let begun = &self.units.starting()?.slot;
         let (posts, bytes) = (counted(begun.ungrouped(), "post"), bytes_shown(begun.journal.size().0));
         Some(format!("recovering: {posts} of the journal so far, which has {bytes}"))
     }
 
     /// Has each slot do what is asked, wherever it is.
     pub(super) async fn carry_out(self: &Arc<Self>, who: &str, command: &Command) -> Answer {
-        match self.in_all_slots(who, command).await.all() {
+        match self.in_all_slots(who, command).await {
             Ok(answers) => match command {
-                Command::Quarantine(sender) | Command::Lift(sender) => of_sender(sender, command, answers),
+                Command::Quarantine(sender) | Command::Release(sender) => of_sender(sender, command, answers),
                 Command::Flush | Command::Find(_) => together(&answers),
             },
             Err(not_all) => not_all,
@@ -101,7 +100,7 @@ fn of_sender(sender: &str, command: &Command, mut all: Vec<(u16, Answer)>) -> An
         return if told.knows_nothing() { Answer::new(told.status, "{}") } else { told };
     }
     let what = match command {
-        Command::Lift(_) => "it is not quarantined",
+        Command::Release(_) => "it is not quarantined",
         _ => "its posts will be refused",
     };
     Answer::told(200, &format!("nothing of {sender} is known yet: {what}"))
@@ -168,11 +167,11 @@ mod tests {
             ((200, r#"{"known":false}"#), (400, r#"{"known":false,"message":"not quarantined"}"#));
         let nothing = |what: &str| (200, format!("nothing of A is known yet: {what}"));
         assert_eq!(of(Command::Quarantine, &[new, new]), nothing("its posts will be refused"));
-        assert_eq!(of(Command::Lift, &[none, none]), nothing("it is not quarantined"));
+        assert_eq!(of(Command::Release, &[none, none]), nothing("it is not quarantined"));
         // Somewhere it is known.
         assert_eq!(of(Command::Quarantine, &[new, done]), (200, "{}".into()));
-        assert_eq!(of(Command::Lift, &[none, not]), (400, "not quarantined".into()));
-        assert_eq!(of(Command::Lift, &[none, done]), (200, "{}".into()));
+        assert_eq!(of(Command::Release, &[none, not]), (400, "not quarantined".into()));
+        assert_eq!(of(Command::Release, &[none, done]), (200, "{}".into()));
         let no_memory = (503, r#"{"known":false,"message":"no memory"}"#);
         assert_eq!(of(Command::Quarantine, &[new, no_memory]).0, 503);
     }

@@ -2,7 +2,6 @@
 //! does not flush by itself: a biller is to know what is not in it.
 
 use super::late_sums::not_counted;
-use super::query::Query;
 use super::reach::Answer;
 use super::status::held;
 use super::status::Status;
@@ -11,24 +10,29 @@ use crate::sinks::periods::{Deed, Period, Told};
 use std::sync::Arc;
 
 /// Closes a period although something waits that may belong to it.
-pub const ANYWAY: &str = "anyway";
+pub const FORCE: &str = "force";
 /// The same for who has flushed and waited: what waits now came meanwhile.
 pub const FLUSHED: &str = "flush";
 
 impl Desk {
-    pub(super) async fn period(self: &Arc<Self>, actor: Actor, parts: &[String], query: Query<'_>) -> Answer {
-        let (asked, deed) = match read(parts) {
-            Ok(read) => read,
-            Err(why) => return Answer::told(400, &why),
-        };
-        let is_closed = |by: &str| matches!(deed, Deed::Close(_)) && query.has(by);
-        let (anyway, flushed) = (is_closed(ANYWAY), is_closed(FLUSHED));
-        let asked = asked.with("--anyway", anyway).with("--flush", flushed);
-        let doing = |who| self.settle(who, deed, anyway || flushed);
-        self.acts.recorded(actor, Some(asked), doing, Answer::outcome).await
+    /// Closes or opens a period: `is_anyway` also if something waits that may belong to it.
+    pub(super) async fn settle(
+        self: &Arc<Self>,
+        actor: Actor,
+        asked: Asked,
+        deed: Result<Deed, String>,
+        is_anyway: bool,
+    ) -> Answer {
+        match deed {
+            Ok(deed) => {
+                let doing = |who| self.close_or_open(who, deed, is_anyway);
+                self.acts.recorded(actor, Some(asked), doing, Answer::outcome).await
+            }
+            Err(why) => Answer::told(400, &why),
+        }
     }
 
-    async fn settle(self: &Arc<Self>, who: String, deed: Deed, is_anyway: bool) -> Answer {
+    async fn close_or_open(self: &Arc<Self>, who: String, deed: Deed, is_anyway: bool) -> Answer {
         let status = match &deed {
             Deed::Close(_) => Some(self.status_of_all().await),
             Deed::Open(_) | Deed::Adjust(_) => None,
@@ -36,7 +40,7 @@ impl Desk {
         if let (Deed::Close(period), Some(status), false) = (&deed, &status, is_anyway) {
             if let Some(what) = not_in_the_sink(status) {
                 let late = format!("{what}: what it has of {period} would come late");
-                let why = format!("{late}; close it with --flush, which waits for it, or --anyway");
+                let why = format!("{late}; close it with --flush, which waits for it, or --force");
                 return Answer::told(409, &why);
             }
         }
@@ -91,34 +95,4 @@ fn kept_back(status: &Status) -> String {
         }
     }
     text
-}
-
-/// What is asked for, and as it is written down.
-fn read(parts: &[String]) -> Result<(Asked, Deed), String> {
-    let parts: Vec<&str> = parts.iter().map(String::as_str).collect();
-    match parts[..] {
-        ["close", period] => Ok((Asked::new("close", period), Deed::Close(period.parse()?))),
-        ["open", period] => Ok((Asked::new("open", period), Deed::Open(period.parse()?))),
-        _ => Err("this takes /close/PERIOD and /open/PERIOD".into()),
-    }
-}
-
-#[cfg(test)]
-mod tests {
-    use super::*;
-
-    fn of(path: &str) -> Result<Deed, String> {
-        let parts: Vec<String> = path.split('/').map(String::from).collect();
-        read(&parts).map(|(_, deed)| deed)
-    }
-
-    #[test]
-    fn what_is_asked_for_is_read() {
-        assert_eq!(of("close/2026-11"), Ok(Deed::Close("2026-11".parse().unwrap())));
-        assert_eq!(of("open/2026-11-05"), Ok(Deed::Open("2026-11-05".parse().unwrap())));
-        for (path, part) in [("close/november", "no period"), ("close/2026-11/05", "/close/PERIOD")] {
-            let why = of(path).expect_err(path);
-            assert!(why.contains(part), "{path}: {why}");
-        }
-    }
 }

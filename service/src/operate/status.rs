@@ -229,11 +229,11 @@ impl Desk {
     }
 
     fn limits_status(&self, series: u64) -> LimitsStatus {
-        let of_slots = self.others.as_ref().and_then(|_| self.units.most_series());
+        let of_slots = self.others.as_ref().and_then(|_| self.units.max_series());
         let (used, limit) = crate::core::memory_used();
         let (budget, limit_of_budget) = (self.budget.used(), self.budget.most());
         LimitsStatus {
-            series: Limit { used: series, limit: of_slots.unwrap_or(self.most_series) as u64 },
+            series: Limit { used: series, limit: of_slots.unwrap_or(self.max_series) as u64 },
             memory_bytes: Limit { used, limit },
             request_bytes: Limit { used: budget as u64, limit: limit_of_budget as u64 },
             // A disk that stalls may not say either how much it has.

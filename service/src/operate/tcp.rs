@@ -49,7 +49,7 @@ impl AtTcp {
         let Some(tokens) = &self.tokens else {
             return never(&format!(
                 "this is taken at {place} alone: run totxegun on the service's machine with its --data, or give \
-                 `--operate {place}`; over TCP the service takes it with --operate-tokens",
+                 `--admin {place}`; over TCP the service takes it with --admin-tokens",
                 place = self.orders_at
             ));
         };

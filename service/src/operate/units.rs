@@ -6,11 +6,12 @@ use crate::otlp::series::SeriesKey;
 use crate::otlp::Reason;
 use crate::shares::Owned;
 use crate::sinks::Attempts;
-use crate::slot::Slot;
+use crate::slot::{Phase, Slot};
 use crate::work::locked;
 use std::collections::hash_map::DefaultHasher;
 use std::collections::{BTreeMap, HashMap};
 use std::hash::{Hash, Hasher};
+use std::sync::atomic::{AtomicBool, Ordering::Relaxed};
 use std::sync::{Arc, Mutex};
 use std::time::Duration;
 
@@ -40,11 +41,13 @@ pub struct Undelivered {
 pub struct Units {
     slots: u16,
     here: Mutex<BTreeMap<u16, Arc<Unit>>>,
+    /// Once it was found that each book here has all of its journal.
+    started: AtomicBool,
 }
 
 impl Units {
     pub fn of(slots: u16) -> Arc<Units> {
-        Arc::new(Units { slots, here: Mutex::default() })
+        Arc::new(Units { slots, here: Mutex::default(), started: AtomicBool::new(false) })
     }
 
     pub fn put(&self, unit: Arc<Unit>) {
@@ -87,14 +90,22 @@ impl Units {
         self.all().iter().all(|unit| unit.slot.is_ready())
     }
 
+    /// One whose book lacks some of its journal since the start; none of those that are taken over once that is done.
+    pub fn starting(&self) -> Option<Arc<Unit>> {
+        let recovering = |unit: &Arc<Unit>| unit.slot.phase() == Phase::Recovering;
+        let found = self.all().into_iter().find(recovering).filter(|_| !self.started.load(Relaxed));
+        self.started.fetch_or(found.is_none(), Relaxed);
+        found
+    }
+
     pub fn sum(&self, of: impl Fn(&Unit) -> u64) -> u64 {
         self.all().iter().map(|unit| of(unit)).sum()
     }
 
     /// How many series fit for sure in the slots here, where each has a place of its own; none where no slot is here.
-    pub fn most_series(&self) -> Option<usize> {
+    pub fn max_series(&self) -> Option<usize> {
         let slots = self.all().into_iter();
-        let slots = slots.map(|unit| (unit.slot.outbox.series_count(), unit.slot.core().most_series()));
+        let slots = slots.map(|unit| (unit.slot.outbox.series_count(), unit.slot.core().max_series()));
         fit_for_sure(&slots.collect::<Vec<_>>())
     }
 

@@ -32,7 +32,7 @@ fn of_another_name(request: &Request<Body>, ours: &str) -> Option<String> {
     let other = hosts.chain(place).find(|host| !is_ours(host, ours))?;
     let other = shown(other, SHOWN);
     Some(format!(
-        "refused: `{other}` is no name of this address: ask for an IP address, localhost, or the host of --operate"
+        "refused: `{other}` is no name of this address: ask for an IP address, localhost, or the host of --admin"
     ))
 }
 

@@ -90,26 +90,13 @@ impl Reason {
     /// Of a point; none where it is taken.
     pub(super) fn of_seen(seen: &Seen<'_, '_>) -> Option<Reason> {
         let why = seen.found.err()?;
-        Some(match why.what {
-            What::OtherKind => match seen.kind {
-                "gauge" => Reason::Gauge,
-                "summary" => Reason::Summary,
-                _ => Reason::ExponentialHistogram,
-            },
-            What::Cumulative if seen.kind == "histogram" => Reason::CumulativeHistogram,
-            What::Cumulative if seen.metric.is_monotonic => Reason::CumulativeSum,
-            What::Cumulative => Reason::UpDownCounter,
-            What::Double => Reason::Double,
-            What::NotWhole if ["a bound", "sum"].contains(&why.field) => Reason::Fraction,
-            What::NoAttributes | What::ManyAttributes | What::SameKeys | What::DoubleValue => {
-                Reason::Attribute
-            }
-            What::BytesValue | What::MapValue | What::ListInList | What::LongList => Reason::Attribute,
-            What::SeveralValues | What::WrongValue => Reason::Attribute,
-            What::NoView => Reason::ExponentialHistogram,
-            What::NoStart | What::EmptySpan => Reason::Span,
-            What::NotRecorded | What::NoNumber => Reason::NoValue,
-            _ => Reason::Other,
+        Some(match (why.what, seen.kind) {
+            (What::OtherKind, "gauge") => Reason::Gauge,
+            (What::OtherKind, "summary") => Reason::Summary,
+            (What::Cumulative, "histogram") => Reason::CumulativeHistogram,
+            (What::Cumulative, _) if seen.metric.is_monotonic => Reason::CumulativeSum,
+            _ if why.is_fraction() => Reason::Fraction,
+            _ => why.reason(),
         })
     }
 

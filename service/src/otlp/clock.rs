@@ -11,8 +11,8 @@ use std::time::{Duration, SystemTime, UNIX_EPOCH};
 /// How far from the service's clock a point may end.
 #[derive(Clone, Copy, Debug, Default, PartialEq, Eq)]
 pub struct Clock {
-    pub most_ahead: Option<Duration>,
-    pub most_behind: Option<Duration>,
+    pub max_ahead: Option<Duration>,
+    pub max_age: Option<Duration>,
 }
 
 /// When points may end: from one time to another, in nanoseconds since 1970.
@@ -41,7 +41,7 @@ pub struct OffClock {
 impl Clock {
     /// How far the clock of an instance may be from those of the others: a tenth of what points may be off by.
     pub fn most_off(&self) -> Option<Duration> {
-        self.most_ahead.into_iter().chain(self.most_behind).min().map(|most| most / 10)
+        self.max_ahead.into_iter().chain(self.max_age).min().map(|most| most / 10)
     }
 
     /// By the time that it is.
@@ -54,8 +54,8 @@ impl Clock {
         let most = |most: Option<Duration>| most.map(nanoseconds);
         Window {
             now,
-            from: most(self.most_behind).map_or(0, |most| now.saturating_sub(most)),
-            until: most(self.most_ahead).map_or(u64::MAX, |most| now.saturating_add(most)),
+            from: most(self.max_age).map_or(0, |most| now.saturating_sub(most)),
+            until: most(self.max_ahead).map_or(u64::MAX, |most| now.saturating_add(most)),
         }
     }
 }

@@ -1,4 +1,4 @@
-//! JSON that the service forwards, or has in keys, in protobuf: each message by its table, its fields in that order.
+//! JSON that the service forwards, in protobuf: each message by its table, its fields in that order.
 
 use super::json::Value;
 use super::number::{book_whole, is_whole_double};
@@ -20,7 +20,7 @@ pub fn put_message(out: &mut Vec<u8>, of: &'static Message, object: Value<'_>) -
 }
 
 /// Writes a field.
-pub fn put_member(out: &mut Vec<u8>, field: &'static Field, value: Value<'_>) -> Option<()> {
+fn put_member(out: &mut Vec<u8>, field: &'static Field, value: Value<'_>) -> Option<()> {
     let number = u32::from(field.number);
     match field.kind {
         Kind::Messages(inner) | Kind::Parts(inner) => {

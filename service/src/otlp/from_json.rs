@@ -61,39 +61,26 @@ impl Writer<'_> {
     }
 
     fn member(&mut self, of: &'static Message, field: &Field, value: Value<'_>) -> Result<(), Refused> {
-        match field.kind {
-            Kind::Message(inner) => self.container(of, field, inner, value)?,
-            Kind::Exponential => {
-                let inner = exponential_histogram(self.out.exponential());
-                self.container(of, field, inner, value)?;
+        let container = match field.kind {
+            Kind::Message(inner) => Some(inner),
+            Kind::Exponential => Some(exponential_histogram(self.out.exponential())),
+            _ => None,
+        };
+        let is_object = |value: Value<'_>| value.members().is_some();
+        match (field.kind, container) {
+            (_, Some(_)) if !is_object(value) => {
+                return Err(refused(of, format_args!("{} is no object", field.name)))
             }
-            Kind::Messages(inner) => {
-                let sound = value.elements().map(|mut all| all.all(|one| one.members().is_some()));
-                if sound != Some(true) {
-                    return Err(refused(of, format_args!("{} is no array of objects", field.name)));
-                }
-                self.parts(inner, field.kind, value)?;
+            (Kind::Messages(_), _) if !value.elements().is_some_and(|mut all| all.all(is_object)) => {
+                return Err(refused(of, format_args!("{} is no array of objects", field.name)))
             }
-            Kind::Part(inner) => self.part(inner, value)?,
-            Kind::Parts(inner) => self.parts(inner, field.kind, value)?,
-            Kind::ResourceAttributes => self.parts(&KEY_VALUE, field.kind, value)?,
-            Kind::Wholes | Kind::Numbers | Kind::Doubles => self.numbers(field.kind, value)?,
-            kind => self.leaf(kind, value).unwrap_or_else(|| self.wrong(value)),
+            (_, Some(inner)) | (Kind::Part(inner), _) => self.part(inner, value)?,
+            (Kind::Messages(inner) | Kind::Parts(inner), _) => self.parts(inner, field.kind, value)?,
+            (Kind::ResourceAttributes, _) => self.parts(&KEY_VALUE, field.kind, value)?,
+            (Kind::Wholes | Kind::Numbers | Kind::Doubles, _) => self.numbers(field.kind, value)?,
+            (kind, _) => self.leaf(kind, value).unwrap_or_else(|| self.wrong(value)),
         }
         Ok(())
-    }
-
-    fn container(
-        &mut self,
-        of: &'static Message,
-        field: &Field,
-        inner: &'static Message,
-        value: Value<'_>,
-    ) -> Result<(), Refused> {
-        match value.members() {
-            Some(_) => self.message(inner, value),
-            None => Err(refused(of, format_args!("{} is no object", field.name))),
-        }
     }
 
     fn part(&mut self, of: &'static Message, value: Value<'_>) -> Result<(), Refused> {

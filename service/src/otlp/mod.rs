@@ -1,8 +1,8 @@
 //! Requests and answers of OTLP, in protobuf and in JSON, and the series that a body has.
 //!
 //! `schema` has OTLP's structure for both encodings, `wire` and `json` read them. `prepare` writes a request of either encoding as the
-//! book reads it (`from_protobuf`, `from_json`); `json_fast_path` sees at once most JSON, which goes on as it came; `plain_protobuf`
-//! most protobuf that the book's reader reads; `numbered` reads nearly all other protobuf without that, by the numbers of series that are known; `finer_units` takes fractions as whole numbers of a
+//! book reads it (`from_protobuf`, `from_json`); `json_fast_path` sees at once most JSON, which goes on as it came; `numbered` reads
+//! nearly all protobuf without that, by the numbers of series that are known; `finer_units` takes fractions as whole numbers of a
 //! finer unit, `exponential` exponential histograms in given buckets. `series` reads bodies as the book does, and what it forwards,
 //! which `encoded` writes in protobuf.
 //! `request` is for whoever looks for something in a request as it came, or changes it: `sender` finds a request's sender in it,
@@ -30,7 +30,6 @@ mod numbered;
 mod outcome;
 mod output;
 mod outside;
-mod plain_protobuf;
 mod reason;
 mod request;
 mod resources;
@@ -51,7 +50,6 @@ pub(crate) use messages::{Detail, ExportMetricsServiceResponse, Status};
 pub use numbered::{Learnt, NotNamed, Numbered, Series};
 pub use outcome::{Outcome, RejectedPoint, Rejection};
 pub use outside::{Original, Outside};
-pub(crate) use plain_protobuf::is_plain;
 pub use reason::Reason;
 pub use resources::{slot_of, slot_of_series, Part, Resources, Split};
 pub use sender::{legal, sender, NO_NAME};
@@ -60,7 +58,7 @@ pub use series::{protobuf_of_forwarded, Profile};
 #[cfg(test)]
 pub(crate) use tests::{
     a_request as a_request_of_test, plain_posts as plain_posts_of_test, posted as posted_of_test,
-    posts as posts_of_test, requests as requests_of_test, sums as sums_of_test, taken as taken_of_test,
+    posts as posts_of_test, requests as requests_of_test, taken as taken_of_test,
 };
 
 use bytes::Bytes;

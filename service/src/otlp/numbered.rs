@@ -1,7 +1,6 @@
 //! The points of a request in protobuf, by the numbers of their series: what nearly all requests have is read without a
-//! text of any of it. A request that is plain (`plain_protobuf`) is read by the book's own reader; this is for all others: of
-//! metrics that are rewritten, or of whose unit nothing is decided yet, with exemplars, cumulative, with points that are foreign
-//! or off by their clock, and where very many series have a number.
+//! text of any of it. A request that no usual encoder writes, or whose series can't be named now, is written in the book's form
+//! (`from_protobuf`).
 //!
 //! A series is known by the raw bytes of its resource, its scope, its metric without points, its bounds and its
 //! attributes, level by level (`levels`). What is not known yet is written as a request of one point by the reader for all
@@ -21,12 +20,11 @@ use super::series::{request_of, visit_body, Profile, Seen, SeriesKey, Temporalit
 use super::{Reading, Rounded};
 use crate::files::Points;
 use bytes::Bytes;
-pub(super) use fields::pass_extremes;
 use identity::{Learn, Learner};
 use levels::{Levels, FOREIGN, KEYS};
 use std::cell::Cell;
 use std::sync::atomic::{AtomicBool, Ordering::Relaxed};
-use std::sync::{Arc, PoisonError, RwLock};
+use std::sync::{PoisonError, RwLock};
 use walk::{Slow, Walk};
 
 /// What naming a series said.
@@ -54,7 +52,6 @@ pub struct Numbered {
 
 /// All that is known by its bytes, under one way of reading, but for what slots decide by themselves.
 pub struct Series {
-    reading: Arc<Reading>,
     levels: RwLock<Levels>,
     /// Something found no room.
     is_full: AtomicBool,
@@ -62,13 +59,8 @@ pub struct Series {
 
 impl Series {
     /// It takes about so many bytes of memory at most.
-    pub fn new(reading: Arc<Reading>, most: usize) -> Series {
-        Series { reading, levels: RwLock::new(Levels::new(most)), is_full: AtomicBool::new(false) }
-    }
-
-    /// Of how requests are read, beside what they say themselves.
-    pub fn reading(&self) -> &Arc<Reading> {
-        &self.reading
+    pub fn new(most: usize) -> Series {
+        Series { levels: RwLock::new(Levels::new(most)), is_full: AtomicBool::new(false) }
     }
 
     pub fn is_full(&self) -> bool {
@@ -102,7 +94,8 @@ impl Series {
         text: &[u8],
         learn: impl Fn(Bytes) -> Option<Learnt>,
     ) -> Result<Option<Numbered>, NotNamed> {
-        let learner = self.learner(&self.reading, &learn);
+        let reading = Reading::default(); // a key says what it does
+        let learner = self.learner(&reading, &learn);
         let (mut read, mut goes_on) = (Numbered::default(), Ok(()));
         let whole = visit_body(text, Profile::AlsoCumulative, |seen| {
             if goes_on.is_ok() {

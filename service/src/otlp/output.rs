@@ -37,12 +37,6 @@ impl<'r> Output<'r> {
         }
     }
 
-    /// Gives it away until it is given back.
-    pub fn take(&mut self) -> Output<'r> {
-        let reading = self.reading;
-        std::mem::replace(self, Output::new(0, reading))
-    }
-
     #[inline]
     pub fn push(&mut self, text: &str) {
         self.text.extend_from_slice(text.as_bytes());

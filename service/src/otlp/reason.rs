@@ -36,9 +36,9 @@ macro_rules! reasons {
 
 reasons! {
     Gauge "gauge" Points(["gauge", "gauges"]),
-        "these are not added up: hand them on by --pass, or name them by --expect-foreign";
+        "these are not added up: hand them on by --forward-unsupported, or name them by --expect-rejected";
     Summary "summary" Points(["summary", "summaries"]),
-        "these are not added up: hand them on by --pass, or name them by --expect-foreign";
+        "these are not added up: hand them on by --forward-unsupported, or name them by --expect-rejected";
     ExponentialHistogram "exponential_histogram" Points(["exponential histogram", "exponential histograms"]),
         "serve with --exponential and bounds that are edges of their buckets, as powers of two are; or send them elsewhere";
     /// Of a sum that only goes up.
@@ -48,7 +48,7 @@ reasons! {
         "set the sender's temporality preference to delta";
     /// A cumulative sum that may go down.
     UpDownCounter "up_down_counter" Points(["UpDownCounter", "UpDownCounters"]),
-        "these are cumulative also with the preference delta: use two Counters, or name them by --expect-foreign";
+        "these are cumulative also with the preference delta: use two Counters, or name them by --expect-rejected";
     /// A number that no rule of `--whole` takes.
     Double "double" Points(["double", "doubles"]),
         "use an instrument of whole numbers (Go's Int64Counter, Java's LongCounter, JavaScript's ValueType.INT, Python's int, \
@@ -64,12 +64,12 @@ reasons! {
         "each point has to say where it starts, and end after it";
     NoValue "no_value" Points(["point without a value", "points without a value"]),
         "`totxegun explain FILE` says of each point of a captured body why";
-    /// It ends later than `--most-ahead` lets it.
+    /// It ends later than `--max-ahead` lets it.
     ClockAhead "clock_ahead" Points(["point ahead of time", "points ahead of time"]),
-        "set the sender's clock, by NTP; or the service's, where that is wrong; or give a greater --most-ahead";
-    /// It ended earlier than `--most-behind` lets it.
+        "set the sender's clock, by NTP; or the service's, where that is wrong; or give a greater --max-ahead";
+    /// It ended earlier than `--max-age` lets it.
     ClockBehind "clock_behind" Points(["point that is too old", "points that are too old"]),
-        "set the sender's clock, by NTP, or give a greater --most-behind";
+        "set the sender's clock, by NTP, or give a greater --max-age";
     /// Of a cumulative run that began before the last point of another.
     EarlierRun "earlier_run"
         Points(["point of a run that began before the last point of another", "points of runs that began before the last point of another"]),
@@ -86,7 +86,7 @@ reasons! {
     /// Cumulative, and from before series were forgotten.
     Forgotten "forgotten"
         Points(["cumulative point from before series were forgotten", "cumulative points from before series were forgotten"]),
-        "it may have been counted: see --forget-series";
+        "it may have been counted: see --series-ttl";
     Other "other" Points(["point of another form", "points of another form"]),
         "`totxegun explain FILE` says of each point of a captured body why";
 
@@ -94,7 +94,7 @@ reasons! {
         "it begins before its series ends, and is no repeat of what the last two posts had: the sender's clock was set back, it sends a series twice, or what is old comes after what is newer";
     OtherWriter "other_writer" Request(400, "other writer"),
         "OTEL_RESOURCE_ATTRIBUTES=service.instance.id=NAME, another name for each process";
-    Quarantined "quarantined" Request(403, "quarantined"), "totxegun lift NAME once the sender is repaired";
+    Quarantined "quarantined" Request(403, "quarantined"), "totxegun release NAME once the sender is repaired";
     WrongShape "wrong_shape" Request(400, "wrong shape"),
         "the sender writes what is no OTLP: totxegun explain FILE on a captured body";
     NotJson "not_json" Request(400, "not JSON"), "the sender writes what is no JSON, or names protobuf as JSON";
@@ -133,7 +133,7 @@ reasons! {
     BodyTooLong "body_too_long" Request(413, "body too long"),
         "have the sender post fewer points at a time (a Collector: send_batch_max_size)";
     TooManyHours "too_many_hours" Request(413, "too many hours in a post"),
-        "have the sender post fewer points at a time, or serve with --never-across day";
+        "have the sender post fewer points at a time, or serve with --split-at day";
     TooLongSeries "too_long_series" Request(413, "too long series in a post"),
         "have the sender post fewer series at a time, or drop long attributes (--drop-attribute)";
     /// By itself, whatever the book has.
@@ -148,10 +148,10 @@ reasons! {
     /// Its connection ended, or its call was given up, within a body.
     GoneAway "gone_away" Request(503, "the sender has gone away"),
         "nothing is lost: a sender repeats what it gave up. If this stays, its timeout is short, or the network breaks off";
-    TooManyBytes "too_many_bytes" Request(503, "too many bytes in flight"), "raise --most-bytes, if this stays";
+    TooManyBytes "too_many_bytes" Request(503, "too many bytes in flight"), "raise --max-bytes, if this stays";
     Recovering "recovering" Request(503, "recovering"), "a start is putting in what the journal has: wait";
     /// Until there is a new start nothing is taken.
-    Unfilled "unfilled" Request(503, "no memory: the book does not take what the journal has"), "raise --book-memory";
+    Unfilled "unfilled" Request(503, "no memory: the book does not take what the journal has"), "raise --max-memory";
     Stopping "stopping" Request(503, "stopping"), "the service ends";
     NoOwner "no_owner" Request(503, "no instance has the slot of this post"),
         "wait: another instance takes it over; if this stays, look at the log of each instance";
@@ -176,9 +176,9 @@ reasons! {
     /// Another instance has the slot, or will have it in a moment.
     SlotMoves "slot_moves" Request(503, "this slot is being moved"), "this ends by itself once another instance has it";
     TooManySeries "too_many_series" Request(503, "too many series"),
-        "shorten --forget-series, drop an attribute, or raise --most-series";
+        "shorten --series-ttl, drop an attribute, or raise --max-series";
     TooLarge "too_large" Request(503, "too large"), "this ends by itself once what is pending is written";
-    NoMemory "no_memory" Request(503, "no memory"), "raise --book-memory";
+    NoMemory "no_memory" Request(503, "no memory"), "raise --max-memory";
     OverShare "over_share" Request(429, "over its share"),
         "raise its series= or points= in the file of --tokens, --sender-series or --sender-points; or have it send less";
     PostOverShare "post_over_share" Request(413, "over its share"),

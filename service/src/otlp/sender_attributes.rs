@@ -1,5 +1,5 @@
 //! Resource attributes that are of the sender, put into a request before anything else is read of it: so slots, numbers of series,
-//! other instances and what `--pass` hands on all have them.
+//! other instances and what `--forward-unsupported` hands on all have them.
 //!
 //! - `--sender-attribute NAME`: the name that the sender's certificate or token proves, in each resource, in place of what the body
 //!   says. What can't be read is refused, since another reader might find the body's own value in it.
@@ -7,7 +7,7 @@
 //!   of one program that don't name themselves have series of their own.
 
 use super::request::{Edit, Node, Request};
-use super::schema::{ATTRIBUTES, KEY, REQUEST, RESOURCE, RESOURCE_METRICS, RESOURCE_OF, VALUE};
+use super::schema::{ATTRIBUTES, KEY, REQUEST, RESOURCE, RESOURCE_METRICS, RESOURCE_OF, STRING_VALUE, VALUE};
 use super::wire::field;
 use super::{refusal, Encoding, Reading, Refused, NO_NAME};
 use bytes::Bytes;
@@ -93,7 +93,7 @@ impl Attribute<'_> {
                 json!({"key": self.key, "value": {"stringValue": self.value}}).to_string().into()
             }
             Encoding::Protobuf => {
-                let value = field(1, self.value.as_bytes());
+                let value = field(STRING_VALUE.number.into(), self.value.as_bytes());
                 [field(KEY.number.into(), self.key.as_bytes()), field(VALUE.number.into(), &value)].concat()
             }
         }

@@ -21,7 +21,7 @@ pub(crate) use tests::{KINDS, VALUES};
 pub(super) use why::{name_shown, said, short, What, LOOKED_AT};
 pub use zeros::{request_of, zeros};
 
-use super::json::{Document, Value as Json};
+use super::json::{Document, NotJson, Value as Json};
 use super::number::book_whole;
 use std::sync::Arc;
 
@@ -77,6 +77,12 @@ pub enum Value {
 #[derive(Debug, thiserror::Error)]
 #[error("not a request that the service forwards: {0}")]
 pub struct NotForwarded(pub String);
+
+impl From<NotJson> for NotForwarded {
+    fn from(why: NotJson) -> NotForwarded {
+        NotForwarded(why.to_string())
+    }
+}
 
 impl SeriesKey {
     pub fn parts(&self) -> Result<SeriesParts, NotForwarded> {

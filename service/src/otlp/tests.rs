@@ -22,7 +22,7 @@ mod speed;
 
 pub(super) use super::wire::field as bytes;
 pub(super) use mapping::Spelling;
-pub(crate) use posts::{plain_posts, posts, sums};
+pub(crate) use posts::{plain_posts, posts};
 pub(crate) use random::requests;
 pub(super) use random::Random;
 

@@ -134,14 +134,6 @@ impl<'a> Fields<'a> {
         &rest[..rest.len() - self.rest.len()]
     }
 
-    /// Passes these bytes, if they are next.
-    #[inline]
-    pub fn pass(&mut self, bytes: &[u8]) -> bool {
-        let behind = self.rest.strip_prefix(bytes);
-        self.rest = behind.unwrap_or(self.rest);
-        behind.is_some()
-    }
-
     /// A field's number and wire type.
     #[inline(always)]
     fn key(&mut self) -> Result<u32, Malformed> {
@@ -218,21 +210,6 @@ impl<'a> Fields<'a> {
         let payload = payload(&mut ahead).ok()?;
         *self = ahead;
         Some(payload)
-    }
-
-    /// The bytes of the next field of this number. Others are passed over.
-    #[inline]
-    pub fn next_bytes(&mut self, number: u8) -> Option<&'a [u8]> {
-        loop {
-            if let Some(bytes) = self.bytes(number) {
-                return Some(bytes);
-            }
-            // Its key may be longer than it need be.
-            match self.next()?.ok()? {
-                (found, Payload::Bytes(bytes)) if found == u32::from(number) => return Some(bytes),
-                _ => {}
-            }
-        }
     }
 
     #[inline]

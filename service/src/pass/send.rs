@@ -19,7 +19,7 @@ const LONGEST_ANSWER: usize = 64 << 10;
 const SHOWN: usize = 300;
 
 #[derive(Debug, thiserror::Error)]
-#[error("--pass takes http://HOST:PORT or https://HOST: {0}")]
+#[error("--forward-unsupported takes http://HOST:PORT or https://HOST: {0}")]
 pub struct BadReceiver(String);
 
 pub(super) struct Receiver {

@@ -93,7 +93,10 @@ fn an_address_is_one_of_otlp_over_http() {
     assert_eq!(urls, ["http://h:4318/v1/metrics", "http://h:4318/otlp"]);
     for bad in ["", "h:4318", "sqlite:x", "http://", "https://127.0.0.1"] {
         let error = to(bad).err().unwrap().to_string();
-        assert!(error.starts_with("--pass takes http://HOST:PORT or https://HOST: "), "{error}");
+        assert!(
+            error.starts_with("--forward-unsupported takes http://HOST:PORT or https://HOST: "),
+            "{error}"
+        );
     }
 }
 

@@ -123,13 +123,13 @@ impl Reporter {
     }
 
     pub(super) fn may_tell_more(&self, sender: &str) -> bool {
-        if self.options.now().log_foreign == 0 {
+        if self.options.now().log_rejected == 0 {
             return false;
         }
         let (mut logged, sender) = (locked(&self.logged), sender.to_string());
         logged.foreign.is_due(&sender);
         let of = logged.foreign.get_mut(&sender);
-        of.is_some_and(|of| of.reasons.len() < self.options.now().log_foreign && of.read < MOST_READ)
+        of.is_some_and(|of| of.reasons.len() < self.options.now().log_rejected && of.read < MOST_READ)
     }
 
     /// Nobody who posts waits while a body is read: one at a time is.
@@ -146,7 +146,7 @@ impl Reporter {
             if reasons.insert(told.clone()) {
                 tracing::warn!(sender, reason, "points of {sender} are not taken: {told}");
             }
-            reasons.len() >= self.options.now().log_foreign
+            reasons.len() >= self.options.now().log_rejected
         });
         if let Some(of) = locked(&self.logged).foreign.get_mut(&sender) {
             of.read += 1;

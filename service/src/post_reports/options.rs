@@ -7,7 +7,7 @@ use std::sync::{Arc, PoisonError, RwLock};
 #[derive(Clone, Debug, Default)]
 pub struct ReportOptions {
     /// How many reasons of each sender are in the log.
-    pub log_foreign: usize,
+    pub log_rejected: usize,
     /// What is meant to be left out: it is counted by itself, and not told.
     pub expected: Vec<Reason>,
     /// Which points are not foreign.

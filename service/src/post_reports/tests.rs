@@ -37,10 +37,10 @@ fn body(metrics: &str) -> Bytes {
 async fn told(
     outcome: Outcome,
     owner: Option<&'static str>,
-    log_foreign: usize,
+    log_rejected: usize,
     posts: &[Bytes],
 ) -> (Vec<String>, usize, usize) {
-    let options = ReportOptions { log_foreign, ..ReportOptions::default() };
+    let options = ReportOptions { log_rejected, ..ReportOptions::default() };
     let reported = reported(outcome.clone(), owner, options);
     for body in posts {
         assert_eq!(reported.post("a", body.clone().into(), None).await.status(), outcome.status());
@@ -166,7 +166,7 @@ async fn a_sender_is_told_what_is_not_taken() {
 /// Points by which clock is not in what the book says, nor in a body.
 #[tokio::test]
 async fn a_sender_whose_clock_is_off_is_told_by_how_much() {
-    let clock = Clock { most_ahead: Some(Duration::from_secs(600)), most_behind: None };
+    let clock = Clock { max_ahead: Some(Duration::from_secs(600)), max_age: None };
     let (mut off, window) = (OffClock::default(), clock.window());
     off.count(window.off(u64::MAX).unwrap());
     let reported = reported(Outcome::taken_but(3, off, Causes::default()), None, ReportOptions::default());
@@ -239,7 +239,8 @@ async fn a_late_sender_is_told_the_time() {
 /// What is expected is not told; and what is refused is noted, once for the log.
 #[tokio::test]
 async fn refusals_are_noted() {
-    let options = ReportOptions { log_foreign: 9, expected: vec![Reason::Gauge], ..ReportOptions::default() };
+    let options =
+        ReportOptions { log_rejected: 9, expected: vec![Reason::Gauge], ..ReportOptions::default() };
     let expected = reported(Outcome::taken(3), None, options);
     answered(&expected, GAUGES).await;
     while expected.reporter.is_reading.load(Relaxed) {
@@ -286,7 +287,7 @@ fn who_is_refused_behind_a_thousand_others_is_told_of() {
     let reporter = reported(Outcome::taken(0), None, ReportOptions::default()).reporter.clone();
     let late = late(0, 5);
     let off = {
-        let clock = Clock { most_ahead: Some(Duration::from_secs(600)), most_behind: None };
+        let clock = Clock { max_ahead: Some(Duration::from_secs(600)), max_age: None };
         let mut off = OffClock::default();
         off.count(clock.window().off(u64::MAX).unwrap());
         off

@@ -83,6 +83,11 @@ impl Driver {
         });
         Driver { task, warnings }
     }
+
+    /// Returns once the server is told that the client, which is gone, has ended.
+    pub(crate) async fn ended(&mut self) {
+        let _ = (&mut self.task).await;
+    }
 }
 
 impl Drop for Driver {

@@ -118,7 +118,7 @@ impl Joining {
             instance,
             beats: tokio::spawn(beats.run(beats_stopped)),
             peer,
-            looks: tokio::spawn(self.forward.look_at_others()),
+            looks: tokio::spawn(self.forward.look_at_others(of.peer.clone())),
             stop_beats,
             stop_peer,
         }

@@ -38,6 +38,7 @@ use instance::Joining;
 use operators::{Operators, Readers};
 use parts::Parts;
 use peers::Peers;
+use running::Lively;
 use senders::Senders;
 use std::path::PathBuf;
 use std::sync::{Arc, OnceLock};
@@ -77,14 +78,14 @@ pub struct Settings {
     pub reload: Box<dyn Fn() -> Option<Live> + Send + Sync>,
     /// Who gets points that are outside the profile.
     pub pass: Option<Arc<Pass>>,
-    pub most_bytes: usize,
+    pub max_bytes: usize,
     /// How long the files of late data may be together.
     pub max_late: u64,
-    pub most_connections: usize,
+    pub max_connections: usize,
     /// How many serve senders.
     pub threads: usize,
     /// So many fit.
-    pub most_series: usize,
+    pub max_series: usize,
     /// What time the samples of `/totals` have.
     pub totals_times: Times,
     pub metrics: Arc<Metrics>,
@@ -156,7 +157,7 @@ impl From<FolderFault> for Ended {
 pub async fn run(settings: Settings) -> Result<(), Ended> {
     let mut signals = Signals::new()?;
     // One that comes during the start is handled after it.
-    let mut hangup = received(SignalKind::hangup())?;
+    let hangup = received(SignalKind::hangup())?;
     let supervisor = Supervisor::from_environment();
     let senders = Senders::bind(&settings).await?;
     let readers = Readers::bind(&settings).await?;
@@ -177,24 +178,28 @@ pub async fn run(settings: Settings) -> Result<(), Ended> {
     tracing::info!(place, sink, "data in {place}, sink {sink}");
     tracing::info!("{}", settings.door);
     tracing::info!("senders post to {}, operators {}", senders.shown(), operators.shown());
-    let mut running = parts.start(&settings, senders, operators);
+    let mut running = parts.start(&settings, senders, operators).await?;
     units.get_or_init(|| running.at_work.units().clone());
-    let ended = loop {
-        tokio::select! {
-            cause = running.ended() => break Err(cause),
-            () = signals.ending() => break Ok(()),
-            _ = hangup.recv() => {
-                let settings = settings.clone();
-                if let Some(live) = blocking(move || (settings.reload)()).await {
-                    running.live.set(live);
-                }
-            }
-        }
+    let reloading = tokio::spawn(reload(hangup, settings, running.live.clone()));
+    let ended = tokio::select! {
+        cause = running.ended() => Err(cause),
+        () = signals.ending() => Ok(()),
     };
     watched.abort();
+    reloading.abort();
     supervisor.stopping(running.ends_within());
     ended?;
     running.stop().await
+}
+
+/// Reads the settings anew at each SIGHUP. Their file may be on a disk that stalls: nothing waits for it.
+async fn reload(mut hangup: Signal, settings: Arc<Settings>, running: Lively) {
+    while hangup.recv().await.is_some() {
+        let settings = settings.clone();
+        if let Some(live) = blocking(move || (settings.reload)()).await {
+            running.set(live);
+        }
+    }
 }
 
 /// All parts, and the addresses.
@@ -215,9 +220,8 @@ async fn of_store(
     signals: &mut Signals,
 ) -> Result<Option<Opened>, Ended> {
     let peers = Peers::bind(of, &settings.metrics).await?;
-    let (data, durability) = (settings.data.clone(), settings.durability);
-    let (address, folder) = (address_of(&of.database), settings.data.display());
-    blocking(move || left::look_at(&data, durability, &address)).await?;
+    let folder = settings.data.display();
+    left::look_at(&settings.data, &address_of(&of.database))?;
     std::fs::create_dir_all(&settings.data).with_context(|| format!("the folder {folder} can't be made"))?;
     let operators = readers.and_socket(&settings.operate).await?;
     let before = (senders.clone(), operators.clone());

@@ -42,10 +42,10 @@ impl Readers {
         let Some(address) = &settings.operate.tcp else {
             return Ok(Readers(None));
         };
-        let listener = bind("--operate", address).await?;
+        let listener = bind("--admin", address).await?;
         if settings.operate.tokens.is_some() && !settings.behind_proxy && !is_local(&listener) {
             return Err(Ended::Line(anyhow!(
-                "--operate {address} is open to other machines, where anybody could read tokens of --operate-tokens along: \
+                "--admin {address} is open to other machines, where anybody could read tokens of --admin-tokens along: \
                  leave these out, or give --behind-proxy, if nobody but a proxy that has TLS reaches the address"
             )));
         }
@@ -65,7 +65,7 @@ impl Readers {
 async fn bind_socket(path: &Path) -> Result<UnixListener, Ended> {
     Ok(listen_at_socket(path).await.map_err(|error| {
         anyhow!(
-            "--operate unix:{} can't be listened at: end what listens there, or give another path, of 107 bytes at most, in a \
+            "--admin unix:{} can't be listened at: end what listens there, or give another path, of 107 bytes at most, in a \
              folder that is there: {error}",
             path.display()
         )

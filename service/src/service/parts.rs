@@ -6,17 +6,17 @@ use super::running::{Lively, Running};
 use super::senders::Senders;
 use super::sink::{InFolder, InStore, Remembers, Told};
 use super::unit::{Files, Opened};
-use super::units::{taker, AtWork, Units};
+use super::units::{AtWork, Units};
 use super::{Ended, Settings};
 use crate::files::Folder;
 use crate::intake::connections::Limits;
 use crate::intake::{Budget, Intake, Threads};
 use crate::late::{self, LateData};
 use crate::operate::{self, Acts, Desk, Pulse, Totals};
-use crate::post_reports::{Reported, Reporter, SenderActivity};
+use crate::post_reports::{Reporter, SenderActivity};
 use crate::shares::Rules;
 use crate::sinks::Sink;
-use crate::slot::{Shared, Slot, Slots};
+use crate::slot::{Shared, Slots};
 use anyhow::Context;
 use std::sync::Arc;
 use std::time::{Duration, Instant};
@@ -42,24 +42,24 @@ pub(super) struct Parts {
 /// Where slots are kept.
 enum Of {
     /// A folder, which has one.
-    Folder(Box<Opened>),
+    Folder(Opened),
     /// A store, of which there is none yet.
-    Store(Joining),
+    Store(Box<Joining>),
 }
 
 impl Parts {
-    /// Opens the files in place: nothing else runs yet.
+    /// Opens the files in place: nothing else runs yet. They come before the sink, which may be told that it is a new one.
     pub fn of_folder(folder: Arc<Folder>, settings: &Settings) -> Result<Parts, Ended> {
-        let (files, shared) = (Files::of_folder(&folder)?, shared(settings)?);
-        let place = InFolder { folder, outbox: files.outbox.clone() };
-        let opened = Opened::new(files, 1, settings, &shared)?;
-        Parts::new(Of::Folder(Box::new(opened)), shared, Box::new(place), settings)
+        let shared = shared(settings)?;
+        let opened = Files::of_folder(&folder)?.open(1, settings, &shared)?;
+        let place = InFolder { folder, outbox: opened.slot.outbox.clone() };
+        Parts::new(Of::Folder(opened), shared, Box::new(place), settings)
     }
 
     /// The slots of a store are opened once they are taken.
     pub fn of_store(joining: Joining, settings: &Settings) -> Result<Parts, Ended> {
         let place = InStore::open(joining.store.clone()).context("the store can't be used")?;
-        Parts::new(Of::Store(joining), shared(settings)?, Box::new(place), settings)
+        Parts::new(Of::Store(Box::new(joining)), shared(settings)?, Box::new(place), settings)
     }
 
     /// With the sink, as this place remembers it.
@@ -81,16 +81,26 @@ impl Parts {
             shared,
             acts,
             sink: told.open(place)?,
-            budget: Budget::new(settings.most_bytes),
+            budget: Budget::new(settings.max_bytes),
             threads: Arc::new(Threads::new(settings.threads).context("no threads could be started")?),
         })
     }
 
-    pub fn start(self, settings: &Arc<Settings>, senders: Senders, operators: Operators) -> Running {
+    /// Begins all of them, behind a folder's slot.
+    pub async fn start(
+        self,
+        settings: &Arc<Settings>,
+        senders: Senders,
+        operators: Operators,
+    ) -> Result<Running, Ended> {
         let (stop_intake, intake_stopped) = watch::channel(false);
         let (stop_operate, operate_stopped) = watch::channel(false);
-        let units = operate::Units::of(self.of.slots());
-        let (at_work, ends) = AtWork::new(units.clone());
+        let slots = match &self.of {
+            Of::Folder(_) => Slots::one(None),
+            Of::Store(joining) => super::instance::slots(joining, settings),
+        };
+        let of_desk = operate::Units::of(slots.count());
+        let (at_work, ends) = AtWork::new(of_desk.clone());
         let (metrics, activity) = (settings.metrics.clone(), Arc::<SenderActivity>::default());
         let reporter = Reporter::new(
             settings.live.report_options.clone(),
@@ -98,14 +108,29 @@ impl Parts {
             activity.clone(),
             settings.pass.clone(),
         );
-        let (slots, mut joining) = self.of.begin(settings, &at_work, &reporter, &self.sink);
+        let units = Units {
+            settings: settings.clone(),
+            shared: self.shared.clone(),
+            sink: self.sink.clone(),
+            reporter: reporter.clone(),
+            slots: slots.clone(),
+            at_work: at_work.clone(),
+        };
+        let mut joining = match self.of {
+            Of::Folder(opened) => {
+                units.begin(opened);
+                None
+            }
+            Of::Store(joining) => Some(joining),
+        };
         // Of series that are there already.
         self.shared.shares.begin(Rules {
-            most_series: settings.most_series as u64,
+            max_series: settings.max_series as u64,
             of_each: settings.live.of_each.into(),
             tokens: settings.door.tokens(),
             profile: settings.reading.profile,
-            owned: Box::new(units.clone()),
+            owned: Box::new(of_desk.clone()),
+            flush_interval: settings.every,
         });
         let of_operators = Limits { connections: OPERATORS, ..limits(settings) };
         if let Some(pass) = &settings.pass {
@@ -113,12 +138,11 @@ impl Parts {
             tokio::spawn(pass.clone().run());
         }
         let reading = Arc::new(settings.reading.clone());
-        let intake =
-            Intake::of(slots.clone(), reporter.clone(), reading, self.budget.clone(), metrics.clone());
+        let intake = Intake::of(slots, reporter.clone(), reading, self.budget.clone(), metrics.clone());
         let intake = Arc::new(intake);
         let others = joining.as_mut().zip(settings.store.as_ref());
         let desk = Desk {
-            units,
+            units: of_desk,
             others: others.and_then(|(joining, of)| joining.others(of)),
             shares: self.shared.shares.clone(),
             acts: self.acts,
@@ -133,26 +157,17 @@ impl Parts {
             operate: settings.operate.tcp.clone().unwrap_or_default(),
             is_local: operators.is_local(),
             data: settings.data.display().to_string(),
-            most_series: settings.most_series,
+            max_series: settings.max_series,
             begun: Instant::now(),
         };
         let desk = Arc::new(desk);
         let of_health = Arc::downgrade(&desk);
         intake.set_available(move || of_health.upgrade().is_some_and(|desk| desk.is_available()));
-        let live = Lively { reporter: reporter.clone(), shares: self.shared.shares.clone() };
-        let joined = joining.zip(settings.store.as_ref()).map(|(joining, of)| {
-            let of_instance = Units {
-                settings: settings.clone(),
-                shared: self.shared.clone(),
-                sink: desk.sink.clone(),
-                reporter,
-                slots,
-                at_work: at_work.clone(),
-            };
-            joining.join(settings, of, of_instance, &intake, desk.clone())
-        });
+        let live = Lively { reporter, shares: self.shared.shares.clone() };
+        let joined = joining.zip(settings.store.as_ref());
+        let joined = joined.map(|(joining, of)| joining.join(settings, of, units, &intake, desk.clone()));
         let threads = self.threads;
-        Running {
+        Ok(Running {
             intake: tokio::spawn(senders.serve(limits(settings), intake, threads.clone(), intake_stopped)),
             operate: tokio::spawn(operators.serve(of_operators, desk, operate_stopped)),
             stop_intake,
@@ -162,7 +177,7 @@ impl Parts {
             joined,
             live,
             _threads: threads,
-        }
+        })
     }
 }
 
@@ -173,33 +188,6 @@ fn shared(settings: &Settings) -> Result<Arc<Shared>, Ended> {
     Ok(Arc::new(Shared::new(metrics, settings.clock).with_late(late)))
 }
 
-impl Of {
-    fn slots(&self) -> u16 {
-        match self {
-            Of::Folder(_) => 1,
-            Of::Store(joining) => joining.store.cluster.slots,
-        }
-    }
-
-    /// A folder's slot is at work from now on.
-    fn begin(
-        self,
-        settings: &Settings,
-        at_work: &AtWork,
-        reporter: &Arc<Reporter>,
-        sink: &Arc<dyn Sink>,
-    ) -> (Arc<Slots<Reported<Slot>>>, Option<Joining>) {
-        match self {
-            Of::Folder(opened) => {
-                let slots = Slots::one(taker(&opened.slot, reporter));
-                at_work.start(opened.start(sink));
-                (slots, None)
-            }
-            Of::Store(joining) => (super::instance::slots(&joining, settings), Some(joining)),
-        }
-    }
-}
-
 pub(super) fn limits(settings: &Settings) -> Limits {
-    Limits { connections: settings.most_connections, head: HEAD, idle: IDLE }
+    Limits { connections: settings.max_connections, head: HEAD, idle: IDLE }
 }

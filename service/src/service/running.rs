@@ -37,6 +37,7 @@ pub(super) struct Running {
 }
 
 /// Whom changed settings concern.
+#[derive(Clone)]
 pub(super) struct Lively {
     pub reporter: Arc<Reporter>,
     pub shares: Arc<Shares>,

@@ -4,7 +4,7 @@
 use super::{Ended, Settings};
 use crate::core::Core;
 use crate::files::{Dead, Fault, Folder, Journal, Outbox};
-use crate::keeper::{Keeper, Orders, Priming, Trouble};
+use crate::keeper::{Keeper, Priming, Trouble};
 use crate::operate::{self, Undelivered};
 use crate::sinks::{self, Attempts, Sink};
 use crate::slot::{Shared, Slot};
@@ -27,7 +27,7 @@ const UNEVEN: usize = 4;
 /// Where a slot is kept.
 pub(super) struct Files {
     number: u16,
-    pub outbox: Arc<Outbox>,
+    outbox: Arc<Outbox>,
     dead: Arc<Dead>,
     has_posts: bool,
     journal: Box<dyn FnOnce() -> Result<Journal, Fault> + Send>,
@@ -48,14 +48,35 @@ impl Files {
         let (outbox, dead) = (Arc::new(outbox), Arc::new(dead));
         Files { number, outbox, dead, has_posts, journal: Box::new(|| Ok(journal)) }
     }
+
+    /// Opens one of so many slots: its posts are answered 503 until its book is filled. That is primed beside all else.
+    pub fn open(self, slots: u16, settings: &Settings, shared: &Shared) -> Result<Opened, Ended> {
+        let Files { number, outbox, dead, has_posts, journal } = self;
+        let room = room(settings.max_series, slots, outbox.series_count());
+        let core = Core::apart(room, settings.across).with_context(|| {
+            format!(
+                "a book for --max-series {} can't be made: give a greater --max-memory, or a smaller --max-series",
+                settings.max_series
+            )
+        })?;
+        let priming = Priming::begin(&core, &outbox, has_posts);
+        let journal = journal()?;
+        let reading = Arc::new(match settings.store {
+            Some(_) => settings.reading.of_slot(),
+            None => settings.reading.clone(),
+        });
+        reading.finer_units.know(&outbox, &journal)?;
+        let slot = Slot::of(Some(reading), number, journal, outbox, core, shared);
+        slot.runs.set(settings.runs);
+        Ok(Opened { slot, dead, priming })
+    }
 }
 
-/// A slot that is open, and not at work yet.
+/// A slot whose files are open and whose book is being primed; nothing of it is at work.
 pub(super) struct Opened {
     pub slot: Arc<Slot>,
-    keeper: Keeper,
-    orders: Orders,
     dead: Arc<Dead>,
+    priming: Option<Priming>,
 }
 
 /// How a slot ended that nobody told to end.
@@ -79,40 +100,21 @@ pub(super) struct Unit {
 
 /// How many series a slot has room for: a book takes its memory from the beginning, and an instance may have all slots. So
 /// each has more than its share, since resources are uneven, and more than it has already.
-fn room(most_series: usize, slots: u16, known: usize) -> usize {
-    let share = (UNEVEN * most_series).div_ceil(usize::from(slots.max(1)));
-    share.max(2 * known).min(most_series)
+fn room(max_series: usize, slots: u16, known: usize) -> usize {
+    let share = (UNEVEN * max_series).div_ceil(usize::from(slots.max(1)));
+    share.max(2 * known).min(max_series)
 }
 
-impl Opened {
-    /// One of so many slots. Its book is primed beside all else that opens the slot.
-    pub fn new(files: Files, slots: u16, settings: &Settings, shared: &Shared) -> Result<Opened, Ended> {
-        let Files { number, outbox, dead, has_posts, journal } = files;
-        let room = room(settings.most_series, slots, outbox.series_count());
-        let core = Core::apart(room, settings.across).with_context(|| {
-            format!(
-                "a book for --most-series {} can't be made: give a greater --book-memory, or a smaller --most-series",
-                settings.most_series
-            )
-        })?;
-        let priming = Priming::begin(&core, &outbox, has_posts);
-        let journal = journal()?;
-        let reading = Arc::new(match settings.store {
-            Some(_) => settings.reading.of_slot(),
-            None => settings.reading.clone(),
-        });
-        reading.finer_units.know(&outbox, &journal)?;
-        let slot = Slot::of(Some(reading), number, journal, outbox, core, shared);
-        slot.runs.set(settings.runs);
-        let (keeper, orders) = Keeper::new(slot.clone(), settings.keeping());
-        Ok(Opened { slot, keeper: keeper.behind(priming), orders, dead })
-    }
-
-    pub fn start(self, sink: &Arc<dyn Sink>) -> Unit {
+impl Unit {
+    /// Begins its keeper, and its delivery into this sink.
+    pub fn begin(opened: Opened, settings: &Settings, sink: &Arc<dyn Sink>) -> Unit {
+        let Opened { slot, dead, priming } = opened;
+        let number = slot.number();
+        let (of_slot, orders) = Keeper::new(slot.clone(), settings.keeping());
         let (stop_keeper, keeper_stopped) = watch::channel(false);
         let (stop_delivery, delivery_stopped) = watch::channel(false);
-        let (slot, dead, mut delivery) = (self.slot, self.dead, JoinSet::new());
-        let (number, outbox, attempts) = (slot.number(), slot.outbox.clone(), Arc::<Attempts>::default());
+        let (mut keeper, mut delivery) = (JoinSet::new(), JoinSet::new());
+        let (outbox, attempts) = (slot.outbox.clone(), Arc::<Attempts>::default());
         delivery.spawn(sinks::deliver(
             number,
             outbox.clone(),
@@ -123,9 +125,7 @@ impl Opened {
             delivery_stopped,
         ));
         let undelivered = Undelivered { number, outbox, delivery: attempts };
-        let mut keeper = JoinSet::new();
-        keeper.spawn(self.keeper.run(keeper_stopped));
-        let orders = self.orders;
+        keeper.spawn(of_slot.behind(priming).run(keeper_stopped));
         Unit {
             of_desk: Arc::new(operate::Unit { slot, orders, undelivered, dead }),
             keeper,
@@ -134,9 +134,7 @@ impl Opened {
             stop_delivery,
         }
     }
-}
 
-impl Unit {
     /// Returns once a part has ended that nobody told to end.
     pub async fn ended(&mut self) -> End {
         let end = tokio::select! {

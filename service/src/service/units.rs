@@ -4,6 +4,7 @@ use super::unit::{cause, End, Files, Opened, Unit};
 use super::{Ended, Settings};
 use crate::latch::Latch;
 use crate::operate;
+use crate::otlp::series::SeriesKey;
 use crate::post_reports::{Reported, Reporter};
 use crate::sinks::Sink;
 use crate::slot::{Shared, Slot, Slots};
@@ -132,15 +133,22 @@ pub(super) struct Units {
 }
 
 impl Units {
-    /// Has a slot here: its posts are answered 503 until its book is filled.
+    /// Has a slot here.
     pub async fn open(&self, files: Files) -> Result<(), Ended> {
-        let (settings, shared) = (self.settings.clone(), self.shared.clone());
-        let slots = self.slots.count();
-        let opened = blocking(move || Opened::new(files, slots, &settings, &shared)).await?;
-        let (number, taker) = (opened.slot.number(), taker(&opened.slot, &self.reporter));
-        self.slots.set(number, Some(taker)); // first, since one that is lost at once is nobody's
-        self.at_work.start(opened.start(&self.sink));
+        let (settings, shared, slots) = (self.settings.clone(), self.shared.clone(), self.slots.count());
+        self.begin(blocking(move || files.open(slots, &settings, &shared)).await?);
         Ok(())
+    }
+
+    /// Has one at work that is open.
+    pub fn begin(&self, opened: Opened) {
+        let unit = Unit::begin(opened, &self.settings, &self.sink);
+        let slot = &unit.of_desk.slot;
+        let outbox = slot.outbox.clone();
+        let owner = move |series: &SeriesKey| outbox.owner(&series.digest());
+        let taker = Reported::new(slot.clone(), owner, self.reporter.clone());
+        self.slots.set(slot.number(), Some(taker)); // first, since one that is lost at once is nobody's
+        self.at_work.start(unit);
     }
 
     /// Gives a slot to another: posts are nobody's from now on, and what was taken goes into the outbox. False where that
@@ -155,12 +163,6 @@ impl Units {
         self.slots.set(number, None);
         self.at_work.lose(number);
     }
-}
-
-/// What takes the posts of a slot.
-pub(super) fn taker(slot: &Arc<Slot>, reporter: &Arc<Reporter>) -> Arc<Reported<Slot>> {
-    let outbox = slot.outbox.clone();
-    Reported::new(slot.clone(), move |series| outbox.owner(&series.digest()), reporter.clone())
 }
 
 #[cfg(test)]

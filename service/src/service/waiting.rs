@@ -78,7 +78,7 @@ impl Waiting {
         let (stop, stopped) = watch::channel(false);
         let reading = Arc::new(settings.reading.clone());
         let slots = Slots::<Slot>::several(Resources::new(1, reading.clone()), Some(Arc::new(NoStore)));
-        let budget = Budget::new(settings.most_bytes);
+        let budget = Budget::new(settings.max_bytes);
         let intake = Intake::of(slots, Arc::new(()), reading, budget, settings.metrics.clone());
         let threads = Arc::new(Threads::new(1).context("no threads could be started")?);
         let limits = limits(settings);

@@ -9,13 +9,15 @@ use std::sync::atomic::{AtomicU64, Ordering::Relaxed};
 use std::sync::{Arc, Mutex, Weak};
 use std::time::{Duration, Instant};
 
-/// What came, and is in no flush for so long, is not counted any more: its sender may be quarantined, or its slot another
-/// instance's.
+/// What came, and is in no flush so long after one was due, is not counted any more: its sender may be quarantined, or its slot
+/// another instance's.
 const LONGEST: Duration = Duration::from_secs(600);
 
 #[derive(Default)]
 pub struct Counted {
     all: AtomicU64,
+    /// How many more there may be by posts that are under way.
+    claimed: AtomicU64,
     state: Mutex<State>,
 }
 
@@ -47,16 +49,17 @@ struct Came {
 }
 
 impl Counted {
-    /// Counts anew where something has come or gone.
-    pub fn count(&self, owned: &dyn Owned) {
+    /// Counts anew if something has come or gone.
+    pub fn count(&self, owned: &dyn Owned, flush_interval: Duration) {
         let found = owned.seen();
         if locked(&self.state).of == Some(found) {
             return;
         }
-        // Ahead of the owners: what comes into a flush meanwhile is counted twice until the next time, and nothing is left out.
-        let gone = self.not_waited_for(owned);
+        // A flush may have come whose owners become known from here on.
+        let known: u64 = owned.by_owner().values().sum();
+        // Before the owners: what comes into a flush meanwhile is counted twice until the next time, and nothing is left out.
+        let gone = self.not_waited_for(owned, flush_interval.saturating_add(LONGEST));
         let by_owner = owned.by_owner();
-        let of_owners: u64 = by_owner.values().sum();
         let of_owner = |(sender, series)| (sender, Has { series, claimed: 0 });
         let mut each: HashMap<String, Has> = by_owner.into_iter().map(of_owner).collect();
         let mut state = locked(&self.state);
@@ -69,13 +72,12 @@ impl Counted {
         for (sender, has) in state.each.iter().filter(|(_, has)| has.claimed > 0) {
             each.entry(sender.clone()).or_default().claimed = has.claimed;
         }
-        // A commit may have come whose owners are not known yet.
-        state.of = (of_owners == found.1 as u64).then_some(found);
+        state.of = (known == found.1 as u64).then_some(found);
         state.each = each;
     }
 
     /// Of what came since it was counted last what is in a flush, or can't be looked for.
-    fn not_waited_for(&self, owned: &dyn Owned) -> HashSet<Number> {
+    fn not_waited_for(&self, owned: &dyn Owned, longest: Duration) -> HashSet<Number> {
         let state = locked(&self.state);
         let came = |(number, came): (&Number, &Option<Came>)| {
             let came = came.as_ref()?;
@@ -85,9 +87,21 @@ impl Counted {
         drop(state);
         let is_gone = |(number, names, at): &(Number, Weak<Named>, Instant)| {
             let names = names.upgrade();
-            names.is_none_or(|names| at.elapsed() > LONGEST || is_flushed(owned, &*names, number.1))
+            names.is_none_or(|names| at.elapsed() > longest || is_flushed(owned, &*names, number.1))
         };
         came.into_iter().filter(is_gone).map(|(number, ..)| number).collect()
+    }
+
+    /// Lets a post that is under way bring so many, unless all would be more than `most` with what others have claimed.
+    pub fn claim_of_all(&self, new: u64, most: u64) -> bool {
+        let has_room =
+            |claimed: u64| new == 0 || self.all().saturating_add(claimed).saturating_add(new) <= most;
+        let claim = |claimed| has_room(claimed).then_some(claimed + new);
+        self.claimed.fetch_update(Relaxed, Relaxed, claim).is_ok()
+    }
+
+    pub fn give_back_of_all(&self, claimed: u64) {
+        self.claimed.fetch_sub(claimed, Relaxed);
     }
 
     /// Lets a sender have so many more by a post that is under way, unless it would have more than so many.

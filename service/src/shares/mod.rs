@@ -104,7 +104,7 @@ impl From<Over> for Outcome {
 pub struct Used {
     pub sender: String,
     pub series: u64,
-    pub most_series: Option<u64>,
+    pub max_series: Option<u64>,
     /// Points that it has posted of those that it may at once, which come back with time.
     pub points: u64,
     pub most_points: Option<u64>,
@@ -117,7 +117,7 @@ impl Used {
     }
 
     pub fn part_of_series(&self) -> f64 {
-        part(self.series, self.most_series)
+        part(self.series, self.max_series)
     }
 
     pub fn part_of_points(&self) -> f64 {
@@ -137,12 +137,14 @@ pub struct Claim<'s> {
     sender: String,
     points: Duration,
     series: u64,
+    /// Of what all senders may have together.
+    series_of_all: u64,
 }
 
 impl Shares {
     /// Sets the rules, once, and counts series from then on.
     pub fn begin(self: &Arc<Shares>, rules: Rules) {
-        self.counted.count(&*rules.owned);
+        self.counted.count(&*rules.owned, rules.flush_interval);
         if self.rules.set(rules).is_ok() {
             tokio::spawn(count(Arc::downgrade(self)));
         }
@@ -163,12 +165,19 @@ impl Shares {
         points: u64,
         look: impl Fn() -> F,
     ) -> Result<Claim<'_>, Over> {
-        let mut claim = Claim { shares: self, sender: String::new(), points: Duration::ZERO, series: 0 };
+        let mut claim = Claim {
+            shares: self,
+            sender: String::new(),
+            points: Duration::ZERO,
+            series: 0,
+            series_of_all: 0,
+        };
         let Some(rules) = self.rules.get() else {
             return Ok(claim);
         };
-        let new = self.new_beside_all(rules, points, &look).await?;
-        if let Some(most) = self.most_series(rules, sender, points) {
+        let new = self.claim_beside_all(rules, points, &look).await?;
+        claim.series_of_all = new;
+        if let Some(most) = self.max_series(rules, sender, points) {
             claim.series = match self.counted.claim(sender, new, most) {
                 Ok(()) => new,
                 Err(has) => self.claim_new(sender, most, has, look).await?,
@@ -188,25 +197,40 @@ impl Shares {
         Ok(claim)
     }
 
-    /// How many new series a post of so many points has at most. Where these may be too many beside those of all they are looked at.
-    async fn new_beside_all<F: Future<Output = Result<u64, Over>>>(
+    /// Asks for room beside all other series: for as many as there are points or, if these may be too many, for those that are new.
+    /// Posts that are under way may have claimed more than they bring. So they are waited for, but not for long: what they claim is
+    /// no reason to refuse a post.
+    async fn claim_beside_all<F: Future<Output = Result<u64, Over>>>(
         &self,
         rules: &Rules,
         points: u64,
         look: &impl Fn() -> F,
     ) -> Result<u64, Over> {
-        let most = rules.most_series;
-        let is_over = |all: u64, new: u64| new > 0 && all.saturating_add(new) > most;
-        if !is_over(self.counted.all(), points) {
+        let most = rules.max_series;
+        if self.counted.claim_of_all(points, most) {
             return Ok(points);
         }
-        let new = look().await?;
-        let all = self.counted.all();
-        match is_over(all, new) {
-            false => Ok(new),
-            true => {
-                self.tell_full();
-                Err(Over::All { all, most })
+        let full = |all| {
+            self.tell_full();
+            Err(Over::All { all, most })
+        };
+        let mut new = points;
+        for _ in 0..PAUSES {
+            let all = self.counted.all();
+            new = look().await?;
+            if self.counted.claim_of_all(new, most) {
+                return Ok(new);
+            }
+            if all.saturating_add(new) > most && all == self.counted.all() {
+                return full(all);
+            }
+            tokio::time::sleep(PAUSE).await;
+        }
+        match self.counted.all() {
+            all if all.saturating_add(new) > most => full(all),
+            _ => {
+                self.counted.claim_of_all(new, u64::MAX);
+                Ok(new)
             }
         }
     }
@@ -218,19 +242,18 @@ impl Shares {
             return;
         }
         *told = Some(Instant::now());
-        let (series_count, most) =
-            (self.counted.all(), self.rules.get().map_or(0, |rules| rules.most_series));
+        let (series_count, most) = (self.counted.all(), self.rules.get().map_or(0, |rules| rules.max_series));
         tracing::warn!(
             series_count,
             most,
-            "posts with new series are refused: there are {series_count} series, and --most-series is {most}; shorten \
-             --forget-series, drop an attribute, or raise --most-series"
+            "posts with new series are refused: there are {series_count} series, and --max-series is {most}; shorten \
+             --series-ttl, drop an attribute, or raise --max-series"
         );
     }
 
     /// How many series a sender may have, where it could come over that by a post of so many points. Of a service's a tenth is left
     /// to others, once these have some.
-    fn most_series(&self, rules: &Rules, sender: &str, points: u64) -> Option<u64> {
+    fn max_series(&self, rules: &Rules, sender: &str, points: u64) -> Option<u64> {
         let (all, for_one) = (self.counted.all(), rules.kept_for_others());
         let is_near = || all.saturating_add(points) > for_one && all > self.counted.of(sender);
         rules.of(sender).series.or_else(|| is_near().then_some(for_one))
@@ -264,8 +287,8 @@ impl Shares {
     /// yet.
     pub fn look(&self, sender: &str, points: u64, series: Series, unflushed: u64) -> Result<u64, Over> {
         let Some(rules) = self.rules.get() else { return Ok(0) };
-        let own = self.most_series(rules, sender, points);
-        let alone = own.unwrap_or(rules.most_series).saturating_add(unflushed);
+        let own = self.max_series(rules, sender, points);
+        let alone = own.unwrap_or(rules.max_series).saturating_add(unflushed);
         let new = match series {
             Series::Numbered(names, numbers) => self.counted.new_of(&*rules.owned, &*names, numbers, alone),
             Series::Text(text) => others(&text, rules.profile, alone, |key| rules.owned.has(key)),
@@ -273,7 +296,7 @@ impl Shares {
         match own {
             _ if new <= alone => Ok(new),
             Some(most) => Err(Over::Alone { sender: sender.into(), most }),
-            None => Err(Over::AllAlone { most: rules.most_series }),
+            None => Err(Over::AllAlone { most: rules.max_series }),
         }
     }
 
@@ -305,13 +328,13 @@ impl Shares {
             let series = counted.get(&sender).copied().unwrap_or(0);
             Used {
                 series,
-                most_series: share.series.or((all > series).then_some(others)),
+                max_series: share.series.or((all > series).then_some(others)),
                 points: share.points.map_or(0, |most| bucket::points(debt, most)),
                 most_points: share.points.map(|most| most * BURST),
                 sender,
             }
         });
-        let has_share = |used: &Used| used.most_series.is_some() || used.most_points.is_some();
+        let has_share = |used: &Used| used.max_series.is_some() || used.most_points.is_some();
         let mut used: Vec<Used> = used.filter(has_share).collect();
         used.sort_by(|a, b| b.part().total_cmp(&a.part()).then_with(|| a.sender.cmp(&b.sender)));
         used.truncate(SHOWN);
@@ -337,6 +360,7 @@ impl Claim<'_> {
 
 impl Drop for Claim<'_> {
     fn drop(&mut self) {
+        self.shares.counted.give_back_of_all(self.series_of_all);
         if self.series > 0 {
             self.shares.counted.give_back(&self.sender, self.series);
         }
@@ -351,7 +375,8 @@ async fn count(shares: Weak<Shares>) {
     loop {
         looks.tick().await;
         let Some(shares) = shares.upgrade() else { return };
-        let counting = move || shares.rules.get().map(|rules| shares.counted.count(&*rules.owned));
+        let counting =
+            move || shares.rules.get().map(|rules| shares.counted.count(&*rules.owned, rules.flush_interval));
         blocking(counting).await;
     }
 }

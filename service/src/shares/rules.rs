@@ -5,6 +5,7 @@ use crate::otlp::series::{Profile, SeriesKey};
 use crate::reloaded::Reloaded;
 use std::collections::HashMap;
 use std::sync::{Arc, PoisonError, RwLock};
+use std::time::Duration;
 
 /// The most points a second that may be named.
 pub const MOST_POINTS: u64 = 1_000_000_000_000;
@@ -36,7 +37,7 @@ pub trait Owned: Send + Sync + 'static {
 
 pub struct Rules {
     /// Of the service.
-    pub most_series: u64,
+    pub max_series: u64,
     /// Of each sender that has none of its own.
     pub of_each: RwLock<Share>,
     /// Whose are its own.
@@ -44,6 +45,8 @@ pub struct Rules {
     /// Which points have a series.
     pub profile: Profile,
     pub owned: Box<dyn Owned>,
+    /// A series is in a flush so long after it came, unless its sender is quarantined.
+    pub flush_interval: Duration,
 }
 
 impl Rules {
@@ -54,6 +57,6 @@ impl Rules {
 
     /// How many series one sender may have where others have some too: a tenth is left to them.
     pub fn kept_for_others(&self) -> u64 {
-        self.most_series - self.most_series / 10
+        self.max_series - self.max_series / 10
     }
 }

@@ -92,13 +92,14 @@ struct Service {
 
 fn service(of_each: Share) -> Service {
     let (shares, flushed) = (Arc::<Shares>::default(), Flushed::default());
-    shares.counted.count(&flushed);
+    shares.counted.count(&flushed, Duration::ZERO);
     let rules = Rules {
-        most_series: 100,
+        max_series: 100,
         of_each: of_each.into(),
         profile: crate::otlp::Profile::Deltas,
         tokens: None,
         owned: Box::new(flushed.clone()),
+        flush_interval: Duration::ZERO,
     };
     assert!(shares.rules.set(rules).is_ok());
     Service { shares, flushed, book: Mutex::default(), numbers: Arc::default() }
@@ -148,7 +149,7 @@ impl Service {
         for (name, sender) in &*self.book.lock().unwrap() {
             self.flushed.add(sender, std::slice::from_ref(name));
         }
-        self.shares.counted.count(&self.flushed);
+        self.shares.counted.count(&self.flushed, Duration::ZERO);
     }
 }
 
@@ -237,11 +238,71 @@ async fn what_came_while_a_flush_was_written_is_counted() {
     let taken: Vec<String> = names("a", 2);
     assert_eq!(service.post("A", &names("b", 2)).await, Ok(()));
     service.flushed.add("A", &taken);
-    service.shares.counted.count(&service.flushed);
+    service.shares.counted.count(&service.flushed, Duration::ZERO);
     assert_eq!(service.post("A", &names("c", 2)).await, used_up(4, 5));
     assert_eq!(service.post("A", &[names("b", 2), names("c", 1)].concat()).await, Ok(()));
     service.flush();
     assert_eq!(service.shares.counted.of("A"), 5, "none counts twice");
+}
+
+/// A series in a flush, whose owner becomes known right after somebody asked for it.
+struct OwnerBecomesKnown(Flushed, AtomicU64);
+
+impl Owned for OwnerBecomesKnown {
+    fn seen(&self) -> (u64, usize) {
+        self.0.seen()
+    }
+
+    fn by_owner(&self) -> HashMap<String, u64> {
+        match self.1.load(Relaxed) {
+            0 => HashMap::new(),
+            _ => self.0.by_owner(),
+        }
+    }
+
+    fn has(&self, series: &SeriesKey) -> bool {
+        self.1.fetch_add(1, Relaxed) > 0 && self.0.has(series)
+    }
+}
+
+#[tokio::test]
+async fn a_series_whose_owner_becomes_known_while_it_is_counted_does_not_count_twice_for_good() {
+    let service = service(Share::default());
+    assert_eq!(service.post("A", &names("a", 1)).await, Ok(()));
+    service.flushed.add("A", &names("a", 1));
+    let owned = OwnerBecomesKnown(service.flushed.clone(), AtomicU64::new(0));
+    for _ in 0..2 {
+        service.shares.counted.count(&owned, Duration::ZERO);
+    }
+    assert_eq!((service.shares.counted.all(), service.shares.counted.of("A")), (1, 1));
+}
+
+/// Else each of many posts at once would find the room that is there for one.
+#[tokio::test]
+async fn posts_that_are_under_way_share_what_is_left_to_all() {
+    let service = service(Share::default());
+    let all = |all| Some(Over::All { all, most: 100 });
+    let first = service.claim("A", &names("a", 60)).await.unwrap();
+    let new = async { service.claim("B", &names("b", 60)).await.err() };
+    let known = async { service.claim("C", &names("a", 60)).await.map(drop) };
+    let taken = async {
+        tokio::time::sleep(3 * PAUSE).await;
+        service.take("A", &names("a", 60), first);
+    };
+    let (new, known, ()) = tokio::join!(new, known, taken);
+    assert_eq!((new, known), (all(60), Ok(())), "those of the third are no new ones");
+    assert_eq!(service.post("B", &names("b", 40)).await, Ok(()));
+    assert_eq!(service.claim("B", &names("c", 1)).await.err(), all(100));
+}
+
+/// A post that is under way for long claims room for all its points, of which few may be new.
+#[tokio::test]
+async fn no_post_is_refused_for_what_others_may_bring() {
+    let service = service(Share::default());
+    let long = service.claim("A", &names("a", 60)).await.unwrap();
+    assert_eq!(service.claim("B", &names("b", 60)).await.map(drop), Ok(()));
+    drop(long);
+    assert_eq!(service.post("B", &names("b", 100)).await, Ok(()));
 }
 
 /// Else many at once would each find the room that is there for one.
@@ -318,7 +379,7 @@ async fn those_that_are_nearest_come_first() {
     }
     let nearest = service.shares.nearest();
     assert_eq!(nearest.len(), SHOWN);
-    assert_eq!((&*nearest[0].sender, nearest[0].series, nearest[0].most_series), ("s00", 12, Some(20)));
+    assert_eq!((&*nearest[0].sender, nearest[0].series, nearest[0].max_series), ("s00", 12, Some(20)));
     assert_eq!(nearest[0].part(), 0.6);
     let last = nearest.iter().find(|used| used.sender == "s08").map(|used| used.most_points);
     assert_eq!(last, Some(Some(60)));

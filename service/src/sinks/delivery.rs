@@ -2,16 +2,16 @@
 //! taken.
 
 mod epochs;
+mod files;
 mod together;
 
 use super::{backoff, Fate, Forwarded, Sink};
-use crate::files::outbox::Waiting;
-use crate::files::{Dead, Epochs, Fault, Lost, Outbox, Tenure};
+use crate::files::{Dead, Fault, Outbox};
 use crate::latch::Latch;
 use crate::log;
 use crate::metrics::Metrics;
-use crate::work::blocking;
 use crate::work::locked;
+use files::{Files, Store};
 use std::convert::Infallible;
 use std::future::Future;
 use std::pin::pin;
@@ -82,86 +82,6 @@ pub async fn deliver(
     Run { slot, files, sink, metrics, attempts, is_told, failing: FAILING, unsure: UNSURE, stop }
         .until_it_ends()
         .await
-}
-
-/// What a delivery needs of the files.
-trait Store: Sync {
-    fn epoch(&self) -> String;
-    /// Under which the slot is this instance's, where there are several.
-    fn tenure(&self) -> Option<Tenure> {
-        None
-    }
-    /// Those of requests that wait, and of those to come.
-    fn epochs(&self) -> Epochs;
-    async fn first(&self) -> Result<(Waiting, Vec<u8>), Fault>;
-    /// Returns once a request may be sent: it is durable, and the slot is this instance's.
-    async fn may_deliver(&self, number: u64) -> Result<(), Fault>;
-    /// Those that wait behind the first, by their numbers: so many, of so many bytes together.
-    async fn behind_first(&self, most: usize, bytes: usize) -> Vec<(u64, Vec<u8>)>;
-    async fn lost(&self) -> Lost;
-    async fn acknowledge(&self, number: u64) -> Result<(), Fault>;
-    /// Durable once it returns. Whether the disk has room for it.
-    async fn keep(&self, key: String, reason: String, body: Vec<u8>) -> Result<bool, Fault>;
-    /// The sink has what an earlier run may have kept under this key, before it was killed.
-    async fn let_go(&self, key: String, body: Vec<u8>) -> Result<(), Fault>;
-}
-
-struct Files {
-    outbox: Arc<Outbox>,
-    dead: Arc<Dead>,
-}
-
-impl Store for Files {
-    fn epoch(&self) -> String {
-        self.outbox.epoch()
-    }
-
-    fn tenure(&self) -> Option<Tenure> {
-        self.outbox.tenure()
-    }
-
-    fn epochs(&self) -> Epochs {
-        self.outbox.epochs()
-    }
-
-    async fn first(&self) -> Result<(Waiting, Vec<u8>), Fault> {
-        self.outbox.first().await
-    }
-
-    async fn may_deliver(&self, number: u64) -> Result<(), Fault> {
-        // Also behind a settling: its answer may have been long on its way, and the slot be another's meanwhile.
-        while !self.outbox.may_deliver(number) {
-            let outbox = self.outbox.clone();
-            blocking(move || outbox.settle()).await?;
-        }
-        Ok(())
-    }
-
-    async fn behind_first(&self, most: usize, bytes: usize) -> Vec<(u64, Vec<u8>)> {
-        self.outbox.behind_first(most, bytes).await
-    }
-
-    async fn lost(&self) -> Lost {
-        self.outbox.lost().await
-    }
-
-    async fn acknowledge(&self, number: u64) -> Result<(), Fault> {
-        let outbox = self.outbox.clone();
-        blocking(move || outbox.acknowledge(number)).await
-    }
-
-    async fn keep(&self, key: String, reason: String, body: Vec<u8>) -> Result<bool, Fault> {
-        let dead = self.dead.clone();
-        blocking(move || dead.keep_in_room(&key, &reason, &body)).await
-    }
-
-    async fn let_go(&self, key: String, body: Vec<u8>) -> Result<(), Fault> {
-        if self.dead.count() == 0 {
-            return Ok(());
-        }
-        let dead = self.dead.clone();
-        blocking(move || dead.let_go(&key, &body)).await
-    }
 }
 
 struct Run<S> {

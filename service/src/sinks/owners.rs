@@ -9,7 +9,8 @@ use std::sync::{Arc, Mutex, Weak};
 
 /// What knows the owners of a slot's series.
 pub trait KnowsOwners: Send + Sync {
-    /// The name of the sender that a series belongs to; none as long as that is not known.
+    /// The name of the sender that a series belongs to: a commit has it of each series that it has. None of one that is in no commit,
+    /// or was forgotten since.
     fn owner(&self, series: &Digest) -> Option<String>;
 }
 
@@ -30,18 +31,8 @@ impl Owners {
         locked(&self.0).insert(slot, knows);
     }
 
-    /// Of the series of a request.
-    pub(super) fn of(&self, request: &Forwarded) -> OwnersOfSlot {
-        OwnersOfSlot(locked(&self.0).get(&request.slot).and_then(Weak::upgrade))
-    }
-}
-
-/// None where nobody delivers the slot here.
-#[derive(Clone)]
-pub(super) struct OwnersOfSlot(Option<Arc<dyn KnowsOwners>>);
-
-impl OwnersOfSlot {
-    pub(super) fn owner(&self, series: &Digest) -> Option<String> {
-        self.0.as_ref()?.owner(series)
+    /// Who knows whose the series of a request are; none if nobody delivers its slot here.
+    pub(super) fn of(&self, request: &Forwarded) -> Option<Arc<dyn KnowsOwners>> {
+        locked(&self.0).get(&request.slot).and_then(Weak::upgrade)
     }
 }

@@ -1,4 +1,4 @@
-//! A request without points that says where series end from now on (`totxegun repair`).
+//! A request without points that says where series end from now on (`totxegun rewind`).
 //!
 //! It stands in the outbox behind all that was forwarded of these series before, and ahead of all that is forwarded after. So
 //! a sink rewinds them once and in its place, also after a kill, or after hours in which it was away.

@@ -115,6 +115,7 @@ impl Shared {
 }
 
 impl Slot {
+    #[cfg(test)]
     pub fn new(
         number: u16,
         journal: Journal,

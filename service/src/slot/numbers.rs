@@ -9,9 +9,7 @@
 use super::Slot;
 use crate::core::{memory_used, Core, Names, Read, Refused};
 use crate::files::Points;
-use crate::otlp::{
-    is_plain, prepare, Encoding, Learnt, NotNamed, Numbered, Reading, Rounded, Series, Window,
-};
+use crate::otlp::{prepare, Encoding, Learnt, NotNamed, Numbered, Reading, Rounded, Series};
 use crate::work::Readers;
 use bytes::Bytes;
 use std::sync::{Arc, PoisonError, RwLock};
@@ -37,24 +35,9 @@ const MOST_OF_ONE: usize = 256 << 20;
 pub enum Request {
     /// In the book's form.
     Text(Bytes),
-    /// In protobuf that the book's reader reads as it came, unless it finds that it can't.
-    Plain(Protobuf),
-    /// Of other protobuf.
+    /// Of protobuf.
     Numbered(Box<ByNumber>),
 }
-
-/// A body, and how it is read where it is not read as it came.
-#[derive(Clone)]
-pub struct Protobuf {
-    body: Bytes,
-    reading: Arc<Reading>,
-}
-
-/// A reader has two places for a series among twice as many: of more it would read many anew each time.
-const PLAIN_SERIES: u64 = 16_384;
-/// How many times its length a plain body takes once its points have numbers too, in lists with room for twice as many: one of
-/// 31 bytes has four words and an end.
-const WITH_NUMBERS: usize = 4;
 
 /// Points that have numbers, and by which names.
 pub struct ByNumber {
@@ -72,7 +55,8 @@ pub struct ByNumber {
 #[derive(Clone)]
 pub enum Source {
     Text(Bytes),
-    Protobuf(Protobuf),
+    /// With how it is read.
+    Protobuf(Bytes, Arc<Reading>),
 }
 
 /// Numbers from one beginning on.
@@ -88,8 +72,6 @@ pub(super) struct Numbers {
     limits: Limits,
     /// What those of one post alone may take.
     most_of_one: usize,
-    /// Of numbers that began with a text, which needs none. All others are of the process' way of reading, or of its slots'.
-    of_texts: Arc<Reading>,
 }
 
 impl From<Bytes> for Request {
@@ -108,7 +90,6 @@ impl Request {
     pub fn source(&self) -> Source {
         match self {
             Request::Text(text) => Source::Text(text.clone()),
-            Request::Plain(plain) => Source::Protobuf(plain.clone()),
             Request::Numbered(points) => points.source.clone(),
         }
     }
@@ -117,7 +98,6 @@ impl Request {
     pub fn length(&self) -> usize {
         match self {
             Request::Text(text) => text.len(),
-            Request::Plain(plain) => plain.body.len(),
             Request::Numbered(points) => points.source.length(),
         }
     }
@@ -126,7 +106,6 @@ impl Request {
     pub fn bytes(&self) -> usize {
         match self {
             Request::Text(text) => text.len(),
-            Request::Plain(plain) => WITH_NUMBERS * plain.body.len(),
             Request::Numbered(points) => points.bytes(),
         }
     }
@@ -134,29 +113,14 @@ impl Request {
     /// What of it was rounded, which its answer has.
     pub fn take_rounded(&mut self) -> Rounded {
         match self {
-            Request::Text(_) | Request::Plain(_) => Rounded::default(), // who wrote a text has it
+            Request::Text(_) => Rounded::default(), // who wrote a text has it
             Request::Numbered(points) => std::mem::take(&mut points.rounded),
         }
     }
 
     /// Whether it takes so little to read that it is read in place.
     pub(super) fn is_short(&self) -> bool {
-        match self {
-            Request::Plain(plain) => plain.body.len() <= Readers::SHORT,
-            other => other.bytes() <= Readers::SHORT,
-        }
-    }
-}
-
-impl Protobuf {
-    fn new(body: &Bytes, reading: &Arc<Reading>) -> Protobuf {
-        Protobuf { body: body.clone(), reading: reading.clone() }
-    }
-
-    /// In the book's form.
-    fn text(self) -> Option<Bytes> {
-        let prepared = prepare(Encoding::Protobuf, self.body, &self.reading);
-        prepared.ok().map(|prepared| prepared.body)
+        self.bytes() <= Readers::SHORT
     }
 }
 
@@ -199,7 +163,7 @@ impl Source {
     /// Of the request as it came.
     pub fn length(&self) -> usize {
         match self {
-            Source::Text(body) | Source::Protobuf(Protobuf { body, .. }) => body.len(),
+            Source::Text(body) | Source::Protobuf(body, _) => body.len(),
         }
     }
 
@@ -207,29 +171,27 @@ impl Source {
     pub fn text(self) -> Option<Bytes> {
         match self {
             Source::Text(text) => Some(text),
-            Source::Protobuf(protobuf) => protobuf.text(),
+            Source::Protobuf(body, reading) => {
+                let prepared = prepare(Encoding::Protobuf, body, &reading);
+                prepared.ok().map(|prepared| prepared.body)
+            }
         }
     }
 }
 
 impl Generation {
-    fn new(core: &Core, reading: &Arc<Reading>, limits: Limits) -> Result<Generation, Refused> {
-        let most = core.most_series() as u64 * limits.bytes;
+    fn new(core: &Core, limits: Limits) -> Result<Generation, Refused> {
+        let most = core.max_series() as u64 * limits.bytes;
         let most = most.min(memory_used().1 / PART_OF_ALL);
-        Generation::with_room(most as usize, reading, Names::new()?)
+        Ok(Generation::with_room(most as usize, Names::new()?))
     }
 
-    fn with_room(most: usize, reading: &Arc<Reading>, names: Arc<Names>) -> Result<Generation, Refused> {
-        Ok(Generation { series: Series::new(reading.clone(), most), names, began: Instant::now() })
+    fn with_room(most: usize, names: Arc<Names>) -> Generation {
+        Generation { series: Series::new(most), names, began: Instant::now() }
     }
 
     fn is_full(&self) -> bool {
         self.series.is_full() || self.names.are_closed()
-    }
-
-    /// Whether a reader of the library knows most of the series again.
-    fn may_be_plain(&self) -> bool {
-        !self.is_full() && self.names.count() <= PLAIN_SERIES
     }
 
     /// Why a series has no number in those of one post.
@@ -272,31 +234,26 @@ impl Generation {
 
 impl Default for Numbers {
     fn default() -> Numbers {
-        Numbers { now: RwLock::default(), limits: LIMITS, most_of_one: MOST_OF_ONE, of_texts: Arc::default() }
+        Numbers { now: RwLock::default(), limits: LIMITS, most_of_one: MOST_OF_ONE }
     }
 }
 
 impl Numbers {
-    fn now(&self, core: &Core, reading: &Arc<Reading>) -> Option<Arc<Generation>> {
+    fn now(&self, core: &Core) -> Option<Arc<Generation>> {
         let now = self.now.read().unwrap_or_else(PoisonError::into_inner).clone();
         match now {
-            Some(now) if self.serves(&now, reading) => Some(now),
-            _ => self.begin(core, reading),
+            Some(now) if !now.is_over(self.limits) => Some(now),
+            _ => self.begin(core),
         }
-    }
-
-    fn serves(&self, now: &Generation, reading: &Arc<Reading>) -> bool {
-        let is_of_texts = |one: &Arc<Reading>| Arc::ptr_eq(one, &self.of_texts);
-        !now.is_over(self.limits) && (is_of_texts(reading) || !is_of_texts(now.series.reading()))
     }
 
     /// Numbers that nobody has yet, unless another has begun with some.
-    fn begin(&self, core: &Core, reading: &Arc<Reading>) -> Option<Arc<Generation>> {
+    fn begin(&self, core: &Core) -> Option<Arc<Generation>> {
         let mut now = self.now.write().unwrap_or_else(PoisonError::into_inner);
-        if let Some(other) = now.as_ref().filter(|other| self.serves(other, reading)) {
+        if let Some(other) = now.as_ref().filter(|other| !other.is_over(self.limits)) {
             return Some(other.clone());
         }
-        let fresh = Generation::new(core, reading, self.limits).ok().map(Arc::new);
+        let fresh = Generation::new(core, self.limits).ok().map(Arc::new);
         let before = std::mem::replace(&mut *now, fresh.clone());
         drop(now);
         drop(before); // without the lock: it has much to give back
@@ -307,53 +264,26 @@ impl Numbers {
 impl Numbers {
     /// The points of a request in protobuf; none where it is to be read otherwise.
     fn read(&self, core: &Core, body: &Bytes, reading: &Arc<Reading>) -> Option<ByNumber> {
-        let now = self.now(core, reading)?;
-        let source = Source::Protobuf(Protobuf::new(body, reading));
+        let now = self.now(core)?;
+        let source = Source::Protobuf(body.clone(), reading.clone());
         Some(now.by_number(now.read(body, reading)?, source))
-    }
-
-    /// The same as it is taken; none where it is to be written in the book's form.
-    fn request(&self, core: &Core, body: &Bytes, reading: &Arc<Reading>) -> Option<Request> {
-        let now = self.now(core, reading);
-        if now.is_some_and(|now| now.may_be_plain()) && is_plain(body, reading) {
-            return Some(Request::Plain(Protobuf::new(body, reading)));
-        }
-        self.read(core, body, reading).map(Request::from)
-    }
-
-    /// A plain body with its points by number; none where it is to be read `otherwise`.
-    pub fn read_plain(&self, core: &Core, window: &Window, sender: &str, plain: &Protobuf) -> Option<Read> {
-        let now = self.now(core, &plain.reading).filter(|now| now.may_be_plain())?;
-        let (sender, body) = (sender.to_string(), plain.body.clone());
-        let is_within = |first, last| window.has_all(first, last);
-        let has_room = |text| now.series.take_room(text);
-        Read::of_protobuf(core, sender, body, is_within, &now.names, has_room)
     }
 
     /// The points of a request once more, in their order.
     pub fn read_again(&self, core: &Core, source: &Source) -> Option<ByNumber> {
         match source {
             Source::Text(text) => self.read_text(core, text).ok()?,
-            Source::Protobuf(protobuf) => self.read(core, &protobuf.body, &protobuf.reading),
-        }
-    }
-
-    /// A plain body as any other in protobuf.
-    pub fn otherwise(&self, core: &Core, plain: Protobuf) -> Result<Request, Refused> {
-        match self.read(core, &plain.body, &plain.reading) {
-            Some(points) => Ok(points.into()),
-            None => plain.text().map(Request::Text).ok_or(Refused::NotJson),
+            Source::Protobuf(body, reading) => self.read(core, body, reading),
         }
     }
 
     /// Has a text that was read have its points by number. It stays a text where there is no room for numbers, but for one of
     /// several stretches.
     pub fn number(&self, core: &Core, read: &mut Read) -> Result<(), Refused> {
-        let now = self.now(core, &self.of_texts);
-        if now.is_some_and(|now| now.number(read)) || !read.is_of_several() {
+        if self.now(core).is_some_and(|now| now.number(read)) || !read.is_of_several() {
             return Ok(());
         }
-        let own = Generation::with_room(self.most_of_one, &self.of_texts, Names::of_one_post()?)?;
+        let own = Generation::with_room(self.most_of_one, Names::of_one_post()?);
         match own.number(read) {
             true => Ok(()),
             false => Err(own.refused()),
@@ -363,13 +293,13 @@ impl Numbers {
     /// The points of a request in the book's form, also those that are cumulative; none where the book refuses it whole.
     pub fn read_text(&self, core: &Core, text: &Bytes) -> Result<Option<ByNumber>, Refused> {
         let source = || Source::Text(text.clone());
-        if let Some(now) = self.now(core, &self.of_texts) {
+        if let Some(now) = self.now(core) {
             if let Ok(read) = now.read_text(text) {
                 return Ok(read.map(|numbered| now.by_number(numbered, source())));
             }
         }
         // Numbers for this one alone: there is no room for more.
-        let own = Generation::with_room(self.most_of_one, &self.of_texts, Names::of_one_post()?)?;
+        let own = Generation::with_room(self.most_of_one, Names::of_one_post()?);
         let read = own.read_text(text).map_err(|NotNamed| own.refused())?;
         Ok(read.map(|numbered| own.by_number(numbered, source())))
     }
@@ -379,11 +309,6 @@ impl Slot {
     /// The points of a request in protobuf by their numbers; none where it is to be read otherwise, which says nothing of it.
     pub fn numbered(&self, body: &Bytes, reading: &Arc<Reading>) -> Option<ByNumber> {
         self.numbers.read(&self.core, body, reading)
-    }
-
-    /// A request in protobuf as it is taken: as it came, if it is plain, or by the numbers of its series; none as above.
-    pub fn of_protobuf(&self, body: &Bytes, reading: &Arc<Reading>) -> Option<Request> {
-        self.numbers.request(&self.core, body, reading)
     }
 
     /// The same of a request in the book's form, also of what is cumulative; none where the book refuses it whole.

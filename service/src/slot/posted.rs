@@ -82,15 +82,8 @@ pub struct RequestReader<'a> {
 }
 
 impl RequestReader<'_> {
-    /// A plain one that is not as it seemed is read as any other.
     pub fn read(&self, sender: String, request: Request) -> Result<Posted, Refused> {
         match request {
-            Request::Plain(plain) => {
-                match self.numbers.read_plain(self.core, &self.window, &sender, &plain) {
-                    Some(read) => fits(&read).map(|()| Posted::whole(read)),
-                    None => self.read(sender, self.numbers.otherwise(self.core, plain)?),
-                }
-            }
             Request::Text(body) => self.read_text(sender, body),
             Request::Numbered(by) => self.read_numbered(sender, *by),
         }

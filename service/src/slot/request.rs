@@ -221,6 +221,7 @@ impl Slot {
         let Some(_reserved) = self.free_space.reserve(posted.read.bytes()) else {
             return Err(Reason::NoRoom);
         };
+        posted.read.series_apart(); // is found here, without the lock
         let book = self.serving_book()?;
         Ok(self.put_locked(book, posted))
     }
@@ -249,6 +250,7 @@ impl Slot {
             self.note_refusal(book, refused);
             return Err(refused);
         }
+        book.note_recent(&posted.read, &[]);
         let new_series = book.series().saturating_sub(before);
         self.count_post();
         // Under the lock: so the journal has the book's order, and a checkpoint finds the post in both or in neither.
@@ -282,7 +284,7 @@ impl Slot {
             return self.lose();
         }
         crate::complain(format_args!(
-            "{NO_REST}, so the service ends: nothing is lost, since its sender was not answered; give a greater --book-memory"
+            "{NO_REST}, so the service ends: nothing is lost, since its sender was not answered; give a greater --max-memory"
         ));
         std::process::exit(FAILED)
     }

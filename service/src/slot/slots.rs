@@ -27,15 +27,9 @@ pub trait Elsewhere: Send + Sync + 'static {
 }
 
 /// All slots, and what takes posts of those that are here.
-pub struct Slots<T>(Kind<T>);
-
-enum Kind<T> {
-    One(Arc<T>),
-    Several(Box<Several<T>>),
-}
-
-struct Several<T> {
-    resources: Resources,
+pub struct Slots<T> {
+    /// None where there is one.
+    resources: Option<Resources>,
     /// What takes the posts of each, if it is here.
     here: Vec<RwLock<Option<Arc<T>>>>,
     elsewhere: Option<Arc<dyn Elsewhere>>,
@@ -49,75 +43,56 @@ pub enum Way<T> {
 }
 
 impl<T> Slots<T> {
-    /// Slot 0, which is here for ever.
-    pub fn one(taker: Arc<T>) -> Arc<Slots<T>> {
-        Arc::new(Slots(Kind::One(taker)))
+    /// Slot 0 alone, which may not be here yet.
+    pub fn one(taker: Option<Arc<T>>) -> Arc<Slots<T>> {
+        Arc::new(Slots { resources: None, here: vec![RwLock::new(taker)], elsewhere: None })
     }
 
     /// As many as resources are put into; none is here.
     pub fn several(resources: Resources, elsewhere: Option<Arc<dyn Elsewhere>>) -> Arc<Slots<T>> {
-        Arc::new(Slots(Kind::Several(Box::new(Several {
-            here: (0..resources.slots()).map(|_| RwLock::default()).collect(),
-            resources,
-            elsewhere,
-        }))))
+        let here = (0..resources.slots()).map(|_| RwLock::default()).collect();
+        Arc::new(Slots { resources: Some(resources), here, elsewhere })
     }
 
     pub fn way(&self, encoding: Encoding, body: &Bytes) -> Way<T> {
-        match &self.0 {
-            Kind::One(taker) => Way::Here(taker.clone()),
-            Kind::Several(several) => match several.resources.split(encoding, body) {
-                Split::Whole(slot) => match self.here(slot) {
-                    Some(taker) => Way::Here(taker),
-                    None => Way::Split(Split::Whole(slot)),
-                },
-                parts => Way::Split(parts),
+        let split = match &self.resources {
+            None => Split::Whole(0),
+            Some(resources) => resources.split(encoding, body),
+        };
+        match split {
+            Split::Whole(slot) => match self.here(slot) {
+                Some(taker) => Way::Here(taker),
+                None => Way::Split(Split::Whole(slot)),
             },
+            parts => Way::Split(parts),
         }
     }
 
     /// What takes the posts of a slot, if it is here.
     pub fn here(&self, slot: u16) -> Option<Arc<T>> {
-        match &self.0 {
-            Kind::One(taker) => (slot == 0).then(|| taker.clone()),
-            Kind::Several(several) => {
-                let here = several.here.get(usize::from(slot))?;
-                here.read().unwrap_or_else(PoisonError::into_inner).clone() // one value is sound at any time
-            }
-        }
+        let here = self.here.get(usize::from(slot))?;
+        here.read().unwrap_or_else(PoisonError::into_inner).clone() // one value is sound at any time
     }
 
-    /// Says what takes the posts of a slot from now on, if it is here. That of a folder stays.
+    /// Says what takes the posts of a slot from now on, if it is here.
     pub fn set(&self, slot: u16, to: Option<Arc<T>>) {
-        if let Kind::Several(several) = &self.0 {
-            if let Some(here) = several.here.get(usize::from(slot)) {
-                *here.write().unwrap_or_else(PoisonError::into_inner) = to;
-            }
+        if let Some(here) = self.here.get(usize::from(slot)) {
+            *here.write().unwrap_or_else(PoisonError::into_inner) = to;
         }
     }
 
     pub fn count(&self) -> u16 {
-        match &self.0 {
-            Kind::One(_) => 1,
-            Kind::Several(several) => several.resources.slots(),
-        }
-    }
-
-    fn others(&self) -> Option<&dyn Elsewhere> {
-        match &self.0 {
-            Kind::One(_) => None,
-            Kind::Several(several) => several.elsewhere.as_deref(),
-        }
+        self.here.len() as u16 // as many as resources have
     }
 
     /// Why each post is answered 503 now, before it is read.
     pub fn unavailable(&self) -> Option<Reason> {
-        self.others()?.unavailable()
+        self.elsewhere.as_ref()?.unavailable()
     }
 
     /// Brings a part of a request to its slot's owner.
     pub async fn elsewhere(&self, slot: u16, sender: &str, part: Original) -> Outcome {
-        match self.others() {
+        match &self.elsewhere {
             Some(elsewhere) => elsewhere.post(slot, sender, part).await,
             None => Reason::NoOwner.into(),
         }

@@ -13,15 +13,12 @@ mod content;
 mod posts;
 mod target;
 
-use super::postgres::{Copies, PostgresStore, Server, Standing, State, StoreFault};
+use super::postgres::{Copies, PostgresStore, Server, Standing, StoreFault};
 use crate::files::{Durability, Fault, Folder, FolderFault};
 use content::Content;
 use posts::Posts;
 use std::path::{Path, PathBuf};
 use target::To;
-
-/// Slots of a store that are filled side by side: each has a connection.
-const SIDE_BY_SIDE: usize = 16;
 
 const USED: &str = "the store has something already, and a folder is moved into one that `totxegun store init` has made and \
                     nobody has used: make it in another database";
@@ -41,7 +38,7 @@ macro_rules! from {
     };
 }
 
-from!(StoreFault, FolderFault, Fault);
+from!(StoreFault, FolderFault, Fault, serde_json::Error);
 
 fn refused<T>(why: impl Into<String>) -> Result<T, MoveFault> {
     Err(MoveFault(why.into()))
@@ -83,7 +80,7 @@ pub fn from_folder(folder: &Path, server: &Server, copies: Copies) -> Result<Opt
     let content = Content::of_folder(&folder)?;
     // No copy of the folder has its epoch, but one of the whole disk.
     let id = folder.epoch();
-    begin(&store, Standing { state: State::Filling, id: id.clone(), folder: path.display().to_string() })?;
+    begin(&store, Standing { is_filling: true, id: id.clone(), folder: path.display().to_string() })?;
     let moved = fill(&folder, &content, &store, &id)?;
     folder.set_moved(&address_of(server))?;
     decide(&store)?;
@@ -101,21 +98,24 @@ fn absolute(folder: &Path) -> Result<PathBuf, MoveFault> {
 /// From here on no instance starts on the store, and none runs.
 fn begin(store: &PostgresStore, to: Standing) -> Result<(), MoveFault> {
     let seen = store.standing()?;
-    match (seen.state, &seen.id) == (to.state, &to.id) {
+    match seen.is_filling && seen.id == to.id {
         true => change(store, &seen, to)?, // the folder may be elsewhere by now
         false => {
-            check_unused(store, &seen)?;
+            if let Some(why) = seen.refusal() {
+                return refused(why);
+            }
+            store.check_idle()?;
             let begun = store.begin_filling(&seen, &to)?;
             check_meanwhile(begun.ok_or_else(|| MoveFault(USED.into()))?, to)?;
         }
     }
-    check_idle(store)
+    Ok(store.check_idle()?)
 }
 
 /// From here on the store counts: it has all, and the folder says so.
 fn decide(store: &PostgresStore) -> Result<(), MoveFault> {
     let seen = store.standing()?;
-    change(store, &seen, Standing { state: State::Counts, ..seen.clone() })
+    change(store, &seen, Standing { is_filling: false, ..seen.clone() })
 }
 
 fn change(store: &PostgresStore, seen: &Standing, to: Standing) -> Result<(), MoveFault> {
@@ -129,58 +129,29 @@ fn check_meanwhile(now: Standing, to: Standing) -> Result<(), MoveFault> {
     }
 }
 
-fn check_unused(store: &PostgresStore, seen: &Standing) -> Result<(), MoveFault> {
-    if let Some(why) = seen.refusal() {
-        return refused(why);
-    }
-    if !store.is_empty()? {
-        return refused(USED);
-    }
-    check_idle(store)
-}
-
-fn check_idle(store: &PostgresStore) -> Result<(), MoveFault> {
-    match &store.running()?[..] {
-        [] => Ok(()),
-        running => refused(format!(
-            "the store is in use by {}: end all instances, and call this again",
-            running.join(" and ")
-        )),
-    }
-}
-
 fn fill(folder: &Folder, content: &Content, store: &PostgresStore, id: &str) -> Result<Moved, MoveFault> {
     let slots = store.cluster.slots;
-    let (mut moved, dead) = (Moved { series: content.series.len(), ..Moved::default() }, folder.dead()?);
-    let numbers: Vec<u16> = (0..slots).collect();
-    for some in numbers.chunks(SIDE_BY_SIDE) {
-        let mut all = Vec::new();
-        for number in some {
-            let term = store.take_to_move(*number, id)?;
-            all.push((term, To::slot(store, *number, term)?));
-        }
-        for (_, to) in &all {
-            to.outbox.begin_with(content.beginning(to.number, slots))?;
-            if to.number == 0 {
-                moved.requests = target::go_on(&to.outbox, &content.outbox)?;
-                moved.letters = to.take_letters(&dead)?;
-            }
-        }
-        let mut posts = Posts::new(slots);
-        posts.each(content, |number, post, names| {
-            match all.iter_mut().find(|(_, to)| to.number == number) {
-                Some((_, to)) => to.put(post, names),
-                None => Ok(()), // in another pass
-            }
-        })?;
-        moved.posts = posts.count;
-        for (term, mut to) in all {
-            to.settle()?;
-            store.release_moved(to.number, term)?;
+    let all: Result<Vec<To>, MoveFault> = (0..slots).map(|number| To::slot(store, number, id)).collect();
+    let mut all = all?;
+    let mut moved = Moved { series: content.series.len(), ..Moved::default() };
+    for to in &all {
+        to.outbox.begin_with(content.beginning(to.number, slots))?;
+        if to.number == 0 {
+            moved.requests = target::go_on(&to.outbox, &content.outbox)?;
+            moved.letters = to.take_letters(&folder.dead()?)?;
         }
     }
+    let mut posts = Posts::new(slots);
+    posts.each(content, |number, post, names| {
+        all.iter_mut().filter(|to| to.number == number).try_for_each(|to| to.put(post, names))
+    })?;
+    moved.posts = posts.count;
+    for mut to in all {
+        to.settle()?;
+        store.release_moved(to.number, to.term)?;
+    }
     if let Some(sink) = folder.sink() {
-        store.set_sink(&store.sink()?, &sink.line())?;
+        store.set_sink(&store.sink()?, &sink.text()?)?;
     }
     Ok(moved)
 }

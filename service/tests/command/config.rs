@@ -2,7 +2,7 @@
 
 use super::{program, refused, totxegun};
 
-const FILE: &str = "data = \"d\"\nthreads = 2\nflush-every = \"5s\"\n[sink]\naddress = \"http://h:1\"\n";
+const FILE: &str = "data = \"d\"\nthreads = 2\nflush-interval = \"5s\"\n[sink]\naddress = \"http://h:1\"\n";
 
 fn written(text: &str) -> (tempfile::TempDir, String) {
     let folder = tempfile::tempdir().unwrap();
@@ -16,12 +16,12 @@ fn written(text: &str) -> (tempfile::TempDir, String) {
 #[test]
 fn each_value_is_shown_with_where_it_comes_from() {
     let (_folder, path) = written(FILE);
-    let mut command = program(&["config", "show", "--config", &path, "--flush-every=7s"]);
-    let output = command.env("TOTXEGUN_THREADS", "3").env("TOTXEGUN_FLUSH_EVERY", "8s").output().unwrap();
+    let mut command = program(&["config", "show", "--config", &path, "--flush-interval=7s"]);
+    let output = command.env("TOTXEGUN_THREADS", "3").env("TOTXEGUN_FLUSH_INTERVAL", "8s").output().unwrap();
     let text = String::from_utf8(output.stdout).unwrap();
     for line in [
         "threads = 3 # environment, TOTXEGUN_THREADS".to_string(),
-        "flush-every = \"7s\" # command line".into(),
+        "flush-interval = \"7s\" # command line".into(),
         format!("data = \"d\" # {path}"),
         format!("address = \"http://h:1\" # {path}"),
         "listen = \"127.0.0.1:4318\" # default".into(),
@@ -52,12 +52,12 @@ fn what_can_not_be_used_is_refused_before_a_start() {
     let text = String::from_utf8([output.stdout, output.stderr].concat()).unwrap();
     assert_eq!((output.status.code(), text.contains("a service starts")), (Some(0), true), "{text}");
     for (added, part) in [
-        ("", "write `flush-every`"),
+        ("", "write `flush-interval`"),
         ("tokens = \"/none\"\n", "--tokens can't be used"),
         ("keep-hours = \"7d\"\n", "--keep-hours are for a sink of SQLite"),
     ] {
         let text = match added {
-            "" => FILE.replace("flush-every", "flush-evry"),
+            "" => FILE.replace("flush-interval", "flush-evry"),
             _ => added.to_string() + FILE,
         };
         let (_folder, path) = written(&text);

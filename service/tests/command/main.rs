@@ -56,12 +56,11 @@ fn help_names_each_command_and_option() {
         "config",
         "totals",
         "flush",
-        "checkpoint",
         "quarantine",
-        "lift",
-        "dead",
+        "release",
+        "dead-letters",
         "close",
-        "open",
+        "reopen",
         "adjust",
         "late",
         "export",
@@ -75,8 +74,8 @@ fn help_names_each_command_and_option() {
     for option in [
         "data",
         "listen",
-        "operate",
-        "operate-tokens",
+        "admin",
+        "admin-tokens",
         "config",
         "log-level",
         "allowed-hosts",
@@ -91,29 +90,29 @@ fn help_names_each_command_and_option() {
         "sink-ca",
         "sink-cert",
         "sink-key",
-        "pass-header-file",
-        "pass-ca",
-        "pass-cert",
-        "pass-key",
-        "flush-every",
-        "durable",
-        "forget-series",
-        "never-across",
-        "most-ahead",
-        "most-behind",
+        "forward-unsupported-header-file",
+        "forward-unsupported-ca",
+        "forward-unsupported-cert",
+        "forward-unsupported-key",
+        "flush-interval",
+        "durability",
+        "series-ttl",
+        "split-at",
+        "max-ahead",
+        "max-age",
         "keep-intervals",
         "keep-hours",
         "drop-attribute",
         "whole",
-        "pass",
+        "forward-unsupported",
         "cumulative",
         "exponential",
         "first",
         "reset",
-        "most-series",
-        "book-memory",
-        "most-bytes",
-        "most-connections",
+        "max-series",
+        "max-memory",
+        "max-bytes",
+        "max-connections",
         "threads",
     ] {
         assert!(help.contains(&format!("--{option} ")), "--{option} in\n{help}");
@@ -131,8 +130,8 @@ fn help_names_each_command_and_option() {
 fn a_faulty_line_has_status_2() {
     refused(&[], 2, "Usage");
     refused(&["serve"], 2, "--data");
-    refused(&["serve", "--data", "d", "--most-series", "0"], 2, "1..=1000000");
-    refused(&["serve", "--data", "d", "--flush-every", "10"], 2, "10s");
+    refused(&["serve", "--data", "d", "--max-series", "0"], 2, "1..=1000000");
+    refused(&["serve", "--data", "d", "--flush-interval", "10"], 2, "10s");
     refused(&["serve", "--data", "d", "--sink", "localhost:4318"], 2, "no sink is known for `localhost:`");
     refused(&["quarantine", "no name"], 2, "1 to 64");
     let serve = ["serve", "--data", "d"];
@@ -142,16 +141,22 @@ fn a_faulty_line_has_status_2() {
         (&[&serve[..], &["--sink-header", "host: h"]].concat(), "`host`"),
         (&[&serve[..], &["--whole", "s=us,s=ms"]].concat(), "two rules for the unit `s`"),
         (&[&serve[..], &["--whole", "auto,off"]].concat(), "both auto and off"),
-        (&[&serve[..], &["--pass", "h:4318"]].concat(), "--pass takes http://HOST:PORT or https://HOST"),
-        (&[&serve[..], &["--operate", "unix:o", "--operate-tokens", "t"]].concat(), "for orders over TCP"),
-        (&[&serve[..], &["--pass", "http://127.0.0.1:4318"]].concat(), "points would come again for ever"),
-        (&[&serve[..], &["--pass-ca", "f"]].concat(), "are for --pass"),
+        (
+            &[&serve[..], &["--forward-unsupported", "h:4318"]].concat(),
+            "--forward-unsupported takes http://HOST:PORT or https://HOST",
+        ),
+        (&[&serve[..], &["--admin", "unix:o", "--admin-tokens", "t"]].concat(), "for orders over TCP"),
+        (
+            &[&serve[..], &["--forward-unsupported", "http://127.0.0.1:4318"]].concat(),
+            "points would come again for ever",
+        ),
+        (&[&serve[..], &["--forward-unsupported-ca", "f"]].concat(), "are for --forward-unsupported"),
         (&[&serve[..], &["--sink-ca", "f"]].concat(), "for a sink of OTLP"),
         (&["explain", "-", "--whole", "s=us,s=ms"], "two rules for the unit `s`"),
     ] {
         refused(words, 2, part);
     }
-    refused(&["dead"], 2, "Usage");
+    refused(&["dead-letters"], 2, "Usage");
 }
 
 #[test]
@@ -217,7 +222,11 @@ fn an_interrupt_leaves_no_copy_of_a_folder() {
     use nix::sys::signal::{kill, Signal};
     let (data, temporary) = (tempfile::tempdir().unwrap(), tempfile::tempdir().unwrap());
     std::fs::write(data.path().join("lock"), "").unwrap();
-    std::fs::write(data.path().join("version"), "totxegun 3\nepoch 0123456789abcdef\nlock 1\n").unwrap();
+    std::fs::write(
+        data.path().join("version"),
+        r#"{"totxegun":1,"epoch":"0123456789abcdef","lock":{"inode":1}}"#,
+    )
+    .unwrap();
     std::fs::create_dir(data.path().join("dead")).unwrap();
     // Who copies it waits for somebody who writes.
     let pipe = data.path().join("dead/0-a-1.json");
@@ -250,33 +259,33 @@ fn what_is_not_possible_has_status_1_and_is_named() {
         &format!("--listen {address} can't be listened on: end what listens there"),
     );
     refused(
-        &[&serve[..], &["--listen", "127.0.0.1:0", "--operate", &address]].concat(),
+        &[&serve[..], &["--listen", "127.0.0.1:0", "--admin", &address]].concat(),
         1,
-        &format!("--operate {address}"),
+        &format!("--admin {address}"),
     );
     let other = tempfile::tempdir().unwrap();
     let place = ["--data", other.path().to_str().unwrap(), "--listen", "127.0.0.1:0"];
-    let short = ["--operate", "127.0.0.1:0", "--book-memory", "64MiB", "--most-series", "1000000"];
+    let short = ["--admin", "127.0.0.1:0", "--max-memory", "64MiB", "--max-series", "1000000"];
     refused(
         &[&["serve"][..], &place, &short].concat(),
         1,
-        "give a greater --book-memory, or a smaller --most-series",
+        "give a greater --max-memory, or a smaller --max-series",
     );
     drop(taken);
     for words in [
         &["status"][..],
         &["flush"],
         &["totals"],
-        &["lift", "A"],
-        &["dead", "list"],
+        &["release", "A"],
+        &["dead-letters", "list"],
         &["close", "2026-01"],
-        &["open", "2026-01"],
+        &["reopen", "2026-01"],
         &["late"],
         &["adjust", "1", "2026-01-05T13", "-1", "--reason", "x"],
         &["export", "--month", "2026-01", "--csv"],
-        &["dead", "resend", "0-a-1"],
+        &["dead-letters", "resend", "0-a-1"],
     ] {
-        refused(&[words, &["--operate", &address]].concat(), 1, &address);
+        refused(&[words, &["--admin", &address]].concat(), 1, &address);
     }
     refused(&["check", data], 1, "no folder of totxegun");
     refused(&["totals", "--sink", "http://h/"], 1, "SQLite");
@@ -290,7 +299,7 @@ fn what_is_not_possible_has_status_1_and_is_named() {
 fn an_option_may_come_by_the_environment() {
     let mut command = Command::new(env!("CARGO_BIN_EXE_totxegun"));
     let output =
-        command.arg("serve").env("TOTXEGUN_DATA", "d").env("TOTXEGUN_MOST_SERIES", "none").output().unwrap();
+        command.arg("serve").env("TOTXEGUN_DATA", "d").env("TOTXEGUN_MAX_SERIES", "none").output().unwrap();
     let text = String::from_utf8_lossy(&output.stderr).into_owned();
-    assert!(output.status.code() == Some(2) && text.contains("--most-series"), "{text}");
+    assert!(output.status.code() == Some(2) && text.contains("--max-series"), "{text}");
 }

@@ -7,7 +7,7 @@ use super::totxegun;
 fn a_file_of_more_than_a_token_is_refused_without_showing_it() {
     let at = tempfile::tempdir().unwrap();
     let file = at.path().join("token");
-    let words = ["flush", "--operate", "127.0.0.1:1", "--token", file.to_str().unwrap()];
+    let words = ["flush", "--admin", "127.0.0.1:1", "--token", file.to_str().unwrap()];
     for text in ["the token of ann, which nothing shows again:\ns3cret\n", "s3cret s3cret", " \n"] {
         std::fs::write(&file, text).unwrap();
         let output = totxegun(&words);
@@ -20,5 +20,5 @@ fn a_file_of_more_than_a_token_is_refused_without_showing_it() {
 #[test]
 fn a_token_is_also_an_operators() {
     let help = String::from_utf8(totxegun(&["token", "--help"]).stdout).unwrap();
-    assert!(help.contains("--tokens") && help.contains("--operate-tokens"), "{help}");
+    assert!(help.contains("--tokens") && help.contains("--admin-tokens"), "{help}");
 }

@@ -127,7 +127,7 @@ async fn what_is_over_the_bytes_of_all_posts_is_refused_for_good() {
     for length in [200, 900] {
         let answer = served.ask(&json(&vec![b' '; length])).await;
         assert_eq!(answer.status, 413);
-        assert!(answer.message().contains("--most-bytes"), "{}", answer.message());
+        assert!(answer.message().contains("--max-bytes"), "{}", answer.message());
     }
 }
 

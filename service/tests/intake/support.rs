@@ -67,8 +67,8 @@ impl Served {
         Served::with(Outcome::taken(0), 64 << 20, 8).await
     }
 
-    pub async fn with(outcome: Outcome, most_bytes: usize, connections: usize) -> Served {
-        Served::within(PATIENCE, outcome, most_bytes, connections).await
+    pub async fn with(outcome: Outcome, max_bytes: usize, connections: usize) -> Served {
+        Served::within(PATIENCE, outcome, max_bytes, connections).await
     }
 
     /// Who is slower than `LATE` is not waited for.
@@ -79,15 +79,15 @@ impl Served {
     pub async fn within(
         patience: Duration,
         outcome: Outcome,
-        most_bytes: usize,
+        max_bytes: usize,
         connections: usize,
     ) -> Served {
         let limits = Limits { connections, head: patience, idle: 3 * patience };
-        Served::limited(limits, patience, outcome, most_bytes).await
+        Served::limited(limits, patience, outcome, max_bytes).await
     }
 
-    pub async fn limited(limits: Limits, patience: Duration, outcome: Outcome, most_bytes: usize) -> Served {
-        Served::all(Door::default(), limits, patience, outcome, most_bytes).await
+    pub async fn limited(limits: Limits, patience: Duration, outcome: Outcome, max_bytes: usize) -> Served {
+        Served::all(Door::default(), limits, patience, outcome, max_bytes).await
     }
 
     /// With TLS and names.
@@ -105,12 +105,12 @@ impl Served {
         limits: Limits,
         patience: Duration,
         outcome: Outcome,
-        most_bytes: usize,
+        max_bytes: usize,
     ) -> Served {
         let kept = Arc::new(Kept { posts: Mutex::new(Vec::new()), turned: Mutex::new(Vec::new()), outcome });
         let metrics = Arc::new(Metrics::new().unwrap());
-        let budget = Budget::new(most_bytes);
-        let slots = Slots::one(kept.clone());
+        let budget = Budget::new(max_bytes);
+        let slots = Slots::one(Some(kept.clone()));
         let reading = Arc::new(Reading::default());
         let intake =
             Intake::of(slots, kept.clone(), reading, budget.clone(), metrics.clone()).with_patience(patience);

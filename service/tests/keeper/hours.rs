@@ -139,8 +139,8 @@ async fn a_point_of_a_clock_ahead_is_left_out() {
     const SECOND: u64 = 1_000_000_000;
     const YEAR: u64 = 365 * 24 * HOUR;
     let mut place = Place::new();
-    place.clock.most_ahead = Some(Duration::from_secs(600));
-    place.clock.most_behind = Some(Duration::from_secs(86_400));
+    place.clock.max_ahead = Some(Duration::from_secs(600));
+    place.clock.max_age = Some(Duration::from_secs(86_400));
     let reading = Arc::new(Reading::default());
     let since = SystemTime::now().duration_since(UNIX_EPOCH).unwrap();
     // Within an hour.
@@ -168,9 +168,9 @@ async fn a_point_of_a_clock_ahead_is_left_out() {
     assert!(parts[0].1.message.starts_with("other writer: point 2: `a` {} "), "{refused:?}");
     run.abort().await;
     // A replay looks at no clock.
-    place.clock.most_behind = Some(Duration::from_nanos(1));
+    place.clock.max_age = Some(Duration::from_nanos(1));
     let run = place.run().await;
-    place.clock.most_behind = None;
+    place.clock.max_age = None;
     let taken = run.stop().await;
     assert_eq!(sums(&taken), [("a", 10), ("b", 5), ("c", 10), ("d", 5)]);
     let run = place.run().await;

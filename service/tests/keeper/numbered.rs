@@ -144,7 +144,7 @@ async fn what_was_taken_in_both_encodings_is_forwarded_once() {
             model.change_quarantine(&run, sender).await;
         }
         assert!((6..34).contains(&model.in_protobuf), "seed {seed}: {}", model.in_protobuf);
-        for kind in ["reading", "replay", "owner"] {
+        for kind in ["replay", "owner"] {
             assert_eq!(run.metrics.faults.with_label_values(&[kind]).get(), 0, "{kind}");
         }
         let taken = run.stop().await;

@@ -45,12 +45,12 @@ async fn repeats_are_answered_as_the_first_time_over_restarts() {
     assert_eq!(run.checkpoint().await, 1);
     assert_eq!(run.post("A", point("b", 10, 20, 6)).await, all());
     run.abort().await;
-    place.most_series = 1;
+    place.max_series = 1;
     let run = place.run().await;
     repeated(&run, "a kill").await;
     assert_eq!(run.post("A", point("b", 20, 30, 7)).await, all());
     run.abort().await;
-    place.most_series = 250_000;
+    place.max_series = 250_000;
     let run = place.run().await;
     repeated(&run, "another kill").await;
     assert_eq!(run.checkpoint().await, 1);
@@ -120,7 +120,7 @@ async fn foreign_points_are_counted_and_compared() {
 }
 
 fn has_no_fault(run: &Run) {
-    for kind in ["reading", "replay", "owner"] {
+    for kind in ["replay", "owner"] {
         assert_eq!(run.metrics.faults.with_label_values(&[kind]).get(), 0, "{kind}");
     }
 }
@@ -228,7 +228,7 @@ fn many(prefix: &str, series: usize, start: u64) -> Bytes {
 #[tokio::test(flavor = "multi_thread")]
 async fn many_series_are_flushed_and_primed() {
     let mut place = Place::new();
-    place.most_series = 24_000;
+    place.max_series = 24_000;
     let run = place.run().await;
     for part in ["Aa", "Ab", "Ac", "Ba", "Bb", "Bc"] {
         assert_eq!(run.post(&part[..1], many(part, 2_000, 10)).await, all());

@@ -23,14 +23,14 @@ const PATIENCE: Duration = Duration::from_secs(120);
 pub struct Place {
     folder: Option<tempfile::TempDir>,
     /// How many fit: it may be others at each start.
-    pub most_series: usize,
+    pub max_series: usize,
     /// How far from the service's clock points may end.
     pub clock: Clock,
 }
 
 impl Place {
     pub fn new() -> Place {
-        Place { folder: Some(tempfile::tempdir().unwrap()), most_series: 100_000, clock: Clock::default() }
+        Place { folder: Some(tempfile::tempdir().unwrap()), max_series: 100_000, clock: Clock::default() }
     }
 
     pub fn data(&self) -> PathBuf {
@@ -51,7 +51,7 @@ impl Place {
         let folder = Folder::open(&self.data(), Durability::Process).unwrap();
         let (journal, outbox) = folder.slot().unwrap();
         let (outbox, metrics) = (Arc::new(outbox), Arc::new(Metrics::new().unwrap()));
-        let core = Core::new(self.most_series).unwrap();
+        let core = Core::new(self.max_series).unwrap();
         let shared = Shared::new(metrics.clone(), self.clock);
         let priming = Priming::begin(&core, &outbox, journal.size().1.is_some());
         let slot = Slot::of(None, 0, journal, outbox.clone(), core, &shared);

@@ -7,7 +7,7 @@ use crate::points::{Random, HOUR};
 use crate::server::{sum, Server};
 use crate::taken;
 use totxegun::otlp::series::{forwarded, SeriesKey};
-use totxegun::sinks::periods::{Adjustment, Deed, Which};
+use totxegun::sinks::periods::{Adjustment, Deed, Told, Which};
 use totxegun::sinks::sql::totals::SeriesTotal;
 use totxegun::sinks::Sink;
 
@@ -81,5 +81,21 @@ async fn a_series_is_adjusted_by_its_identity() {
         let query = "select HOUR(hour)/H, points, total, corrections, billed from t.by_hour order by 1";
         let wanted = format!("{}|0|0|-4|-4\n{hour}|1|5|0|5", hour - 3);
         assert_eq!(database.ask(query), wanted);
+    }
+}
+
+/// Else nobody would look whether that hour is deleted, or how much was adjusted so far.
+#[tokio::test(flavor = "multi_thread")]
+async fn nothing_is_adjusted_where_the_horizon_is_gone() {
+    let server = Server::start();
+    for database in both(&server) {
+        let sink = open(&database.address());
+        let hour = now() - 30;
+        taken(&*sink, 1, sum("a", hour * HOUR, hour * HOUR + 1, 5)).await;
+        database.ask("delete from t.horizon");
+        let told = sink.settle("alice", &Deed::Adjust(by_hand(Which::Number(1), hour, -2, "x"))).await;
+        let named = "the table `horizon` has no row";
+        assert!(matches!(&told, Told::Later(why) if why.contains(named)), "{told:?}");
+        assert_eq!(database.ask("select count(*) from t.corrections"), "0");
     }
 }

@@ -2,7 +2,8 @@
 
 use crate::server::{histogram, sum, sum_named, Server};
 use crate::{open, taken};
-use totxegun::sinks::postgres::{by_hour, totals};
+use tokio::task::block_in_place;
+use totxegun::sinks::sql::reading::{hours, totals};
 use totxegun::sinks::Address;
 
 /// In the place of the view: each series has its total in the hour 5, and 1 in the one before.
@@ -19,19 +20,18 @@ async fn the_hours_of_one_series_are_read() {
     taken(&*sink, 2, sum_named("a\\u0000", "x", 1, 2, 4)).await;
     taken(&*sink, 3, sum_named("a\u{fffd}", "x", 1, 2, 8)).await;
     taken(&*sink, 4, histogram("h", 1, 2, Some(u64::MAX), [u64::MAX, 0, 1])).await;
-    let Ok(Address::Postgres(place)) = address.parse() else { panic!("{address}") };
-    let all = totals::read(&place).await.unwrap();
+    let place: Address = address.parse().unwrap();
+    let hours = |series, from| block_in_place(|| hours(&place, &series, from)).unwrap();
+    let all = block_in_place(|| totals(&place)).unwrap();
     assert_eq!(all.len(), 4);
     server.run_file("postgres", VIEW);
     for series in &all {
         let count = series.histogram.as_ref().map(|histogram| histogram.count.0);
-        let hours = by_hour::read(&place, series, 0).await.unwrap().unwrap();
+        let found_hours = hours(series.digest, 0).unwrap();
         let found: Vec<_> =
-            hours.iter().map(|it| (it.hour, it.total.0, it.count.map(|count| count.0))).collect();
+            found_hours.iter().map(|it| (it.hour, it.total.0, it.count.map(|count| count.0))).collect();
         assert_eq!(found, [(4, 1, None), (5, series.total.0, count)], "{}", series.name);
-        assert_eq!(by_hour::read(&place, series, 5).await.unwrap().unwrap(), hours[1..]);
+        assert_eq!(hours(series.digest, 5).unwrap(), found_hours[1..]);
     }
-    let mut other = all[0].clone();
-    other.unit = "By".into();
-    assert_eq!(by_hour::read(&place, &other, 0).await.unwrap(), None);
+    assert_eq!(hours([0; 32], 0), None, "a series that the database does not have");
 }

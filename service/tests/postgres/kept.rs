@@ -4,7 +4,8 @@ use crate::points::HOUR;
 use crate::server::{sum, sums, Server};
 use crate::{open, open_with, refused, taken};
 use std::time::Duration;
-use totxegun::sinks::sql::export::{self, What};
+use totxegun::sinks::sql::export::What;
+use totxegun::sinks::sql::reading;
 use totxegun::sinks::Retention;
 
 const DAY: u64 = 24 * HOUR;
@@ -99,7 +100,7 @@ async fn exported(address: &str, period: &str) -> Result<i64, String> {
     let (address, what) = (address.parse().unwrap(), What::Of(period.parse().unwrap()));
     let read = move || {
         let mut points = 0;
-        let read = export::read(&address, &what, &mut |line| {
+        let read = reading::read(&address, &what, &mut |line| {
             points += line.points;
             Ok(())
         });

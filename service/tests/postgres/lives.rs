@@ -5,7 +5,8 @@ use super::model::{both, Database};
 use super::rewind::rewind;
 use super::server::{sum, sums, Server};
 use super::{open, refused, request, taken};
-use totxegun::sinks::sql::export::{read, What};
+use totxegun::sinks::sql::export::What;
+use totxegun::sinks::sql::reading::read;
 use totxegun::sinks::{Fate, Forwarded, Sink};
 
 fn of(epoch: &str, number: u64, body: String) -> Forwarded {

@@ -1,8 +1,9 @@
 //! Who posts each series, as the database has it.
 
+use super::kept::until;
 use super::model::both;
 use super::rewind::key;
-use super::server::{sum, sums, Server};
+use super::server::{sum, sum_named, sums, Server};
 use super::{open, request, taken};
 use std::collections::HashMap;
 use std::sync::Arc;
@@ -41,4 +42,35 @@ async fn each_series_has_its_sender() {
         assert_eq!(sink.deliver_of(&again, None).await, Fate::Taken);
         assert_eq!(senders(), "a|ann\nb|bob\nc|cy\nearly|eve");
     }
+}
+
+/// Who waits for a series that another makes has locked none that is there: who makes it may want that one next.
+#[tokio::test(flavor = "multi_thread")]
+async fn senders_are_written_down_behind_new_series() {
+    let Some(server) = Server::start() else { return };
+    let address = server.by_socket("postgres");
+    let (one, other) = (open(&address), open(&address));
+    taken(&*one, 1, sum("a", 100, 200, 1)).await;
+    taken(&*one, 2, sum_named("m", "x", 100, 200, 1)).await;
+    let names =
+        Arc::new(Names([("a", "ann"), ("m", "mia")].map(|(of, name)| (key(of).digest(), name)).into()));
+    one.owners().expect("a database has them").put(0, &names);
+    // Somebody has the hour of a metric, for which a request waits with its series made.
+    let _held = server.hold("begin; select from totxegun.metric_hour for update; select pg_sleep(60)");
+    let (sleeping, waiting) = (
+        "from pg_stat_activity where query like '%pg_sleep(60)' and pid <> pg_backend_pid()",
+        "select count(*) from pg_locks where not granted",
+    );
+    until(&server, &format!("select count(*) {sleeping}"), "1").await;
+    let makes = tokio::spawn(async move { other.deliver(&request(3, sum("m", 200, 300, 1))).await });
+    until(&server, waiting, "1").await;
+    let both = request(4, sums(&[("a", 300, 400, 1), ("m", 300, 400, 1)]));
+    let waits = tokio::spawn(async move { one.deliver(&both).await });
+    until(&server, waiting, "2").await;
+    server.ask("set lock_timeout = '1s'; update totxegun.series set sender = sender where name = 'a'");
+    server.ask(&format!("select pg_terminate_backend(pid) {sleeping}"));
+    assert_eq!(makes.await.expect("it ends"), Fate::Taken);
+    assert_eq!(waits.await.expect("it ends"), Fate::Taken);
+    let senders = "select name, attributes->>'k', sender from totxegun.series order by 1, 2";
+    assert_eq!(server.ask(senders), "a|v|ann\nm|v|mia\nm|x|");
 }

@@ -1,10 +1,14 @@
-//! Who may read the tables, and what these say of themselves.
+//! Who may read the tables, what these say of themselves, and what a reader leaves and is told.
 
 use crate::kept::{now, until};
+use crate::model::both;
 use crate::server::{sum, Server};
 use crate::{open, taken};
 use std::time::Duration;
-use totxegun::sinks::Fate;
+use tokio::task::block_in_place;
+use totxegun::sinks::sql::export::What;
+use totxegun::sinks::sql::reading::{booked, hours, read, totals};
+use totxegun::sinks::{Address, Fate};
 
 #[tokio::test(flavor = "multi_thread")]
 async fn a_role_reads_all_and_writes_nothing() {
@@ -57,4 +61,55 @@ async fn without_a_right_to_make_roles_all_goes_on() {
         tokio::time::sleep(Duration::from_millis(20)).await;
     }
     panic!("the role is not let in");
+}
+
+/// Else each page of totals is a line in the server's log, as of a client that crashed.
+#[tokio::test(flavor = "multi_thread")]
+async fn who_reads_leaves_no_transaction_open() {
+    let Some(server) = Server::start() else { return };
+    let address = server.by_socket("postgres");
+    taken(&*open(&address), 1, sum("a", 100, 200, 5)).await;
+    let connections = "select count(*) from pg_stat_activity where application_name = 'totxegun'";
+    until(&server, connections, "0").await;
+    let log = || std::fs::read_to_string(server.folder.path().join("log")).unwrap();
+    let before = log().len();
+    let sink: Address = address.parse().unwrap();
+    block_in_place(|| {
+        assert_eq!(totals(&sink).unwrap().len(), 1);
+        assert_eq!(hours(&sink, &[0; 32], 0).unwrap(), None);
+        assert!(booked(&sink).unwrap().is_empty());
+        read(&sink, &What::Totals, &mut |_| Ok(())).unwrap();
+        read(&sink, &What::Totals, &mut |_| anyhow::bail!("no more is wanted")).unwrap_err();
+    });
+    until(&server, connections, "0").await;
+    assert_eq!(&log()[before..], "");
+}
+
+/// An operator may read several.
+#[tokio::test(flavor = "multi_thread")]
+async fn what_is_odd_in_a_database_says_in_which() {
+    let server = Server::start();
+    for database in both(&server) {
+        let sink: Address = database.address().parse().unwrap();
+        taken(&*open(&database.address()), 1, sum("a", 100, 200, 5)).await;
+        let place = match &sink {
+            Address::Sqlite(path) => path.display().to_string(),
+            Address::Postgres(server) => server.to_string(),
+            other => panic!("{other:?}"),
+        };
+        let says = |error: anyhow::Error, what: &str| {
+            let error = error.to_string();
+            assert!(error.starts_with(&format!("{place}: ")) && error.contains(what), "{error}");
+        };
+        let month = || What::Of("1970-01".parse().unwrap());
+        let asked = |what: What| block_in_place(|| read(&sink, &what, &mut |_| Ok(())));
+        asked(month()).unwrap();
+        database.ask("update t.series set identity = '[]'");
+        says(block_in_place(|| totals(&sink)).unwrap_err(), "is not as it was written");
+        says(asked(What::Totals).unwrap_err(), "is not as it was written");
+        database.ask("update t.horizon set hours_from = 1000");
+        says(asked(month()).unwrap_err(), "were deleted");
+        database.ask("delete from t.horizon");
+        says(asked(month()).unwrap_err(), "horizon");
+    }
 }

@@ -1,4 +1,4 @@
-//! What begins where `totxegun repair` has put a series back, although the sink has what a wrong clock has put ahead.
+//! What begins where `totxegun rewind` has put a series back, although the sink has what a wrong clock has put ahead.
 
 use super::model::both;
 use super::server::{histogram, sum, Server};

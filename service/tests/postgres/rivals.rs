@@ -1,7 +1,7 @@
 //! Several services write the same series of one database; and what others do to its tables.
 
 use crate::server::{sum, sums, Server};
-use crate::{again, open, refused, request, taken};
+use crate::{open, refused, request, taken};
 use std::collections::BTreeSet;
 use std::time::Duration;
 use totxegun::sinks::Fate;
@@ -152,7 +152,6 @@ async fn series_that_are_gone_are_made_anew() {
     let sink = open(&server.by_socket("postgres"));
     taken(&*sink, 1, sum("a", 1, 2, 1)).await;
     server.ask("truncate totxegun.series, totxegun.series_total, totxegun.interval_row");
-    again(&*sink, 2, sum("a", 2, 3, 2), "is gone").await;
     taken(&*sink, 2, sum("a", 2, 3, 2)).await;
     assert_eq!(server.ask("select points, total from totxegun.totals"), "1|2");
 }

@@ -19,9 +19,9 @@ fn who_did_what_and_what_came_of_it() {
     for (path, status) in [
         ("/flush", 200),
         ("/quarantine/A", 200),
-        ("/lift/A", 200),
-        ("/lift/A", 400),
-        ("/lift/B", 200),
+        ("/release/A", 200),
+        ("/release/A", 400),
+        ("/release/B", 200),
         ("/dead/0-a-1/drop", 404),
         ("/dead/0-a-1/resend", 404),
     ] {
@@ -36,11 +36,11 @@ fn who_did_what_and_what_came_of_it() {
         "404: no such request: it was never put aside, or is gone, taken by the sink or thrown away";
     let told: [[serde_json::Value; 3]; 6] = [
         ["quarantine".into(), "A".into(), "done".into()],
-        ["lift".into(), "A".into(), "done".into()],
-        ["lift".into(), "A".into(), "400: not quarantined".into()],
-        ["lift".into(), "B".into(), "done: nothing of B is known yet: it is not quarantined".into()],
-        ["dead drop".into(), "0-a-1".into(), no_such.into()],
-        ["dead resend".into(), "0-a-1".into(), no_such.into()],
+        ["release".into(), "A".into(), "done".into()],
+        ["release".into(), "A".into(), "400: not quarantined".into()],
+        ["release".into(), "B".into(), "done: nothing of B is known yet: it is not quarantined".into()],
+        ["dead-letters drop".into(), "0-a-1".into(), no_such.into()],
+        ["dead-letters resend".into(), "0-a-1".into(), no_such.into()],
     ];
     for [act, of, outcome] in &told {
         wanted.extend([(act, of, None), (act, of, Some(outcome))]);
@@ -56,13 +56,13 @@ fn who_did_what_and_what_came_of_it() {
 fn a_close_is_recorded_with_the_option_that_was_given() {
     let place = Place::new();
     let service = place.serve();
-    for (month, option) in [("1970-01", "--flush"), ("1970-02", "--anyway")] {
+    for (month, option) in [("1970-01", "--flush"), ("1970-02", "--force")] {
         let said = service.said(&["close", month, option]);
         assert!(said.contains("is closed"), "{said}");
     }
     let text = std::fs::read_to_string(place.data().join("acts.jsonl")).unwrap();
     let acts = text.lines().map(|line| serde_json::from_str::<serde_json::Value>(line).unwrap());
     let given: Vec<_> = acts.map(|act| format!("{} {}", act["of"], act["given"])).collect();
-    let both = [r#""1970-01" ["--flush"]"#, r#""1970-02" ["--anyway"]"#];
+    let both = [r#""1970-01" ["--flush"]"#, r#""1970-02" ["--force"]"#];
     assert_eq!(given, both.map(|one| [one; 2]).concat());
 }

@@ -32,7 +32,7 @@ fn acts(place: &Place) -> Vec<String> {
 fn a_series_is_put_back_and_what_the_sink_has_of_it_is_told() {
     let place = Place::new();
     let sink = place.sink();
-    let mut service = place.serve_with(&["--sink", &sink, "--most-ahead", "off"]);
+    let mut service = place.serve_with(&["--sink", &sink, "--max-ahead", "off"]);
     let ahead = now() + YEAR;
     assert_eq!(service.post("A", &points(&["a", "b"], ahead, 5)).unwrap().0, 200);
     service.drain();
@@ -41,21 +41,21 @@ fn a_series_is_put_back_and_what_the_sink_has_of_it_is_told() {
     let (status, why) = service.post("A", &right).unwrap();
     assert!(status == 400 && why.contains("out of order"), "{why}");
     for (words, part) in [
-        (&["repair", "c", "--to", "2026-11-27"][..], "no series is named c"),
-        (&["repair", "a{host=x}", "--to", "2026-11-27"], "no series is named"),
-        (&["repair", "a", "--to", "2100-01-01"], "after the service's clock"),
+        (&["rewind", "c", "--to", "2026-11-27"][..], "no series is named c"),
+        (&["rewind", "a{host=x}", "--to", "2026-11-27"], "no series is named"),
+        (&["rewind", "a", "--to", "2100-01-01"], "after the service's clock"),
     ] {
         let said = service.said(words);
         assert!(said.contains(part), "{said}");
     }
-    let said = service.said(&["repair", "a", "--to", "2026-01-01T00:00:00"]);
+    let said = service.said(&["rewind", "a", "--to", "2026-01-01T00:00:00"]);
     assert!(said.contains("done: 1 series ends at 2026-01-01 00:00:00 now"), "{said}");
     assert!(said.contains("; the sink has of it from that hour on 5 in "), "{said}");
     assert_eq!(service.post("A", &right).unwrap().0, 200);
     // Another that ended ahead is as it was; and so is what was put back, over a kill.
     assert_eq!(service.post("A", &points(&["b"], begun, 1)).unwrap().0, 400);
     service.kill();
-    let service = place.serve_with(&["--sink", &sink, "--most-ahead", "off"]);
+    let service = place.serve_with(&["--sink", &sink, "--max-ahead", "off"]);
     let line = "1 series end over an hour ahead of this clock, such as ";
     until("the log says so", || place.log().contains(line));
     assert_eq!(service.post("A", &right).unwrap(), (200, "{}".into()), "it was taken");
@@ -72,10 +72,10 @@ fn a_series_is_put_back_and_what_the_sink_has_of_it_is_told() {
     assert_eq!(place.totals().values().sum::<i64>(), 5 + 1 + 2 + 5 + 1);
     service.has_no_fault();
     let wanted = [
-        "repair c to 2026-11-27 00:00:00",
-        "repair a{host=x} to 2026-11-27 00:00:00",
-        "repair a to 2100-01-01 00:00:00",
-        "repair a to 2026-01-01 00:00:00",
+        "rewind c to 2026-11-27 00:00:00",
+        "rewind a{host=x} to 2026-11-27 00:00:00",
+        "rewind a to 2100-01-01 00:00:00",
+        "rewind a to 2026-01-01 00:00:00",
         "forget b",
         "forget b{host=x}",
     ];
@@ -87,12 +87,12 @@ fn a_series_is_put_back_and_what_the_sink_has_of_it_is_told() {
 #[test]
 fn a_sink_that_can_t_tell_a_repeat_wants_it_said() {
     let place = Place::new();
-    let service = place.serve_with(&["--sink", crate::support::NO_SINK, "--most-ahead", "off"]);
+    let service = place.serve_with(&["--sink", crate::support::NO_SINK, "--max-ahead", "off"]);
     assert_eq!(service.post("A", &points(&["a"], now() + YEAR, 5)).unwrap().0, 200);
-    let words = ["repair", "a", "--to", "2026-01-01"];
+    let words = ["rewind", "a", "--to", "2026-01-01"];
     let said = service.said(&words);
-    assert!(said.contains("give --anyway"), "{said}");
-    let said = service.said(&[&words[..], &["--anyway"]].concat());
+    assert!(said.contains("give --force"), "{said}");
+    let said = service.said(&[&words[..], &["--force"]].concat());
     assert!(said.contains("what is posted again of that time counts twice"), "{said}");
     assert_eq!(service.post("A", &points(&["a"], now(), 1)).unwrap().0, 200);
     assert_eq!(service.end(), Some(0));
@@ -105,7 +105,7 @@ fn what_comes_behind_a_repair_is_counted_once_over_kills() {
     let sink = place.sink();
     let begin = now() / SECOND * SECOND - 1000 * SECOND;
     let to = utc(begin);
-    let mut service = place.serve_with(&["--sink", &sink, "--most-ahead", "off"]);
+    let mut service = place.serve_with(&["--sink", &sink, "--max-ahead", "off"]);
     for round in 0..20 {
         let name = &*format!("a{round}");
         for step in 1..4 {
@@ -114,7 +114,7 @@ fn what_comes_behind_a_repair_is_counted_once_over_kills() {
         }
         service.drain();
         // It may be killed before, within, or after it.
-        let repair = &["repair", name, "--to", &to];
+        let repair = &["rewind", name, "--to", &to];
         std::thread::scope(|scope| {
             let asked = scope.spawn(|| service.said(repair));
             std::thread::sleep(Duration::from_millis(3 * round));
@@ -122,7 +122,7 @@ fn what_comes_behind_a_repair_is_counted_once_over_kills() {
             asked.join().unwrap();
         });
         service.kill();
-        service = place.serve_with(&["--sink", &sink, "--most-ahead", "off"]);
+        service = place.serve_with(&["--sink", &sink, "--max-ahead", "off"]);
         let said = service.said(repair);
         assert!(said.contains("1 series ends at") || said.contains("nothing to put back"), "{said}");
         for step in 1..=40 {
@@ -133,7 +133,7 @@ fn what_comes_behind_a_repair_is_counted_once_over_kills() {
             }
             if step == 20 {
                 service.kill();
-                service = place.serve_with(&["--sink", &sink, "--most-ahead", "off"]);
+                service = place.serve_with(&["--sink", &sink, "--max-ahead", "off"]);
             }
         }
         service.drain();
@@ -148,7 +148,7 @@ fn what_comes_behind_a_repair_is_counted_once_over_kills() {
 #[test]
 fn a_cumulative_run_goes_on_behind_a_repair() {
     let place = Place::new();
-    let service = place.serve_with(&["--sink", &place.sink(), "--most-ahead", "off", "--first", "count"]);
+    let service = place.serve_with(&["--sink", &place.sink(), "--max-ahead", "off", "--first", "count"]);
     let begin = now() / SECOND * SECOND - 1000 * SECOND;
     let point = |time: u64, value: i64| {
         let sum = "\"aggregationTemporality\":2,\"isMonotonic\":true";
@@ -162,7 +162,7 @@ fn a_cumulative_run_goes_on_behind_a_repair() {
         assert_eq!(service.post("A", &point(time, value)).unwrap().0, 200);
         service.drain();
     }
-    let said = service.said(&["repair", "c", "--to", &utc(begin + 10 * SECOND)]);
+    let said = service.said(&["rewind", "c", "--to", &utc(begin + 10 * SECOND)]);
     assert!(said.contains("1 series ends at"), "{said}");
     for step in 1..=60 {
         assert_eq!(service.post("A", &point(10 + 10 * step, 8 + step as i64)).unwrap().0, 200);

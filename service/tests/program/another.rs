@@ -22,3 +22,21 @@ fn a_lost_setting_delivers_nothing_into_another_sink() {
     assert_eq!(place.totals(), [("a".to_string(), 5)].into());
     assert_eq!(place.serve().end(), Some(0));
 }
+
+/// Else the next start, without the option, finds another sink than the folder has.
+#[test]
+fn a_start_that_fails_for_its_journal_leaves_the_sink_as_it_was() {
+    let place = Place::new();
+    let mut service = place.serve_with(&["--flush-interval", "1h", "--sink", NO_SINK]);
+    assert_eq!(service.post("A", &points(&["a"], 100, 5)).unwrap().0, 200);
+    service.kill();
+    let version = || std::fs::read_to_string(place.data().join("version")).unwrap();
+    let before = version();
+    for segment in std::fs::read_dir(place.data().join("slot-0/journal")).unwrap() {
+        std::fs::remove_file(segment.unwrap().path()).unwrap();
+    }
+    assert_eq!(place.begin(&["--new-sink", "--sink", &place.sink()]).status_of_end(), Some(70));
+    assert_eq!(version(), before);
+    assert!(!place.folder.path().join("sink.db").exists());
+    assert!(!place.log().contains("--new-sink: from here on"));
+}

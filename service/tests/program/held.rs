@@ -54,11 +54,11 @@ fn held(service: &Service) -> (u64, u64, u64) {
 fn a_period_is_not_closed_while_what_was_released_waits_for_a_flush() {
     let place = Place::new();
     let sink = place.sink();
-    let words = ["--flush-every", "1h", "--sink", &sink];
+    let words = ["--flush-interval", "1h", "--sink", &sink];
     let mut service = place.serve_with(&words);
     assert_eq!(service.post("A", &points(&["a"], 100, 5)).unwrap(), (200, "{}".into()));
     // Of B, which stays quarantined, nothing is held.
-    for order in ["/quarantine/A", "/quarantine/B", "/flush", "/lift/A"] {
+    for order in ["/quarantine/A", "/quarantine/B", "/flush", "/release/A"] {
         assert_eq!(service.order(order).0, 200, "{order}");
     }
     let close = "/close/1970-01";
@@ -82,7 +82,7 @@ fn a_period_is_not_closed_while_what_was_released_waits_for_a_flush() {
 fn posts_of_a_quarantined_sender_cost_a_checkpoint_nothing_and_come_out_whole() {
     let place = Place::new();
     let sink = place.sink();
-    let words = ["--flush-every", "1h", "--sink", &sink];
+    let words = ["--flush-interval", "1h", "--sink", &sink];
     let mut service = place.serve_with(&words);
     for number in 0..POSTS {
         assert_eq!(service.post("A", &many_points(number)).unwrap(), (200, "{}".into()));
@@ -116,7 +116,7 @@ fn posts_of_a_quarantined_sender_cost_a_checkpoint_nothing_and_come_out_whole() 
     let service = place.serve_with(&words);
     assert_eq!(held(&service), (1, POSTS, bytes));
     assert_eq!(service.post("A", &points(&["a"], 9_000_000, 1)).unwrap().0, 403);
-    assert_eq!(service.order("/lift/A").0, 200);
+    assert_eq!(service.order("/release/A").0, 200);
     service.drain();
     assert_eq!(held(&service), (0, 0, 0));
     assert!(!place.data().join("slot-0/journal/A.held").exists());

@@ -95,7 +95,7 @@ fn late_data_that_can_t_be_written_ends_nothing() {
 fn late_data_is_booked_once() {
     let place = Place::new();
     let sink = place.sink();
-    let service = place.serve_with(&["--sink", &sink, "--flush-every", "1h"]);
+    let service = place.serve_with(&["--sink", &sink, "--flush-interval", "1h"]);
     let hour = 3_600_000_000_000;
     assert_eq!(service.post("shop", &points(&["a", "b"], 5 * hour, 5)).unwrap().0, 200);
     assert_eq!(service.post("shop", &points(&["a"], 2 * hour + 50, 7)).unwrap().0, 400);

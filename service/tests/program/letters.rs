@@ -104,7 +104,7 @@ fn a_letter_that_is_being_delivered_is_not_sent_meanwhile() {
     let key = delivered.key.clone();
     put_letter(&place, &key, &delivered.body);
     std::thread::scope(|scope| {
-        let resent = scope.spawn(|| service.said(&["dead", "resend", &key]));
+        let resent = scope.spawn(|| service.said(&["dead-letters", "resend", &key]));
         for _ in 0..20 {
             std::thread::sleep(Duration::from_millis(50));
             assert!(!sink.is_asked(), "one key was sent twice at once");
@@ -113,14 +113,14 @@ fn a_letter_that_is_being_delivered_is_not_sent_meanwhile() {
         assert_eq!(sink.next().answer("200 OK"), key);
         assert_eq!(resent.join().unwrap(), format!("done: the sink has {key}\n"));
     });
-    assert_eq!(service.said(&["dead", "list"]), "the sink has refused nothing for good\n");
+    assert_eq!(service.said(&["dead-letters", "list"]), "the sink has refused nothing for good\n");
 }
 
 #[test]
 fn all_letters_are_sent_until_the_sink_fails() {
     let (place, sink) = (Place::new(), Sink::new());
     let service = service(&place, &sink);
-    let resend = ["dead", "resend", "--all"];
+    let resend = ["dead-letters", "resend", "--all"];
     assert_eq!(service.said(&resend), "the sink has refused nothing for good\n");
     let keys = ["0-a-1", "0-a-2", "0-a-3"];
     for key in keys.iter().chain(&["0-a-4-partial"]) {
@@ -146,7 +146,7 @@ fn all_letters_are_sent_until_the_sink_fails() {
         sink.answers(1, &[]);
         assert_eq!(said.join().unwrap(), "done: the sink has taken 1 request\n");
     });
-    assert!(service.said(&["dead", "list"]).contains("0-a-4-partial"));
+    assert!(service.said(&["dead-letters", "list"]).contains("0-a-4-partial"));
 }
 
 /// It shows none, so that nobody takes some for all.
@@ -155,10 +155,13 @@ fn the_page_says_how_many_letters_there_are() {
     let (place, sink) = (Place::new(), Sink::new());
     let service = service(&place, &sink);
     (0..60).for_each(|number| put_letter(&place, &format!("0-a-{number}"), b"{}"));
-    assert!(service.said(&["dead", "list"]).contains("0-a-59"));
+    assert!(service.said(&["dead-letters", "list"]).contains("0-a-59"));
     let (status, page) = service.at_socket("GET", "/").unwrap();
     assert_eq!((status, page.matches("0-a-").count()), (200, 0), "{page}");
-    assert!(page.contains("60 requests that the sink refused for good: `totxegun dead list`"), "{page}");
+    assert!(
+        page.contains("60 requests that the sink refused for good: `totxegun dead-letters list`"),
+        "{page}"
+    );
 }
 
 /// Else nothing behind it comes to the sink.
@@ -173,7 +176,7 @@ fn of_all_letters_those_that_can_t_be_sent_are_named_and_the_others_are_sent() {
     std::fs::write(&damaged, "{}").unwrap();
     std::fs::File::open(&damaged).unwrap().set_modified(std::time::UNIX_EPOCH).unwrap();
     std::thread::scope(|scope| {
-        let resent = scope.spawn(|| service.ended_by(&["dead", "resend", "--all"]));
+        let resent = scope.spawn(|| service.ended_by(&["dead-letters", "resend", "--all"]));
         let keys = sink.answers(3, &["200 OK", "400 Bad Request"]);
         assert_eq!(keys, ["0-a-2", "0-a-3", "0-a-4"]);
         let (status, said) = resent.join().unwrap();
@@ -189,7 +192,7 @@ fn of_all_letters_those_that_can_t_be_sent_are_named_and_the_others_are_sent() {
     });
     std::fs::remove_file(damaged).unwrap();
     std::thread::scope(|scope| {
-        let resent = scope.spawn(|| service.ended_by(&["dead", "resend", "--all"]));
+        let resent = scope.spawn(|| service.ended_by(&["dead-letters", "resend", "--all"]));
         sink.answers(1, &[]);
         assert_eq!(resent.join().unwrap(), (Some(0), "done: the sink has taken 1 request\n".to_string()));
     });

@@ -37,9 +37,9 @@ fn owners_and_frontiers_outlive_kills_and_other_numbers_of_books() {
     let place = Place::new();
     let senders: Vec<String> = (0..12).map(|number| format!("s{number}")).collect();
     let runs = ["8000", "100000", "13", "1000000", "20000"];
-    for (run, most_series) in (0..).zip(runs) {
+    for (run, max_series) in (0..).zip(runs) {
         let sink = format!("sqlite:{}", place.folder.path().join("sink.db").display());
-        let mut service = place.serve_with(&["--most-series", most_series, "--sink", &sink]);
+        let mut service = place.serve_with(&["--max-series", max_series, "--sink", &sink]);
         let end = 110 + run * 10;
         for sender in &senders {
             if run > 0 {
@@ -64,7 +64,7 @@ fn owners_and_frontiers_outlive_kills_and_other_numbers_of_books() {
             assert_eq!(service.series(), 12);
         }
         let page = service.metrics();
-        let line = format!("totxegun_series_limit {most_series}");
+        let line = format!("totxegun_series_limit {max_series}");
         assert!(page.lines().any(|it| it == line), "{line} in\n{page}");
         service.has_no_fault();
         // Every other one leaves its posts in the journal alone.
@@ -126,7 +126,7 @@ fn two_senders_at_once_never_share_a_series() {
 #[test]
 fn there_are_no_more_series_than_may_be() {
     let place = Place::new();
-    let service = place.serve_with(&["--sink", &place.sink(), "--most-series", "2000"]);
+    let service = place.serve_with(&["--sink", &place.sink(), "--max-series", "2000"]);
     let names: Vec<String> = (0..2_100).map(|number| format!("n{number}")).collect();
     let names: Vec<&str> = names.iter().map(String::as_str).collect();
     let post = |names: &[&str], end| service.post("A", &points(names, end, 1)).unwrap();
@@ -135,7 +135,7 @@ fn there_are_no_more_series_than_may_be() {
     }
     let refused = post(&names[1_990..2_010], 110);
     assert!(refused.0 == 503 && refused.1.contains("too many series"), "{refused:?}");
-    until("the log says that it is met", || place.log().contains("--most-series is 2000"));
+    until("the log says that it is met", || place.log().contains("--max-series is 2000"));
     for end in [110, 120] {
         assert_eq!(post(&names[..2_000], end).0, 200, "what is there goes on");
         service.drain();
@@ -149,7 +149,7 @@ fn there_are_no_more_series_than_may_be() {
 fn a_service_whose_book_was_full_starts_again_as_it_was() {
     let place = Place::new();
     let sink = place.sink();
-    let words = ["--sink", &sink, "--most-series", "20000", "--book-memory", "64MiB"];
+    let words = ["--sink", &sink, "--max-series", "20000", "--max-memory", "64MiB"];
     let mut service = place.serve_with(&words);
     let long = "x".repeat(400);
     let body = |part: usize, end| {
@@ -196,10 +196,10 @@ fn a_folder_with_more_series_than_fit_is_refused_by_name() {
     }
     assert_eq!(service.order("/flush").0, 200);
     assert_eq!(service.end(), Some(0));
-    let mut small = place.begin(&["--sink", NO_SINK, "--most-series", "8000"]);
+    let mut small = place.begin(&["--sink", NO_SINK, "--max-series", "8000"]);
     assert_eq!(small.status_of_end(), Some(1));
     let log = place.log();
-    assert!(log.contains("too many series") && log.contains("--most-series"), "{log}");
+    assert!(log.contains("too many series") && log.contains("--max-series"), "{log}");
     let service = place.serve_into_another();
     assert_eq!(service.post("A", &points(&names[..1], 110, 1)).unwrap().0, 200);
     service.drain();
@@ -213,7 +213,7 @@ fn a_folder_with_more_series_than_fit_is_refused_by_name() {
 fn a_book_without_memory_takes_no_posts_and_forwards_all_that_it_took() {
     let place = Place::new();
     let sink = format!("sqlite:{}", place.folder.path().join("sink.db").display());
-    let words = ["--sink", &sink, "--most-series", "20000", "--book-memory", "64MiB"];
+    let words = ["--sink", &sink, "--max-series", "20000", "--max-memory", "64MiB"];
     let service = place.serve_with(&words);
     let long = "x".repeat(4_000);
     let mut taken: Vec<String> = Vec::new();

@@ -52,7 +52,7 @@ fn greatest_memory(pid: u32) -> u64 {
 #[test]
 fn series_that_share_a_long_resource_take_little_memory() {
     let place = Place::new();
-    let service = place.serve_with(&["--sink", NO_SINK, "--most-series", "8000"]);
+    let service = place.serve_with(&["--sink", NO_SINK, "--max-series", "8000"]);
     let answer = service.post("A", &many_series()).unwrap();
     assert!(answer.0 == 413 && answer.1.contains("too many series"), "{answer:?}");
     for _ in 0..3 {

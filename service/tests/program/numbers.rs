@@ -19,7 +19,7 @@ fn points_by_number_are_counted_once_over_kills() {
     for run in 0..4 {
         // The first takes no checkpoint: all of its points are in the journal when that is looked at.
         let every = if run == 0 { "1h" } else { "200ms" };
-        let mut service = place.serve_with(&["--sink", &place.sink(), "--flush-every", every]);
+        let mut service = place.serve_with(&["--sink", &place.sink(), "--flush-interval", every]);
         for number in 0..50 {
             let end = 1_000 * (run + 1) + 10 * number;
             if run > 0 && number == 0 {

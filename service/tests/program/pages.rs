@@ -7,7 +7,7 @@ use std::process::Command;
 const GUARDED: [(&str, &str); 10] = [
     ("POST", "/flush"),
     ("POST", "/quarantine/A"),
-    ("POST", "/lift/A"),
+    ("POST", "/release/A"),
     ("POST", "/dead/0-a-1/resend"),
     ("POST", "/dead/0-a-1/drop"),
     ("GET", "/dead"),
@@ -70,7 +70,7 @@ fn programs_ask_as_before() {
     let by_name = format!("Host: localhost:{port}");
     for headers in [&[][..], &[&*by_name], &["Sec-Fetch-Site: none"], &["Host: [::1]"]] {
         for (path, wanted) in
-            [("/flush", 200), ("/quarantine/B", 200), ("/lift/B", 200), ("/dead/0-a-1/drop", 404)]
+            [("/flush", 200), ("/quarantine/B", 200), ("/release/B", 200), ("/dead/0-a-1/drop", 404)]
         {
             let (status, body) = at_socket(&service, "POST", path, headers);
             assert_eq!(status, wanted, "{headers:?}: {path}: {body}");
@@ -98,7 +98,7 @@ fn programs_ask_as_before() {
 #[test]
 fn who_flushes_is_told_what_waits() {
     let place = Place::new();
-    let service = place.serve_with(&["--sink", NO_SINK, "--flush-every", "1h"]);
+    let service = place.serve_with(&["--sink", NO_SINK, "--flush-interval", "1h"]);
     assert_eq!(service.post("A", &points(&["a"], 100, 5)).unwrap().0, 200);
     assert_eq!(service.said(&["flush"]), "done: 1 request went into the outbox\n");
     let said = service.said(&["flush"]);

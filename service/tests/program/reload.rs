@@ -4,6 +4,7 @@ use super::support::*;
 use std::path::Path;
 use std::sync::atomic::{AtomicBool, Ordering::Relaxed};
 use std::thread::JoinHandle;
+use std::time::Duration;
 
 const TIMES: usize = 20;
 
@@ -69,13 +70,41 @@ fn what_needs_a_restart_is_named_and_a_fault_changes_nothing() {
     };
     let answers: Vec<u16> = (0..80).map(many).collect();
     assert!(answers.contains(&429), "{answers:?}");
-    said("thread = 2\n", "no setting `thread`");
+    // What a start would refuse: a setting, a file, or what settings are together.
+    for (fault, wanted) in [
+        ("thread = 2\n", "no setting `thread`"),
+        (
+            "sender-points = 7\ntokens = \"/none\"\n",
+            "can't be used, and stay as they were: --tokens can't be used",
+        ),
+        ("sender-points = 7\n[sink]\ngzip = true\n", "are for a sink of OTLP"),
+    ] {
+        said(fault, wanted);
+    }
+    assert!(service.metrics().contains("totxegun_stale_files{option=\"--config\"} 1"));
     said("threads = 2\nlog-level = \"error\"\n", "SIGHUP: log-level, sender-points changed");
     assert_eq!(many(99), 200);
     let stale = service.metrics();
     assert!(stale.contains("totxegun_stale_files{option=\"--config\"} 0"), "{stale}");
     assert_eq!(service.end(), Some(0));
     assert!(!place.log().contains("ended\n"), "{}", place.log());
+}
+
+/// As a file on a disk that stalls.
+#[test]
+fn settings_that_are_never_read_hold_no_end_up() {
+    let place = Place::new();
+    let path = place.folder.path().join("totxegun.toml");
+    write(&path, "threads = 2\n");
+    let service = place.serve_with(&["--config", path.to_str().unwrap(), "--sink", &place.sink()]);
+    std::fs::remove_file(&path).unwrap();
+    nix::unistd::mkfifo(&path, nix::sys::stat::Mode::from_bits_truncate(0o600)).unwrap();
+    signal(service.pid(), "HUP");
+    std::thread::sleep(Duration::from_millis(500)); // so it is being read
+    assert_eq!(service.post("a", &points(&["a"], 20, 1)).unwrap().0, 200);
+    signal(service.pid(), "TERM");
+    until("it has ended", || place.log().contains("ended\n"));
+    assert_eq!(service.end(), Some(0));
 }
 
 /// It would have ended the service.

@@ -29,7 +29,7 @@ fn posted(service: &Service, body: &str, when: &str) {
 fn a_batch_is_answered_as_the_first_time_after_the_next_one() {
     let place = Place::new();
     let sink = place.sink();
-    let mut service = place.serve_with(&["--sink", &sink, "--most-series", "20000"]);
+    let mut service = place.serve_with(&["--sink", &sink, "--max-series", "20000"]);
     let ends = [100, 110, 120, 130, 140];
     let [first, several, next] = [&ends[..1], &ends[1..4], &ends[4..]];
     posted(&service, &batch(&SERIES, first), "the first");
@@ -40,8 +40,8 @@ fn a_batch_is_answered_as_the_first_time_after_the_next_one() {
         }
         if when.contains("kill") {
             service.kill();
-            let most_series = if when.contains("flush") { "1000000" } else { "8000" };
-            service = place.serve_with(&["--sink", &sink, "--most-series", most_series]);
+            let max_series = if when.contains("flush") { "1000000" } else { "8000" };
+            service = place.serve_with(&["--sink", &sink, "--max-series", max_series]);
         }
         posted(&service, &batch(&SERIES, several), when);
         posted(&service, &batch(&SERIES, first), when);

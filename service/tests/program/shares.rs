@@ -82,7 +82,7 @@ fn a_sender_with_all_of_its_series_gets_no_new_ones() {
 #[test]
 fn series_that_nobody_posts_to_make_room_in_a_share() {
     let place = Place::new();
-    let words = ["--sink", &place.sink(), "--sender-series", "3", "--forget-series", "1s"];
+    let words = ["--sink", &place.sink(), "--sender-series", "3", "--series-ttl", "1s"];
     let service = place.serve_with(&words);
     assert_eq!(service.post("A", &body(&names("a", 3), 100)).unwrap().0, 200);
     let new = || posted(&service, "x-sender: A", &body(&names("b", 1), 100));

@@ -7,7 +7,7 @@ use std::process::{Command, Output};
 
 /// A command as it is given, with a setting as the service may have it.
 fn told(words: &[&str], operate: &str) -> Output {
-    let command = Command::new(PROGRAM).args(words).env("TOTXEGUN_OPERATE", operate).output();
+    let command = Command::new(PROGRAM).args(words).env("TOTXEGUN_ADMIN", operate).output();
     command.unwrap()
 }
 
@@ -28,21 +28,13 @@ fn over_tcp(service: &Service, path: &str, header: &str) -> String {
 }
 
 /// What changes something, or shows bodies.
-const ORDERS: [&str; 8] = [
-    "/flush",
-    "/checkpoint",
-    "/quarantine/A",
-    "/lift/A",
-    "/dead",
-    "/dead/k",
-    "/dead/k/resend",
-    "/dead/k/drop",
-];
+const ORDERS: [&str; 7] =
+    ["/flush", "/quarantine/A", "/release/A", "/dead", "/dead/k", "/dead/k/resend", "/dead/k/drop"];
 
 #[test]
 fn orders_are_taken_at_the_socket_alone() {
     let place = Place::new();
-    let service = place.serve_with(&["--sink", &place.sink(), "--flush-every", "1h"]);
+    let service = place.serve_with(&["--sink", &place.sink(), "--flush-interval", "1h"]);
     let socket = service.socket();
     assert_eq!(std::fs::metadata(&socket).unwrap().mode() & 0o777, 0o660);
     assert_eq!(service.post("A", &points(&["a"], 100, 1)).unwrap().0, 200);
@@ -57,9 +49,9 @@ fn orders_are_taken_at_the_socket_alone() {
     }
     for (words, said) in [
         (&["quarantine", "A"][..], "done"),
-        (&["lift", "A"], "done"),
+        (&["release", "A"], "done"),
         (&["flush"], "done: 1 request went into the outbox"),
-        (&["dead", "list"], ""),
+        (&["dead-letters", "list"], ""),
         (&["status"], "ready"),
     ] {
         assert!(service.said(words).contains(said), "{words:?}");
@@ -78,7 +70,7 @@ fn the_report_is_at_the_socket_alone() {
     let operators = place.folder.path().join("operators");
     std::fs::write(&operators, &made.stdout).unwrap();
     let operators = operators.display().to_string();
-    let service = place.serve_with(&["--sink", &place.sink(), "--operate-tokens", &operators]);
+    let service = place.serve_with(&["--sink", &place.sink(), "--admin-tokens", &operators]);
     for header in ["x: y", &format!("Authorization: Bearer {token}")] {
         let mut command = Command::new("curl");
         let output =
@@ -97,21 +89,21 @@ fn the_report_is_at_the_socket_alone() {
 fn a_command_finds_the_socket() {
     let place = Place::new();
     let elsewhere = format!("unix:{}", place.folder.path().join("elsewhere").display());
-    let service = place.serve_with(&["--sink", &place.sink(), "--operate", &elsewhere]);
+    let service = place.serve_with(&["--sink", &place.sink(), "--admin", &elsewhere]);
     let data = place.data().display().to_string();
     let both = format!("{},{elsewhere}", service.operate);
     for (words, setting) in [
         (&["flush"][..], &*both),
         (&["flush", "--data", &data], &elsewhere),
-        (&["flush", "--operate", &elsewhere], &service.operate),
-        (&["status", "--operate", &service.operate], &elsewhere),
+        (&["flush", "--admin", &elsewhere], &service.operate),
+        (&["status", "--admin", &service.operate], &elsewhere),
     ] {
         let output = told(words, setting);
         assert!(output.status.success(), "{words:?}: {}", text(&output));
     }
     for (words, why) in [
         (&["flush", "--data", &data][..], "there is no unix:"),
-        (&["flush", "--operate", &service.operate], "run totxegun on the service's machine with its --data"),
+        (&["flush", "--admin", &service.operate], "run totxegun on the service's machine with its --data"),
     ] {
         let output = told(words, "");
         assert!(text(&output).contains(why), "{words:?}: {}", text(&output));
@@ -128,7 +120,7 @@ fn a_token_is_taken_over_tcp() {
     let token = shown.lines().last().unwrap().to_string();
     std::fs::write(at("operators"), &made.stdout).unwrap();
     std::fs::write(at("token"), format!("{token}\n")).unwrap();
-    let words = ["--sink", &place.sink(), "--operate-tokens", &at("operators")];
+    let words = ["--sink", &place.sink(), "--admin-tokens", &at("operators")];
     let service = place.serve_with(&words);
     for path in ORDERS {
         for header in ["x: y", "Authorization: Bearer t0ken", &format!("Authorization: {token}")] {
@@ -138,9 +130,9 @@ fn a_token_is_taken_over_tcp() {
             assert!(is_refused, "{path}: {answer}");
         }
     }
-    let without = text(&told(&["flush", "--operate", &service.operate], ""));
+    let without = text(&told(&["flush", "--admin", &service.operate], ""));
     assert!(without.contains("give the file that has it by --token FILE"), "{without}");
-    let both = ["--operate", &service.operate, "--token", &at("token")];
+    let both = ["--admin", &service.operate, "--token", &at("token")];
     let by_token = |words: &[&str]| text(&told(&[words, &both].concat(), ""));
     assert!(by_token(&["quarantine", "A"]).starts_with("done: nothing of A is known yet"));
     let acts = || std::fs::read_to_string(place.data().join("acts.jsonl")).unwrap();
@@ -156,11 +148,11 @@ fn a_token_is_taken_over_tcp() {
         "-H",
         &format!("Authorization: Bearer {token}"),
     ]);
-    let answer = command.arg(format!("http://{}/lift/A", service.operate)).output();
+    let answer = command.arg(format!("http://{}/release/A", service.operate)).output();
     assert!(text(&answer.unwrap()).contains("it has an Origin"));
     std::fs::write(at("operators"), "").unwrap();
     until("its line is gone", || by_token(&["flush"]).contains("the token is not known"));
-    assert_eq!(service.said(&["lift", "A"]), "done\n", "the socket wants none");
+    assert_eq!(service.said(&["release", "A"]), "done\n", "the socket wants none");
     assert!(!place.log().contains(&token) && !acts().contains(&token));
     assert_eq!(service.end(), Some(0));
 }
@@ -172,7 +164,7 @@ fn tokens_of_operators_stay_on_this_machine() {
     let file = place.folder.path().join("operators");
     std::fs::write(&file, format!("ann sha256:{}", "0".repeat(64))).unwrap();
     let mut command = Command::new(PROGRAM);
-    command.args(["serve", "--listen", "127.0.0.1:0", "--operate", "0.0.0.0:0", "--operate-tokens"]);
+    command.args(["serve", "--listen", "127.0.0.1:0", "--admin", "0.0.0.0:0", "--admin-tokens"]);
     let output = command.arg(&file).arg("--data").arg(place.data()).output().unwrap();
     assert_eq!(output.status.code(), Some(2));
     assert!(text(&output).contains("--behind-proxy"), "{}", text(&output));
@@ -188,7 +180,7 @@ fn a_page_says_of_dead_requests_how_many_they_are() {
     let service = place.serve();
     for (status, page) in [service.asked_for("/").unwrap(), service.at_socket("GET", "/").unwrap()] {
         assert_eq!(status, 200);
-        assert!(page.contains("<b>1</b><span>dead requests") && page.contains("totxegun dead list"));
+        assert!(page.contains("<b>1</b><span>dead requests") && page.contains("totxegun dead-letters list"));
         assert!(!page.contains("0-a-1") && !page.contains("host h1"), "{page}");
     }
     let (_, list) = service.at_socket("GET", "/dead").unwrap();
@@ -225,7 +217,7 @@ fn a_socket_may_be_the_only_address() {
     let place = Place::new();
     let socket = format!("unix:{}", place.folder.path().join("operate").display());
     let mut command = Command::new(PROGRAM);
-    command.args(["serve", "--listen", "127.0.0.1:0", "--operate", &socket, "--data"]);
+    command.args(["serve", "--listen", "127.0.0.1:0", "--admin", &socket, "--data"]);
     let mut service = command.arg(place.data()).stderr(std::process::Stdio::null()).spawn().unwrap();
     until("it is ready", || text(&told(&["status"], &socket)).contains("ready"));
     for (more, why) in [("unix:/x", "a second address"), ("127.0.0.1:1,127.0.0.1:2", "a second address")] {

@@ -45,16 +45,16 @@ impl Place {
             .append(true)
             .open(self.folder.path().join("log.txt"))
             .unwrap();
-        let every: &[&str] = match words.contains(&"--flush-every") {
+        let every: &[&str] = match words.contains(&"--flush-interval") {
             true => &[],
-            false => &["--flush-every", "200ms"],
+            false => &["--flush-interval", "200ms"],
         };
         let child = command
             .arg("serve")
             .args(every)
-            .args(["--durable", "process", "--data"])
+            .args(["--durability", "process", "--data"])
             .arg(self.data())
-            .args(["--listen", &listen, "--operate", &operate])
+            .args(["--listen", &listen, "--admin", &operate])
             .args(words)
             .stderr(log)
             .stdout(Stdio::null())

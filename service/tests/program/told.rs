@@ -42,8 +42,8 @@ fn an_operator_sees_the_limits() {
         let line = page.lines().find_map(|line| line.strip_prefix(&format!("{name} ")));
         line.unwrap_or_else(|| panic!("{name} in\n{page}")).parse::<f64>().unwrap()
     };
-    assert!(value("totxegun_book_memory_bytes") > 0.0);
-    assert!(value("totxegun_memory_limit_bytes") > value("totxegun_book_memory_bytes"));
+    assert!(value("totxegun_memory_bytes") > 0.0);
+    assert!(value("totxegun_memory_limit_bytes") > value("totxegun_memory_bytes"));
     assert_eq!(value("totxegun_rounds_closed_total"), 0.0);
     assert_eq!(service.end(), Some(0));
 }
@@ -86,7 +86,7 @@ fn a_wrong_key_is_that_of_no_request() {
     let place = Place::new();
     let service = place.serve();
     for what in ["show", "resend", "drop"] {
-        let said = service.said(&["dead", what, "0-a-1"]);
+        let said = service.said(&["dead-letters", what, "0-a-1"]);
         assert!(said.contains("no such request"), "{what}: {said}");
     }
 }
@@ -191,7 +191,7 @@ fn a_disk_without_room_is_told() {
     assert!(status == 503 && text.contains("no room for the journal"), "{text}");
     assert!(service.metrics().contains("totxegun_ready 0"));
     let socket = format!("unix:{}", service.reached().display());
-    let said = service.said(&["status", "--operate", &socket]);
+    let said = service.said(&["status", "--admin", &socket]);
     let lines: Vec<&str> = said.lines().collect();
     assert!(lines[0].contains("not ready"), "{said}");
     let why = format!("no room for the journal: make room on the disk of {}", disk.display());

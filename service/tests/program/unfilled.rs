@@ -12,7 +12,7 @@ fn a_start_without_memory_for_its_journal_delivers_and_shows_and_takes_no_posts(
     let place = Place::new();
     let sink = place.sink();
     let start = |sink: &[&str], memory: &str| {
-        let words = ["--most-series", "64000", "--flush-every", "1h", "--book-memory", memory];
+        let words = ["--max-series", "64000", "--flush-interval", "1h", "--max-memory", memory];
         place.begin(&[sink, &words].concat())
     };
     let mut first = start(&["--sink", NO_SINK], "160MiB");
@@ -29,7 +29,7 @@ fn a_start_without_memory_for_its_journal_delivers_and_shows_and_takes_no_posts(
     let second = start(&["--new-sink", "--sink", &sink], "64MiB");
     let why = "takes no posts until the service is started anew";
     until("the log says so", || place.log().contains(why));
-    assert!(place.log().contains("give a greater --book-memory"), "{}", place.log());
+    assert!(place.log().contains("give a greater --max-memory"), "{}", place.log());
     let (status, text) = second.post("A", &points(&["m1"], 200, 5)).unwrap();
     assert!(status == 503 && text.contains("the book does not take what the journal has"), "{status} {text}");
     let (status, text) = second.asked_for("/readyz").unwrap();

@@ -41,7 +41,6 @@ impl Owner {
     fn take(store: &PostgresStore) -> Owner {
         let (journal, outbox, _dead) =
             drive::open(taken(store, 0) as Arc<dyn Drive>, &store.cluster.epoch).unwrap();
-        outbox.owners_are_known(); // as the keeper says once it has begun
         Owner { journal, outbox, _dead }
     }
 

@@ -210,6 +210,28 @@ fn a_sync_of_nothing_waits_for_the_standby_too() {
     syncing.join().unwrap();
 }
 
+/// Else the writes of all slots would be broken off every few seconds while one is opened and no standby is there.
+#[test]
+fn who_asks_how_many_copies_there_are_breaks_no_connection_of_those_that_wait_for_one() {
+    let Some(server) = Server::start("") else { return };
+    make(&server.address());
+    let store = Arc::new(open(&server.address(), Copies::One));
+    let term = wait(store.take(0, 0, "a")).unwrap().unwrap();
+    server.ask("alter system set synchronous_standby_names = 'nobody'");
+    server.ask("select pg_reload_conf()");
+    let opener = store.clone();
+    let opening = thread::spawn(move || opener.drive(0, term).is_ok());
+    let waits = format!("select count(*) from {WAITS}");
+    wait_until("it waits for the standby", || server.ask(&waits) == "1");
+    assert!(wait(store.copies()).is_err(), "it waits behind that");
+    sleep(Duration::from_secs(1));
+    assert_eq!(store.counts().doubts.load(SeqCst), 0, "it was broken off");
+    assert_eq!(wait(store.copies()).unwrap(), Some(1), "by another connection");
+    server.ask("alter system reset synchronous_standby_names");
+    server.ask("select pg_reload_conf()");
+    assert!(opening.join().unwrap());
+}
+
 /// Else a taker would go by what is lost with the server.
 #[test]
 fn what_a_server_shows_after_a_restart_is_not_believed_without_its_standby() {

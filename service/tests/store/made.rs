@@ -37,12 +37,12 @@ fn a_start_refuses_what_is_no_store_or_another_or_can_lose() {
         format!("set synchronous_commit = 'local'; update totxegun_store.cluster set version = {version}")
     };
     server.ask("select pg_reload_conf()");
-    for other in [1, 2, 3, 5] {
+    for other in [0, 2, 3, 4] {
         server.ask(&versions(other));
-        let told = format!("of format version {other}, and this totxegun reads 4 alone: ");
+        let told = format!("of format version {other}, and this totxegun reads 1 alone: ");
         refused(&one, Copies::Two, "a", &told);
     }
-    server.ask(&versions(4));
+    server.ask(&versions(1));
     // A start would wait: nobody is there, so no commit ends.
     let store = PostgresStore::look_into(&address(&one).unwrap(), Copies::Two).unwrap();
     assert_eq!(wait(store.copies()).unwrap(), Some(1));
@@ -81,8 +81,8 @@ fn the_first_says_where_all_deliver_to_and_beats_say_what_is_refused() {
     assert_eq!(instances[0].told, told);
     assert!(clock.unwrap().abs() < 1_000_000, "its server has the clock of this machine: {clock:?}");
     wait(store.beat("a", "h:1", "h:1", Told::default(), 0)).unwrap();
-    assert_eq!(wait(store.instances()).unwrap().0[0].told, Told::default());
-    assert_eq!(store.beats().unwrap(), [("a".to_string(), 2)].into());
+    let again = &wait(store.instances()).unwrap().0[0];
+    assert_eq!((again.beat, &again.told), (2, &Told::default()));
 }
 
 /// It was there when the start began, which would end else.

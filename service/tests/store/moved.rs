@@ -10,7 +10,7 @@ use totxegun::cluster::terms::Told;
 use totxegun::files::drive::{is_lost, Drive};
 use totxegun::files::{Durability, Folder};
 use totxegun::store::moving::from_folder;
-use totxegun::store::postgres::{address, Copies, Standing, State};
+use totxegun::store::postgres::{address, Copies, Standing};
 
 fn refused(text: &str, part: &str) {
     match opened(&address(text).unwrap(), Copies::One, "whole=auto") {
@@ -19,8 +19,8 @@ fn refused(text: &str, part: &str) {
     }
 }
 
-fn standing(state: State) -> Standing {
-    Standing { state, id: "0123456789abcdef".into(), folder: "/data".into() }
+fn standing(is_filling: bool) -> Standing {
+    Standing { is_filling, id: "0123456789abcdef".into(), folder: "/data".into() }
 }
 
 #[test]
@@ -29,9 +29,9 @@ fn nobody_takes_a_slot_or_starts_while_a_store_is_filled_but_who_fills_it() {
     make(&server.address());
     let store = open(&server.address(), Copies::One);
     let before = store.standing().unwrap();
-    assert_eq!((before.state, store.is_empty().unwrap()), (State::Counts, true));
+    assert!(!before.is_filling);
     let (owner, _) = take(&store, 2);
-    let filling = standing(State::Filling);
+    let filling = standing(true);
     for _ in 0..2 {
         let begun = store.begin_filling(&before, &filling).unwrap();
         assert_eq!(begun, Some(filling.clone()), "a doubt has it called twice");
@@ -45,7 +45,7 @@ fn nobody_takes_a_slot_or_starts_while_a_store_is_filled_but_who_fills_it() {
     assert_eq!(store.take_to_move(2, "0123456789abcdef").unwrap(), 3);
     store.release_moved(2, 3).unwrap();
     assert!(store.release_moved(2, 2).is_err(), "another has it");
-    store.change(&filling, &standing(State::Counts)).unwrap();
+    store.change(&filling, &standing(false)).unwrap();
     assert_eq!(wait(store.take(1, 1, "a")).unwrap(), Some(2));
     assert!(store.take_to_move(1, "0123456789abcdef").is_err(), "the move has come to its end");
 }
@@ -67,7 +67,7 @@ fn what_an_instance_takes_just_before_a_store_is_filled_stays() {
         thread::sleep(Duration::from_secs(1));
         let lock = "select 1 from totxegun_store.cluster for update; select pg_sleep(5)";
         scope.spawn(|| server.ask(lock));
-        let waits = "select count(*) from pg_stat_activity where query like 'update totxegun_store.cluster set state%'
+        let waits = "select count(*) from pg_stat_activity where query like 'update totxegun_store.cluster set filling%'
             and wait_event_type = 'Lock'";
         wait_until("it looked, and waits for the lock", || server.ask(waits) == "1");
         let (drive, _) = take(&store, 0);
@@ -84,7 +84,7 @@ fn what_an_instance_takes_just_before_a_store_is_filled_stays() {
     wait(store.leave("a")).unwrap();
     let why = moved().expect_err("the store is in use");
     assert!(why.contains("has something already"), "{why}");
-    assert_eq!(store.standing().unwrap().state, State::Counts);
+    assert!(!store.standing().unwrap().is_filling);
     assert_eq!(take(&store, 0).1[Path::new("journal/1")], b"post");
 }
 
@@ -103,7 +103,7 @@ fn a_move_that_was_killed_before_its_decision_is_decided_by_the_same_call_and_by
     assert!(moved(&one).unwrap().is_some());
     let store = open(&server.address(), Copies::One);
     let counts = store.standing().unwrap();
-    let filling = Standing { state: State::Filling, ..counts.clone() };
+    let filling = Standing { is_filling: true, ..counts.clone() };
     store.change(&counts, &filling).unwrap(); // as it was before the kill
     let why = moved(&other).unwrap_err();
     assert!(why.contains(&format!("what the folder {} has is on its way", one.display())), "{why}");
@@ -125,7 +125,7 @@ fn a_move_that_was_killed_before_its_decision_is_decided_by_the_same_call_and_by
     );
     // A move into this store was killed, and the folder went into another one.
     let third = Folder::open(&place.path().join("third"), Durability::Disk).unwrap();
-    let begun = Standing { state: State::Filling, id: third.epoch(), ..counts.clone() };
+    let begun = Standing { is_filling: true, id: third.epoch(), ..counts.clone() };
     assert_eq!(store.change(&counts, &begun).unwrap(), begun);
     third.set_moved("postgres://u@h:1/d").unwrap();
     drop(third);

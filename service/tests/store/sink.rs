@@ -136,6 +136,5 @@ fn what_was_noted_is_not_sent_again() {
     server.ask(&format!("insert into totxegun_store.delivered values (0, {term}, 2)"));
     let next = take(&store, 0).0;
     let (_journal, outbox, _dead) = drive::open(next as Arc<dyn Drive>, "e").unwrap();
-    outbox.owners_are_known(); // as the keeper says once it has begun
     assert_eq!((outbox.waiting().0, wait(outbox.first()).unwrap().1), (1, bodies[2].clone()));
 }

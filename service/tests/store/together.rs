@@ -304,6 +304,10 @@ fn who_asks_by_a_silent_connection_leaves_it_once_another_one_breaks() {
         writing
     };
     for question in ["set link = link + 1", "as last (slot"] {
+        // A connection that is made names the question, too: those of both are made before.
+        for owner in &owners {
+            owner.write("a").unwrap();
+        }
         proxy.silence_at(question);
         let silent = breaks_in_a_write(&owners[0]);
         wait_until("it is silent", || proxy.holds());

@@ -320,10 +320,10 @@ async fn who_has_not_come_back_for_long_is_forgotten_and_comes_back_all_the_same
 /// Else both would post and deliver under one name, each believing that it is the one.
 #[tokio::test(flavor = "multi_thread", worker_threads = 2)]
 async fn of_two_processes_of_one_name_the_later_one_ends() {
-    const FAST: Duration = Duration::from_millis(50);
+    const FAST: Duration = Duration::from_millis(150);
     let store = Store::new();
     let a = start_at(&store, "a", FAST);
-    store.are_owners(|owner| owner == "a", SOON).await;
+    until(|| store.rows.lock().unwrap().0.contains_key("a")).await;
     let later = start_at(&store, "a", FAST);
     let ended = timeout(SOON, later.runs).await.unwrap().unwrap().unwrap_err();
     assert!(ended.to_string().contains("the name a was there before"), "{ended}");

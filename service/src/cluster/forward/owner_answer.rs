@@ -2,8 +2,8 @@
 
 use super::Broken;
 use crate::otlp::Outcome;
-use bytes::{Bytes, BytesMut};
-use hyper::body::HttpBody;
+use crate::work::whole_body;
+use bytes::Bytes;
 use hyper::header::{HeaderValue, CONTENT_TYPE};
 use hyper::{Body, Response, StatusCode};
 
@@ -60,15 +60,9 @@ fn is_answer(response: &Response<Body>) -> Result<bool, Broken> {
 }
 
 /// All of a body, which has no more bytes.
-pub(super) async fn whole(mut body: Body, most: usize) -> Result<Bytes, Broken> {
-    let mut bytes = BytesMut::new();
-    while let Some(part) = body.data().await {
-        bytes.extend_from_slice(&part.map_err(Broken::Wire)?);
-        if bytes.len() > most {
-            return Err(Broken::Long(most));
-        }
-    }
-    Ok(bytes.freeze())
+pub(super) async fn whole(body: Body, most: usize) -> Result<Bytes, Broken> {
+    let whole = whole_body(body, most).await.map_err(Broken::Wire)?;
+    whole.map(Bytes::from).ok_or(Broken::Long(most))
 }
 
 /// All of an answer to operators.

@@ -14,8 +14,9 @@ const EVERY: Duration = Duration::from_millis(500);
 const WITHIN: Duration = Duration::from_secs(1);
 
 impl<H: Here> Forward<H> {
-    /// Looks until it is dropped.
-    pub async fn look_at_others(self: Arc<Self>) {
+    /// Looks until it is dropped. `own` is where the others reach this instance: while it does not answer itself in time it is too
+    /// busy to say whom it reaches.
+    pub async fn look_at_others(self: Arc<Self>, own: String) {
         let mut looks = interval(EVERY);
         looks.set_missed_tick_behavior(MissedTickBehavior::Delay);
         loop {
@@ -25,19 +26,25 @@ impl<H: Here> Forward<H> {
                 let forward = self.clone();
                 asked.spawn(async move { forward.reaches(&address).await.then_some(name) });
             }
+            let answers_itself = self.is_there(&own).await;
             let mut reached = BTreeSet::new();
             while let Some(one) = asked.join_next().await {
                 reached.extend(one.ok().flatten());
             }
-            self.cluster.has_reached(reached);
+            self.cluster.has_reached(answers_itself.then_some(reached));
         }
     }
 
-    /// Whatever it says to that. Not before several looks in a row have found it not there.
+    /// Not before several looks in a row have found it not there.
     async fn reaches(&self, address: &str) -> bool {
+        self.peers.at(address).has_reached(self.is_there(address).await)
+    }
+
+    /// Whatever it says to that.
+    async fn is_there(&self, address: &str) -> bool {
         let uri = format!("{}://{address}{PATH}", self.connections.scheme());
         let Ok(request) = Request::get(uri).body(Body::empty()) else { return false };
         let looking = timeout(WITHIN, self.connections.looks().request(request)).await;
-        self.peers.at(address).has_reached(looking.is_ok_and(|answer| answer.is_ok()))
+        looking.is_ok_and(|answer| answer.is_ok())
     }
 }

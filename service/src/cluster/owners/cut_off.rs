@@ -15,7 +15,7 @@ const MISSED: u32 = super::GONE + 2;
 pub(super) struct CutOff {
     /// Own beats that have read so of these, less those since that have not.
     beats: BTreeMap<String, u32>,
-    /// Whom this instance reaches; none before it has tried.
+    /// Whom this instance reaches; none while that is not known.
     reached: Option<BTreeSet<String>>,
     /// Own beats in a row without these.
     missed: BTreeMap<String, u32>,
@@ -46,8 +46,8 @@ fn cut_off<'a>(all: &Reached<'a>) -> BTreeSet<&'a str> {
 }
 
 impl CutOff {
-    pub fn has_reached(&mut self, reached: BTreeSet<String>) {
-        self.reached = Some(reached);
+    pub fn has_reached(&mut self, reached: Option<BTreeSet<String>>) {
+        self.reached = reached;
     }
 
     pub fn reached(&self) -> Option<&BTreeSet<String>> {

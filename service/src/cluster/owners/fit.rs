@@ -2,7 +2,7 @@
 
 use super::cut_off::Reached;
 use super::Owners;
-use crate::cluster::terms::Stay;
+use crate::cluster::terms::{Stay, Told};
 use std::collections::BTreeSet;
 
 impl Owners {
@@ -22,11 +22,12 @@ impl Owners {
 
     /// Whether it has no slots for that: another that stays has a clock that is right. One that is alone goes on.
     pub fn leaves_for_clock(&self) -> bool {
-        self.clock_off().is_some() && self.others.staying_clocks().any(|clock| self.clock.is_right(clock))
+        let is_right = |told: &Told| told.clock.is_some_and(|clock| self.clock.is_right(clock));
+        self.clock_off().is_some() && self.others.staying().any(|(_, told)| is_right(told))
     }
 
-    /// The others that it reaches just now.
-    pub fn has_reached(&mut self, reached: BTreeSet<String>) {
+    /// The others that it reaches just now; none while that is not known.
+    pub fn has_reached(&mut self, reached: Option<BTreeSet<String>>) {
         self.cut_off.has_reached(reached);
     }
 

@@ -2,7 +2,7 @@
 
 use super::{AFTER_SILENCE, FORGOTTEN, GONE};
 use crate::cluster::status::OtherInstance;
-use crate::cluster::terms::{Instance, Refused, Seen, Told};
+use crate::cluster::terms::{Instance, Seen, Told};
 use std::collections::{BTreeMap, BTreeSet};
 
 /// So many own beats lie between two silences that others are waited for.
@@ -94,11 +94,11 @@ impl Others {
         gone.filter_map(|(name, other)| Some((name.as_str(), other.beat?)))
     }
 
-    /// Those that may have slots, and which of these they can't open.
-    pub fn staying(&self) -> impl Iterator<Item = (&str, &Refused)> {
+    /// Those that may have slots, and what they have told last.
+    pub fn staying(&self) -> impl Iterator<Item = (&str, &Told)> {
         let stays = |other: &Other| !other.shown.is_gone && !other.shown.leaves;
         let others = self.by_name.iter().filter(move |(_, other)| stays(other));
-        others.map(|(name, other)| (name.as_str(), &other.told.refused))
+        others.map(|(name, other)| (name.as_str(), &other.told))
     }
 
     /// How far the clocks of those whose beats go on are ahead of the store's.
@@ -106,20 +106,10 @@ impl Others {
         self.by_name.values().filter(|other| !other.shown.is_gone).filter_map(|other| other.told.clock)
     }
 
-    /// The same of those that may have slots.
-    pub fn staying_clocks(&self) -> impl Iterator<Item = i64> + '_ {
-        let stays = |other: &&Other| !other.shown.is_gone && !other.shown.leaves;
-        self.by_name.values().filter(stays).filter_map(|other| other.told.clock)
-    }
-
     /// Whom those reach that may have slots; none of one that has not beaten just now: what it said may be so no more.
     pub fn reached(&self) -> impl Iterator<Item = (&str, Option<&BTreeSet<String>>)> {
-        let stays = |other: &Other| !other.shown.is_gone && !other.shown.leaves;
-        let others = self.by_name.iter().filter(move |(_, other)| stays(other));
-        others.map(|(name, other)| {
-            let said = other.told.reached.as_ref().filter(|_| other.shown.still < LATELY);
-            (name.as_str(), said)
-        })
+        let is_of_now = |name: &str| self.by_name[name].shown.still < LATELY;
+        self.staying().map(move |(name, told)| (name, told.reached.as_ref().filter(|_| is_of_now(name))))
     }
 
     /// Each as it is shown.

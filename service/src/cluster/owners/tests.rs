@@ -269,7 +269,7 @@ fn of_two_with_one_name_none_takes_a_slot_from_the_other() {
     assert!(world.is_settled());
     let takes = world.takes;
     world.join("a");
-    world.rounds(100);
+    world.rounds(10);
     assert_eq!(world.takes, takes);
     assert!(world.nodes.iter().all(|node| node.owners.has_namesake()));
     let came_later =
@@ -284,18 +284,21 @@ fn of_two_with_one_name_none_takes_a_slot_from_the_other() {
     assert_eq!((came_later(&world), world.is_settled()), (vec![false], true), "the one before was killed");
 }
 
-/// As where systemd starts a later one again and again: each ends, and none may have what is free.
+/// As where systemd starts a later one again and again: each ends, and none may have what is free, however slowly the one before
+/// beats.
 #[test]
 fn a_later_process_of_a_name_keeps_no_slot_from_the_one_before() {
     let mut world = World::of(11, &["a"]);
     world.rounds(20);
-    world.join("a");
-    world.rounds(10);
-    assert!(world.nodes[0].owners.has_namesake() && world.nodes[1].owners.came_later());
     (world.store.rows[3].term, world.store.rows[3].owner) = (2, String::new());
-    world.rounds(10);
+    world.join("a");
+    for _ in 0..8 {
+        world.nodes[0].stands_for = 2;
+        world.rounds(3);
+        assert!(world.nodes[1].owners.terms().is_empty());
+    }
+    assert!(world.nodes[0].owners.has_namesake() && world.nodes[1].owners.came_later());
     assert_eq!(world.nodes[0].owners.terms().get(&3), Some(&3));
-    assert!(world.nodes[1].owners.terms().is_empty());
 }
 
 /// As where a store was set back.

@@ -250,20 +250,3 @@ fn posts_are_told_by_the_names_of_their_series_and_with_their_values() -> Result
     assert_eq!(String::from_utf8(lines)?, expected.concat());
     Ok(())
 }
-
-/// Nobody would deliver what is in it.
-#[test]
-fn another_slot_in_a_folder_is_named_as_a_start_names_it() -> Result<()> {
-    let data = tempdir()?;
-    killed(data.path())?;
-    assert!(checked(data.path()).is_ok());
-    let copied = std::process::Command::new("cp")
-        .args(["-a", "slot-0", "slot-1"])
-        .current_dir(data.path())
-        .status()?;
-    assert!(copied.success());
-    let refused = checked(data.path()).map(|_| ()).unwrap_err().to_string();
-    let of_start = Folder::open(data.path(), Durability::Process).err().unwrap().to_string();
-    assert!(refused == of_start && refused.contains("slot-1 is no part of a folder"), "{refused}");
-    Ok(())
-}

@@ -44,7 +44,7 @@ mod tests {
 
     #[test]
     fn a_misspelled_setting_is_named_with_the_nearest() {
-        let wanted = "TOTXEGUN_FLUSH_EVRY is set, and is no setting: take it out, or write TOTXEGUN_FLUSH_EVERY if that is meant";
+        let wanted = "TOTXEGUN_FLUSH_EVRY is set, and is no setting: take it out, or write TOTXEGUN_FLUSH_INTERVAL if that is meant";
         assert_eq!(unknown(&["HOME", "TOTXEGUN_SINK", "TOTXEGUN_FLUSH_EVRY"]).as_deref(), Some(wanted));
     }
 

@@ -2,7 +2,7 @@
 //! it says is added to the words of the command line, unless these or the environment say it: so each value is read in one way.
 
 use super::nearest;
-use super::secret::has_password;
+use super::secret::{has_password, is_of_otlp};
 use clap::{Arg, ArgAction, Command};
 use std::collections::BTreeMap;
 use std::ffi::OsString;
@@ -102,7 +102,14 @@ fn one(name: &str, option: &str, arg: &Arg, value: &Value) -> Result<OsString, S
         _ => return Err(format!("`{name}` has texts in quotes, or whole numbers")),
     };
     if arg.is_hide_env_values_set() && has_password(&text) {
-        return Err(format!("everybody may read this file, and `{name}` has a password: write it into a file, and ?passfile=FILE here"));
+        let why = match is_of_otlp(&text) {
+            true => format!(
+                "a query, in which a key may be: send it as a header, by {}",
+                key(&format!("{option}-header-file"))
+            ),
+            false => "a password: write it into a file, and ?passfile=FILE here".into(),
+        };
+        return Err(format!("everybody may read this file, and `{name}` has {why}"));
     }
     match arg.get_value_delimiter() {
         Some(between) if text.contains(between) => {
@@ -126,13 +133,13 @@ mod tests {
 
     #[test]
     fn keys_are_the_options_names() {
-        let text = "threads = 2\nbehind-proxy = true\nlog-json = false\ndrop-attribute = [\"a\", \"b\"]\nflush-every = \"5s\"\n\
+        let text = "threads = 2\nbehind-proxy = true\nlog-json = false\ndrop-attribute = [\"a\", \"b\"]\nflush-interval = \"5s\"\n\
                     [sink]\naddress = \"http://h:1\"\ngzip = true\nheader-file = \"f\"\n";
         let wanted = [
             "--behind-proxy",
             "--drop-attribute=a",
             "--drop-attribute=b",
-            "--flush-every=5s",
+            "--flush-interval=5s",
             "--sink=http://h:1",
             "--sink-gzip",
             "--sink-header-file=f",
@@ -144,7 +151,7 @@ mod tests {
     #[test]
     fn what_is_wrong_is_said_with_the_key() {
         for (text, part) in [
-            ("flush-evry = \"5s\"", "write `flush-every`"),
+            ("flush-evry = \"5s\"", "write `flush-interval`"),
             ("sink = \"a\"", "[sink] on a line"),
             ("[sink]\nadress = \"a\"", "write `sink.address`"),
             ("[sink]\nheader = \"Authorization: Bearer x\"", "name it by sink.header-file"),
@@ -155,6 +162,8 @@ mod tests {
             ("threads = 1.5", "whole numbers"),
             ("drop-attribute = \"a,b\"", "each in quotes of its own"),
             ("store = \"postgres://u:secret@h/d\"", "?passfile=FILE"),
+            ("[sink]\naddress = \"https://h:4318/v1/metrics?key=secret\"", "by sink.header-file"),
+            ("forward-unsupported = \"HTTP://h:4318?key=secret\"", "by forward-unsupported-header-file"),
             ("threads = ", "no TOML"),
             ("threads = 1\nthreads = 2", "no TOML"),
         ] {

@@ -61,37 +61,22 @@ pub fn parse(mut words: Vec<OsString>) -> Result<Parsed, Faulty> {
     }
 }
 
-/// What the file that the words or the environment name says of the options that neither sets.
+/// What the file that the words or the environment name says of the options that neither sets. What is faulty or missing there is
+/// said later, with what the file adds.
 fn file_of(words: &[OsString], command: &clap::Command) -> Option<(PathBuf, Result<file::Words, String>)> {
-    let ran = command.find_subcommand(words.get(1)?)?;
-    let variable = ran.get_arguments().find(|option| option.get_long() == Some(file::OPTION))?.get_env()?;
-    let path = value(words, file::OPTION).or_else(|| std::env::var_os(variable))?;
-    let serve = command.find_subcommand("serve")?;
-    let read = file::read(path.as_ref(), serve).map(|mut found| {
-        found.retain(|option, _| {
-            let own = ran.get_arguments().find(|own| own.get_long() == Some(option));
-            let is_set = |own: &clap::Arg| own.get_env().and_then(std::env::var_os).is_some();
-            own.is_some_and(|own| !is_given(words, option) && !is_set(own))
-        });
+    let without_file = command.clone().ignore_errors(true).try_get_matches_from(words).ok()?;
+    let (name, matches) = without_file.subcommand()?;
+    let own = |option: &str| {
+        let mut own = command.find_subcommand(name)?.get_arguments();
+        own.find(|own| own.get_long() == Some(option)).map(|own| own.get_id().as_str())
+    };
+    let path = matches.get_one::<PathBuf>(own(file::OPTION)?)?;
+    let is_free = |id| matches!(matches.value_source(id), None | Some(ValueSource::DefaultValue));
+    let read = file::read(path, command.find_subcommand("serve")?).map(|mut found| {
+        found.retain(|option, _| own(option).is_some_and(is_free));
         found
     });
-    Some((path.into(), read))
-}
-
-fn is_given(words: &[OsString], option: &str) -> bool {
-    let (alone, with_value) = (format!("--{option}"), format!("--{option}="));
-    words.iter().any(|word| *word == *alone || word.as_encoded_bytes().starts_with(with_value.as_bytes()))
-}
-
-/// The last value of an option among the words.
-fn value(words: &[OsString], option: &str) -> Option<OsString> {
-    let alone = format!("--{option}");
-    let next = words.iter().skip(1).map(Some).chain([None]);
-    let of = |(word, next): (&OsString, Option<&OsString>)| match word.to_str()?.strip_prefix(&alone)? {
-        "" => next.cloned(),
-        rest => rest.strip_prefix('=').map(OsString::from),
-    };
-    words.iter().zip(next).filter_map(of).last()
+    Some((path.clone(), read))
 }
 
 /// What is wrong with a value of the file, with its key; none if another one is meant.
@@ -134,19 +119,23 @@ impl Command {
     pub fn run(self) -> Result<Vec<u8>, Ended> {
         match self {
             Command::Check(words) => {
-                let (options, _) = options(words.words)?;
-                options.check()?;
+                read(words.of_serve())?.0.check()?;
                 Ok(line("a service starts with these settings, if it may listen at its addresses"))
             }
-            Command::Show(words) => Ok(shown(&options(words.words)?.1)?.into()),
+            Command::Show(words) => Ok(shown(&read(words.of_serve())?.1)?.into()),
         }
     }
 }
 
-/// What `serve` would be told.
-fn options(words: Vec<OsString>) -> Result<(serve::Options, Parsed), Ended> {
-    let of_serve = ["totxegun", "serve"].map(OsString::from);
-    let parsed = parse(of_serve.into_iter().chain(words).collect()).map_err(|why| match why {
+impl Words {
+    fn of_serve(self) -> Vec<OsString> {
+        ["totxegun", "serve"].map(OsString::from).into_iter().chain(self.words).collect()
+    }
+}
+
+/// What `serve` is told by a command line of its own.
+fn read(words: Vec<OsString>) -> Result<(serve::Options, Parsed), Ended> {
+    let parsed = parse(words).map_err(|why| match why {
         Faulty::Line(error) => {
             Ended::Line(anyhow!("{}", error.to_string().trim_start_matches("error: ").trim_end()))
         }
@@ -160,22 +149,13 @@ fn options(words: Vec<OsString>) -> Result<(serve::Options, Parsed), Ended> {
 /// Each setting of a service, as it would be in a file.
 pub type Values = BTreeMap<String, Vec<OsString>>;
 
-/// Those of a service with this process' command line, with its options. So a change of the file shows.
-pub fn read_again() -> Result<(serve::Options, Values), String> {
-    let parsed = parse(std::env::args_os().collect()).map_err(|why| match why {
-        Faulty::Line(error) => error.to_string(),
-        Faulty::File(why) => why,
-    })?;
-    let (_, of_serve) = parsed.matches.subcommand().ok_or("there is no command")?;
-    let options = serve::Options::from_arg_matches(of_serve).map_err(|why| why.to_string())?;
-    Ok((options, values(of_serve)))
-}
-
-fn values(matches: &ArgMatches) -> Values {
+fn values(parsed: &Parsed) -> Values {
     let command = Line::command();
-    let serve = command.find_subcommand("serve");
-    let of = |(option, arg): (&str, &clap::Arg)| (option.to_string(), raw(matches, arg));
-    serve.map(|serve| file::settings(serve).map(of).collect()).unwrap_or_default()
+    let Some((serve, (_, matches))) = command.find_subcommand("serve").zip(parsed.matches.subcommand())
+    else {
+        return Values::new();
+    };
+    file::settings(serve).map(|(option, arg)| (option.to_string(), raw(matches, arg))).collect()
 }
 
 fn raw(matches: &ArgMatches, arg: &clap::Arg) -> Vec<OsString> {

@@ -1,40 +1,49 @@
 //! What SIGHUP does: the settings are read anew, what can change does, and what can't is named in the log.
 
-use super::{key, read_again, Values};
+use super::{key, read, values, Values};
 use crate::metrics::Metrics;
-use crate::service::Live;
-use anyhow::{anyhow, Result};
-use std::sync::{Mutex, PoisonError};
+use crate::service::{Ended, Live};
+use crate::work::locked;
+use std::sync::Mutex;
 use tracing_subscriber::{filter::Targets, reload::Handle, Registry};
 
 /// The options that SIGHUP may change. Contents of files of certificates and tokens are read anew without it.
-const LIVE: [&str; 5] = ["log-level", "log-foreign", "expect-foreign", "sender-series", "sender-points"];
+const LIVE: [&str; 5] = ["log-level", "log-rejected", "expect-rejected", "sender-series", "sender-points"];
 
-/// Reads the settings anew, and returns those that the service changes by itself. Without settings that can be used it goes on with
-/// those that it has.
+/// Reads the settings anew, and returns those that the service changes by itself. Without settings with which it would start it goes
+/// on with those that it has.
 pub fn reload(
     level: Handle<Targets, Registry>,
     metrics: &Metrics,
-) -> Result<Box<dyn Fn() -> Option<Live> + Send + Sync>> {
-    let (_, started) = read_again().map_err(|why| anyhow!(why))?;
+) -> Result<Box<dyn Fn() -> Option<Live> + Send + Sync>, Ended> {
+    let started = values(&read(std::env::args_os().collect())?.1);
     let (used, stale) = (Mutex::new(started.clone()), metrics.stale_files.with_label_values(&["--config"]));
-    Ok(Box::new(move || match read_again() {
-        Ok((options, found)) => {
-            let mut used = used.lock().unwrap_or_else(PoisonError::into_inner);
+    Ok(Box::new(move || match usable() {
+        Ok((new, new_level, found)) => {
+            let mut used = locked(&used);
             let (live, fixed) = (changed(&used, &found, true), changed(&started, &found, false));
             *used = found;
             tell(&live, &fixed);
             stale.set(i64::from(!fixed.is_empty()));
             // It fails only if the log has ended.
-            let _ = level.reload(options.level());
-            Some(options.live())
+            let _ = level.reload(new_level);
+            Some(new)
         }
-        Err(reason) => {
+        Err(why) => {
             stale.set(1);
+            let reason = why.to_string();
             tracing::warn!(reason, "SIGHUP: the settings can't be used, and stay as they were: {reason}");
             None
         }
     }))
+}
+
+/// The settings of this process' command line as they are now, if a service starts with them: those that may change, and all.
+fn usable() -> Result<(Live, Targets, Values), Ended> {
+    let (options, parsed) = read(std::env::args_os().collect())?;
+    let (live, level) = (options.live(), options.level());
+    options.check()?;
+    Ok((live, level, values(&parsed)))
 }
 
 /// The settings that differ, as the file calls them: those that may change, or the others.

@@ -1,10 +1,17 @@
 //! What of an address is a secret.
 
-/// Whether an address has a password, before its host or in its query.
+/// Whether an address has a password, before its host or in its query. What a receiver of OTLP has in its query may be a key.
 pub fn has_password(address: &str) -> bool {
     let (place, query) = address.split_once('?').unwrap_or((address, ""));
     let user = place.split_once("//").and_then(|(_, rest)| Some(rest.rsplit_once('@')?.0));
-    user.is_some_and(|user| user.contains(':')) || query.split('&').any(|pair| pair.starts_with("password="))
+    user.is_some_and(|user| user.contains(':'))
+        || is_of_otlp(place) && !query.is_empty()
+        || query.split('&').any(|pair| pair.starts_with("password="))
+}
+
+pub fn is_of_otlp(address: &str) -> bool {
+    let scheme = address.split(':').next().unwrap_or_default();
+    ["http", "https"].iter().any(|of_otlp| scheme.eq_ignore_ascii_case(of_otlp))
 }
 
 /// An address without its password, and without its query, which may have a token.
@@ -33,7 +40,9 @@ mod tests {
             ("postgres://u:se@cr:et@h/d", true, "postgres://u@h/d"),
             ("postgres://u@h/d?sslmode=require&password=secret", true, "postgres://u@h/d?.."),
             ("postgres://u@h/d?passfile=/etc/f", false, "postgres://u@h/d?.."),
-            ("https://h:4318/v1/metrics?key=secret", false, "https://h:4318/v1/metrics?.."),
+            ("https://h:4318/v1/metrics?key=secret", true, "https://h:4318/v1/metrics?.."),
+            ("HTTP://h:4318?x", true, "HTTP://h:4318?.."),
+            ("https://h:4318/v1/metrics", false, "https://h:4318/v1/metrics"),
         ] {
             assert_eq!((has_password(address), &*without_password(address)), (has, shown), "{address}");
         }

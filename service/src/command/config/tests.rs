@@ -12,11 +12,11 @@ fn sample(option: &str, arg: &Arg) -> String {
     let other = one_of.iter().map(|it| it.get_name()).find(|it| Some(*it) != default.as_deref());
     match (option, &*value, other) {
         (_, _, Some(other)) if arg.get_action().takes_values() => other.into(),
-        ("sink" | "pass", ..) => "http://h:1/p".into(),
+        ("sink" | "forward-unsupported", ..) => "http://h:1/p".into(),
         ("store", ..) => "postgres://u@h/d".into(),
         ("whole", ..) => "s=ms".into(),
         ("exponential", ..) => "1,2".into(),
-        ("most-behind", ..) => "7h".into(),
+        ("max-age", ..) => "7h".into(),
         (_, "ADDRESS", _) => "127.0.0.1:1".into(),
         (_, "TIME", _) => "7h".into(),
         (_, "BYTES", _) => "65MiB".into(),
@@ -56,10 +56,6 @@ fn parsed(words: &[&str]) -> Result<Parsed, String> {
     })
 }
 
-fn of_serve(parsed: &Parsed) -> Values {
-    values(parsed.matches.subcommand().unwrap().1)
-}
-
 #[test]
 fn a_file_may_have_each_option_once() {
     let folder = tempfile::tempdir().unwrap();
@@ -69,7 +65,7 @@ fn a_file_may_have_each_option_once() {
     let path = path.to_str().unwrap();
     let parsed = parsed(&["totxegun", "serve", "--config", path]).unwrap();
     assert!(wanted.len() > 50, "{text}");
-    assert_eq!(of_serve(&parsed), wanted);
+    assert_eq!(values(&parsed), wanted);
     let shown = shown(&parsed).unwrap();
     let of_file = |line: &&str| line.ends_with(path);
     assert_eq!(shown.lines().filter(of_file).count(), wanted.len(), "{shown}");
@@ -87,7 +83,7 @@ fn the_command_line_comes_before_the_file() {
     let config = format!("--config={}", path.display());
     let words = ["totxegun", "serve", "--threads=3", &config, "--drop-attribute", "c"];
     let parsed = parsed(&words).unwrap();
-    let found = of_serve(&parsed);
+    let found = values(&parsed);
     for (option, wanted) in [("data", "d"), ("threads", "3"), ("drop-attribute", "c"), ("log-json", "true")] {
         assert_eq!(found[option], [wanted], "{option}");
     }
@@ -96,7 +92,7 @@ fn the_command_line_comes_before_the_file() {
     for line in [
         "threads = 3 # command line".to_string(),
         format!("data = \"d\" # {file}"),
-        "flush-every = \"10s\" # default".into(),
+        "flush-interval = \"10s\" # default".into(),
         "# store is not set".into(),
     ] {
         assert!(shown.lines().any(|it| it == line), "{line} in {shown}");
@@ -114,11 +110,11 @@ fn a_fault_is_said_with_its_file() {
         why.strip_prefix(&format!("{path}: ")).unwrap_or_else(|| panic!("{why}")).to_string()
     };
     assert_eq!(
-        said("flush-every = \"ten\""),
-        "`flush-every`: write a whole number and ms, s, m, h or d: 10s"
+        said("flush-interval = \"ten\""),
+        "`flush-interval`: write a whole number and ms, s, m, h or d: 10s"
     );
     assert!(said("[sink]\naddress = \"nats://h\"").starts_with("`sink.address`: no sink is known"));
-    assert!(said("durable = \"never\"").starts_with("`durable`: "));
+    assert!(said("durability = \"never\"").starts_with("`durability`: "));
     let none = parsed(&["totxegun", "serve", "--config", "/none"]).err().unwrap();
     assert!(none.starts_with("--config /none can't be read: "), "{none}");
 }

@@ -120,3 +120,25 @@ fn what_only_looks_or_ends_something_asks_for_no_block() {
     let close = || desk.close_round(0).then_some(()).ok_or(Refused::NoMemory);
     assert!(each_block_fails(false, close).0 > 0);
 }
+
+/// Run by the next test in a process of its own.
+#[test]
+#[ignore]
+fn finds_no_memory_for_a_name() {
+    if std::env::var_os("TOTXEGUN_TEST_NAME").is_none() {
+        return;
+    }
+    let by = crate::core::Names::new().unwrap();
+    assert_eq!(by.number_of(points(&["a".into()], 10, 1).as_bytes()), Ok(0));
+    memory::with_blocks(0, true, || crate::files::Names::text(&*by, 0));
+}
+
+#[test]
+fn a_process_without_memory_for_a_name_ends_and_says_what_helps() {
+    let mut this = std::process::Command::new(std::env::current_exe().unwrap());
+    this.args(["--exact", "--ignored", "--nocapture", "core::tests::blocks::finds_no_memory_for_a_name"]);
+    let ended = this.env("TOTXEGUN_TEST_NAME", "1").output().unwrap();
+    let said = String::from_utf8_lossy(&ended.stderr);
+    assert_eq!(ended.status.code(), Some(memory::NONE_LEFT), "{said}");
+    assert!(said.contains("give a greater --max-memory"), "{said}");
+}

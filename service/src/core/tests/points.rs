@@ -25,7 +25,9 @@ fn of(numbers: impl IntoIterator<Item = u64>, start: u64, value: i64) -> Points 
 
 fn put(core: &Arc<Core>, names: &Arc<Names>, sender: &str, points: Points) -> Result<u64, Refused> {
     let mut read = core.read_points(sender.into(), points, names.clone(), 1)?;
-    core.lock().admit(&mut read)?;
+    let mut book = core.lock();
+    book.admit(&mut read)?;
+    book.note_recent(&read, &[]);
     Ok(read.post.foreign - 1)
 }
 
@@ -370,19 +372,19 @@ fn what_went_by_ids_of_an_earlier_numbering_is_told_once_more() {
     let core = Core::new(1).unwrap();
     let by = named(&names("s", 2));
     let told = |numbering| {
-        let (recents, unknown) = core.lock().changed_recents().by_series(numbering);
-        ((recents.by_id.len(), recents.by_digest.len()), unknown)
+        let noted = core.lock().changed_recents().by_series(numbering);
+        ((noted.recents.by_id.len(), noted.recents.by_digest.len()), noted)
     };
     assert_eq!(put(&core, &by, "A", of(0..2, 10, 5)), Ok(0));
-    let (found, unknown) = told(7);
+    let (found, noted) = told(7);
     assert_eq!(found, (0, 2));
-    core.lock().note_ids(7, unknown, vec![Some(3), Some(4)]);
+    core.lock().note_ids(7, noted, vec![Some(3), Some(4)]);
     assert_eq!(put(&core, &by, "A", of(0..1, 20, 5)), Ok(0));
-    let (found, unknown) = told(7);
+    let (found, noted) = told(7);
     assert_eq!(found, (1, 0));
-    core.lock().note_ids(8, unknown, Vec::new());
-    let (found, unknown) = told(8);
+    core.lock().note_ids(8, noted, Vec::new());
+    let (found, noted) = told(8);
     assert_eq!(found, (0, 1), "by the digest of its key");
-    core.lock().note_ids(8, unknown, vec![Some(5)]);
+    core.lock().note_ids(8, noted, vec![Some(5)]);
     assert_eq!(told(8).0, (0, 0));
 }

@@ -69,7 +69,6 @@ async fn the_next_owner_has_what_was_durable() {
     outbox.quarantine("B").unwrap();
     let (journal, outbox, dead) = open_of(store.take());
     assert_eq!((outbox.journal(), texts(&journal, 2)), (2, vec!["two".to_string()]));
-    outbox.owners_are_known(); // as the keeper says once it has begun
     let (waiting, body) = outbox.first().await.unwrap();
     assert_eq!((waiting.number, body), (1, request(5)));
     assert_eq!((outbox.epoch().as_str(), outbox.quarantined().len()), (EPOCH, 0));

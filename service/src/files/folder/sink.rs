@@ -1,14 +1,14 @@
 //! Which sink the folder's requests go to.
 
-use super::version::is_hexadecimal;
 use super::{locked, Fault, Folder};
+use serde::{Deserialize, Serialize};
 use std::fmt::{Display, Formatter};
 
 /// How many digits of an id are shown.
 const SHOWN: usize = 8;
 
 /// A sink as a folder remembers it.
-#[derive(Clone, Debug, PartialEq, Eq)]
+#[derive(Clone, Debug, PartialEq, Eq, Serialize, Deserialize)]
 pub struct KnownSink {
     /// `sqlite`, `postgres` or `otlp`.
     pub kind: String,
@@ -44,27 +44,17 @@ impl KnownSink {
         }
     }
 
-    /// As the file `version`, and a store, has it.
-    pub(crate) fn line(&self) -> String {
-        let id = self.id.as_deref().unwrap_or("-");
-        format!("sink {id} {} {}\n", self.kind, self.address)
+    /// As a store has it.
+    pub(crate) fn text(&self) -> serde_json::Result<String> {
+        serde_json::to_string(self)
     }
 
-    /// Of such a line.
-    pub(crate) fn of_line(line: &str) -> Option<KnownSink> {
-        KnownSink::read(line.strip_prefix("sink ")?.strip_suffix('\n')?)
-    }
-
-    /// Of what follows `sink `.
-    pub(super) fn read(line: &str) -> Option<KnownSink> {
-        let (id, rest) = line.split_once(' ')?;
-        let (kind, address) = rest.split_once(' ')?;
-        let is_id = !id.is_empty() && is_hexadecimal(id);
-        if !(id == "-" || is_id) || kind.is_empty() || address.is_empty() {
-            return None;
+    /// Of such a text; none where it is empty.
+    pub(crate) fn of_text(text: &str) -> serde_json::Result<Option<KnownSink>> {
+        match text {
+            "" => Ok(None),
+            text => serde_json::from_str(text).map(Some),
         }
-        let id = is_id.then_some(id);
-        Some(KnownSink::new(kind, address).with_id(id))
     }
 }
 

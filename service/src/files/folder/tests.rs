@@ -101,13 +101,13 @@ fn a_copy_whose_lock_has_the_same_inode_is_told_too() {
         return; // this file system does not know it
     };
     drop(folder);
-    let born = format!("born {born}\n");
-    assert!(text().ends_with(&born), "{}", text());
+    let born = format!("\"born\":{born}");
+    assert!(text().contains(&born), "{}", text());
     assert_eq!(open(place.path()).unwrap().epoch(), drawn);
-    std::fs::write(&version, text().replace(&born, "born 5\n")).unwrap();
+    std::fs::write(&version, text().replace(&born, "\"born\":5")).unwrap();
     let copy = open(place.path()).unwrap();
     assert_ne!(copy.epoch(), drawn);
-    assert!(text().ends_with(&born), "{}", text());
+    assert!(text().contains(&born), "{}", text());
     // Most file systems give this one's inode to the next file.
     let drawn = copy.epoch();
     drop(copy);
@@ -150,21 +150,26 @@ fn another_or_missing_version_is_refused_by_name() {
     let version = place.path().join("version");
     let text = std::fs::read_to_string(&version).unwrap();
     let refused = || open(place.path()).err().unwrap().to_string();
-    for number in [0, 1, 2, 4] {
-        std::fs::write(&version, text.replacen("totxegun 3", &format!("totxegun {number}"), 1)).unwrap();
+    for number in [0, 2, 3] {
+        let of = |number| format!("\"totxegun\":{number}");
+        std::fs::write(&version, text.replacen(&of(1), &of(number), 1)).unwrap();
         let why = refused();
         assert!(
             why.contains(&format!("of format version {number}")) && why.contains("another --data"),
             "{why}"
         );
     }
+    for number in [1, 3] {
+        std::fs::write(&version, format!("totxegun {number}\nepoch 0123456789abcdef\nlock 1\n")).unwrap();
+        let why = refused();
+        assert!(why.contains("an earlier build") && why.contains("another --data"), "{why}");
+    }
     for wrong in [
         "",
-        "totxegun\n",
-        "totxegun 3\nepoch 12\nlock 1\n",
-        "totxegun 3\nepoch 0123456789abcdef\n",
-        "totxegun 3\nepoch 0123456789abcdef\nlock 1\nbegun x\n",
-        "totxegun 3\nepoch 0123456789abcdef\nlock 1\nsink x\n",
+        r#"{"totxegun":1,"epoch":"12","lock":{"inode":1}}"#,
+        r#"{"totxegun":1,"epoch":"0123456789abcdef"}"#,
+        r#"{"totxegun":1,"epoch":"0123456789abcdef","lock":{"inode":1},"begun":"x"}"#,
+        r#"{"totxegun":1,"epoch":"0123456789abcdef","lock":{"inode":1},"sink":"x"}"#,
     ] {
         std::fs::write(&version, wrong).unwrap();
         assert!(refused().contains("put a copy"), "{}", refused());
@@ -185,28 +190,10 @@ fn the_journal_goes_on_behind_what_the_outbox_knows() {
     // Its first start was killed before it had noted what it has begun.
     let version = place.path().join("version");
     let text = std::fs::read_to_string(&version).unwrap();
-    std::fs::write(&version, text.replace("begun 1\n", "")).unwrap();
+    std::fs::write(&version, text.replace("\"begun\":1", "\"begun\":null")).unwrap();
     let folder = open(place.path()).unwrap();
     let (journal, _outbox) = folder.slot().unwrap();
     assert_eq!(journal.turn().0, 10);
-}
-
-#[test]
-fn a_folder_has_one_slot_and_another_is_refused_by_name() {
-    let place = tempfile::tempdir().unwrap();
-    drop(open(place.path()).unwrap().slot().unwrap());
-    for other in ["slot-1", "slot-", "slot-01"] {
-        let other = place.path().join(other);
-        std::fs::create_dir(&other).unwrap();
-        for why in [open(place.path()).map(drop), Folder::check_usable(place.path())].map(Result::unwrap_err)
-        {
-            let wanted =
-                format!("{} is no part of a folder, which has slot-0 alone: move it out", other.display());
-            assert!(why.to_string().contains(&wanted), "{why}");
-        }
-        std::fs::remove_dir(&other).unwrap();
-    }
-    open(place.path()).unwrap();
 }
 
 #[test]

@@ -1,18 +1,26 @@
 //! What the file `version` says.
 
 use super::{io_fault, Fault, FolderFault, KnownSink};
+use serde::{Deserialize, Serialize};
 use std::fs::File;
 use std::os::unix::fs::MetadataExt;
 use std::path::Path;
 use std::time::UNIX_EPOCH;
 
-/// Of the folder: which files there are, and where. 1 and 2 stood for other forms.
-const VERSION: u32 = 3;
-const UNREADABLE: &str = "has no epoch, no inode of the lock, or says otherwise what was begun or which sink it has: put a copy of this file in its place";
+/// Of the folder: which files there are, and where.
+const VERSION: u32 = 1;
+const UNREADABLE: &str =
+    "is no version of a folder of totxegun, or was changed: put a copy of this file in its place";
+/// How each version began when it was lines.
+const LINES: &[u8] = b"totxegun ";
+const OF_LINES: &str =
+    "is of an earlier build of totxegun, which wrote lines here, and this one reads JSON alone: start the totxegun that wrote it, or \
+     give another --data";
 
-/// Its lines.
-#[derive(Clone, Default)]
+/// One object of JSON.
+#[derive(Clone, Serialize, Deserialize)]
 pub struct Version {
+    totxegun: u32,
     pub epoch: String,
     pub lock: Identity,
     /// The journal's segment that the last start has begun: so far the slot was made, durably.
@@ -22,19 +30,26 @@ pub struct Version {
     pub moved: Option<String>,
 }
 
+/// Of any version.
+#[derive(Deserialize)]
+struct OfAny {
+    totxegun: u32,
+}
+
 /// By which a file is told from its copies.
-#[derive(Clone, Copy, Default)]
+#[derive(Clone, Copy, Default, Serialize, Deserialize)]
 pub struct Identity {
     pub inode: u64,
     /// In nanoseconds since 1970. No copy of a file gets it. None if the file system does not know it.
-    pub born: Option<u128>,
+    pub born: Option<u64>,
 }
 
 impl Identity {
     pub fn of(file: &File) -> std::io::Result<Identity> {
         let about = file.metadata()?;
         let born = about.created().ok().and_then(|at| at.duration_since(UNIX_EPOCH).ok());
-        Ok(Identity { inode: about.ino(), born: born.map(|since| since.as_nanos()) })
+        let born = born.and_then(|since| u64::try_from(since.as_nanos()).ok());
+        Ok(Identity { inode: about.ino(), born })
     }
 
     pub fn may_be(self, other: Identity) -> bool {
@@ -43,39 +58,35 @@ impl Identity {
     }
 }
 
-impl Version {
-    pub fn text(&self) -> String {
-        let Version { epoch, lock, begun, sink, moved } = self;
-        let first = format!("totxegun {VERSION}\nepoch {epoch}\nlock {}\n", lock.inode);
-        let born = lock.born.map(|born| format!("born {born}\n"));
-        let begun = begun.map(|segment| format!("begun {segment}\n"));
-        let sink = sink.as_ref().map(KnownSink::line);
-        let moved = moved.as_ref().map(|store| format!("moved {store}\n"));
-        let lines = [born, begun, sink, moved].into_iter().flatten();
-        first + &lines.collect::<String>()
+impl Default for Version {
+    fn default() -> Version {
+        let (epoch, lock) = (String::new(), Identity::default());
+        Version { totxegun: VERSION, epoch, lock, begun: None, sink: None, moved: None }
     }
+}
 
+impl Version {
     pub fn read(folder: &Path) -> Result<Option<Version>, Fault> {
         let path = folder.join("version");
         let text = match std::fs::read(&path) {
             Err(error) if error.kind() == std::io::ErrorKind::NotFound => return Ok(None),
             text => text.map_err(io_fault(&path))?,
         };
-        let text = String::from_utf8_lossy(&text);
-        let first = text.lines().next();
-        let number: Option<u32> = first.and_then(|line| line.strip_prefix("totxegun ")?.parse().ok());
-        let what = match number {
-            Some(VERSION) => match Version::of(&text) {
-                Some(version) => return Ok(Some(version)),
-                None => UNREADABLE.into(),
-            },
-            Some(number) => format!(
+        let of_any = serde_json::from_slice(&text).map(|OfAny { totxegun }| totxegun);
+        let what = match (of_any, serde_json::from_slice::<Version>(&text)) {
+            (Ok(VERSION), Ok(version)) if version.has_epoch() => return Ok(Some(version)),
+            (Ok(number), _) if number != VERSION => format!(
                 "the folder is of format version {number}, and this totxegun reads {VERSION} alone: start the totxegun that wrote it, \
                  or give another --data"
             ),
-            _ => "is no version of a folder of totxegun: put a copy of this file in its place".into(),
+            _ if text.starts_with(LINES) => OF_LINES.into(),
+            _ => UNREADABLE.into(),
         };
         Err(Fault::Damaged { path, at: 0, what })
+    }
+
+    fn has_epoch(&self) -> bool {
+        self.epoch.len() == 16 && self.epoch.bytes().all(|byte| byte.is_ascii_hexdigit())
     }
 
     pub fn check_here(&self, path: &Path) -> Result<(), FolderFault> {
@@ -85,21 +96,4 @@ impl Version {
             Some(store) => Err(FolderFault::Moved { path: path.into(), epoch: epoch.clone(), store }),
         }
     }
-
-    /// By the lines behind the first.
-    fn of(text: &str) -> Option<Version> {
-        let line = |name: &str| text.lines().find_map(|line| line.strip_prefix(name));
-        let epoch = line("epoch ").filter(|epoch| epoch.len() == 16 && is_hexadecimal(epoch))?;
-        let inode = line("lock ")?.parse().ok()?;
-        let born = line("born ").and_then(|born| born.parse().ok());
-        let begun = line("begun ").map_or(Some(None), |segment| segment.parse().ok().map(Some))?;
-        let sink = line("sink ").map_or(Some(None), |line| KnownSink::read(line).map(Some))?;
-        let moved = line("moved ").map(String::from);
-        Some(Version { epoch: epoch.into(), lock: Identity { inode, born }, begun, sink, moved })
-    }
-}
-
-/// Each of its characters.
-pub(super) fn is_hexadecimal(text: &str) -> bool {
-    text.bytes().all(|byte| byte.is_ascii_hexdigit())
 }

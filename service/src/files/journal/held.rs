@@ -5,12 +5,12 @@
 //! posts are replayed, in one record: a move before a commit that does not come counts for nothing, since the segments
 //! still have these posts, and a sender whose points were flushed is in the next segment's record no more.
 
-use super::name_records::NameWriter;
 use super::reading::Each;
 use super::record::{self, Posts, Wanted};
 use super::{locked, Journal, Post, Replayed, Shared, HELD};
 use crate::files::disk::{io_fault, Disk, File};
 use crate::files::records::{self, Next, Reader, Which};
+use crate::files::text_row::TextRow;
 use crate::files::{Fault, Lost};
 use bytes::Bytes;
 use serde::{Deserialize, Serialize};
@@ -216,7 +216,7 @@ struct Writer {
     waiting: Vec<u8>,
     /// What numbers stand for in what this one wrote.
     said: HashMap<u64, Bytes>,
-    names: NameWriter,
+    names: TextRow,
 }
 
 impl<'a> Moving<'a> {
@@ -259,7 +259,7 @@ impl<'a> Moving<'a> {
                 (disk.create_anew(&path)?, 0, records::header(Which::Held, 0))
             }
         };
-        Ok(Writer { file, path, at, waiting, said: HashMap::new(), names: NameWriter::default() })
+        Ok(Writer { file, path, at, waiting, said: HashMap::new(), names: TextRow::default() })
     }
 
     fn sync(&mut self) -> Result<(), Fault> {
@@ -287,7 +287,7 @@ impl Writer {
                 continue; // what is read has names for all
             };
             if self.said.get(&number) != Some(text) {
-                self.names.put(&mut self.waiting, number, text.clone());
+                record::put_name(&mut self.waiting, &mut self.names, number, text);
                 self.said.insert(number, text.clone());
             }
         }

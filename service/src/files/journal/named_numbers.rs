@@ -1,15 +1,16 @@
 //! Which names a segment has said.
 
 use super::by_number::NumberSet;
-use super::name_records::NameWriter;
 use super::post::{Names, Points};
+use super::record;
+use crate::files::text_row::TextRow;
 
 /// The numbers that a segment has named.
 #[derive(Default)]
 pub(super) struct NamedNumbers {
     generation: u64,
     numbers: NumberSet,
-    writer: NameWriter,
+    said: TextRow,
 }
 
 impl NamedNumbers {
@@ -22,7 +23,7 @@ impl NamedNumbers {
         let mut records = Vec::new();
         for number in points.numbers() {
             if self.numbers.insert(number) {
-                self.writer.put(&mut records, number, names.text(number));
+                record::put_name(&mut records, &mut self.said, number, &names.text(number));
             }
         }
         records

@@ -67,7 +67,7 @@ pub(super) fn read_with_runs(mut bytes: &[u8]) -> Option<Points> {
     Some(points)
 }
 
-pub(super) fn put_number(out: &mut Vec<u8>, mut number: u64) {
+pub(in crate::files) fn put_number(out: &mut Vec<u8>, mut number: u64) {
     while number >= LAST {
         out.push(MORE | number as u8);
         number >>= 7;
@@ -76,7 +76,7 @@ pub(super) fn put_number(out: &mut Vec<u8>, mut number: u64) {
 }
 
 /// Takes a number off the front. `None` also where it is longer than it is written, or more than 64 bits.
-pub(super) fn take_number(bytes: &mut &[u8]) -> Option<u64> {
+pub(in crate::files) fn take_number(bytes: &mut &[u8]) -> Option<u64> {
     if let [byte @ FIRST..MORE, rest @ ..] = bytes {
         let number = u64::from(*byte - FIRST);
         *bytes = rest;

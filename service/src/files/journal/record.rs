@@ -1,9 +1,9 @@
 //! Posts as records, and records as posts.
 
 use super::by_number::NumberSet;
-use super::name_records::NameReader;
 use super::post::{Body, Points, Post, Replayed};
-use super::{packed, NAME, NAME_AFTER, POINTS, POST, RUNS};
+use super::{packed, NAME, POINTS, POST, RUNS};
+use crate::files::text_row::TextRow;
 use crate::files::{records, torn_tail};
 use bytes::Bytes;
 
@@ -30,6 +30,21 @@ pub(super) fn put(out: &mut Vec<u8>, since: u64, post: &Post) {
     }
 }
 
+/// Appends the record of a name, behind those of a row.
+pub(super) fn put_name(out: &mut Vec<u8>, names: &mut TextRow, number: u64, text: &[u8]) {
+    let mut name = Vec::new();
+    packed::put_number(&mut name, number);
+    names.put(&mut name, text);
+    records::put(out, NAME, &[&name]);
+}
+
+/// The number and the text that such a record says.
+fn name(mut bytes: &[u8], names: &mut TextRow) -> Option<(u64, Bytes)> {
+    let number = packed::take_number(&mut bytes)?;
+    let text = Bytes::copy_from_slice(names.take(&mut bytes)?);
+    bytes.is_empty().then_some((number, text))
+}
+
 /// When a post was appended, by its record; `None` where it is none.
 pub(super) fn since(kind: u8, mut bytes: &[u8]) -> Option<u64> {
     match kind {
@@ -54,20 +69,20 @@ pub(super) struct Posts {
     named: Vec<(u64, Bytes)>,
     /// The numbers that the file has named.
     known: NumberSet,
-    names: NameReader,
+    names: TextRow,
 }
 
 impl Posts {
     pub fn new(wanted: Wanted) -> Posts {
-        Posts { wanted, named: Vec::new(), known: NumberSet::default(), names: NameReader::default() }
+        Posts { wanted, named: Vec::new(), known: NumberSet::default(), names: TextRow::default() }
     }
 
     /// The post of a record, and when it was appended; none where it says a name. The error is what is wrong with it.
     pub fn read(&mut self, kind: u8, bytes: Vec<u8>) -> Result<Option<(u64, Replayed)>, &'static str> {
         let bytes = Bytes::from(bytes);
         let (since, post) = match kind {
-            NAME | NAME_AFTER => {
-                let name = self.names.read(kind, &bytes).ok_or(NO_POST)?;
+            NAME => {
+                let name = name(&bytes, &mut self.names).ok_or(NO_POST)?;
                 if self.wanted == Wanted::All {
                     self.known.insert(name.0);
                 }

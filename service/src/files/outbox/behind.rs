@@ -6,15 +6,12 @@ use crate::files::disk::Disk;
 use crate::files::locked;
 use crate::work::blocking;
 use std::path::{Path, PathBuf};
-use std::sync::atomic::Ordering::SeqCst;
 
 impl Outbox {
     /// Those behind the first, by their numbers: so many, of so many bytes together. One that can't be read ends them; that is
     /// told once it is the first.
     pub async fn behind_first(&self, most: usize, bytes: usize) -> Vec<(u64, Vec<u8>)> {
-        let mut batches = locked(&self.state).of_one_epoch(most);
-        let without_owners = self.without_owners.load(SeqCst);
-        batches.retain(|batch| batch.first < without_owners);
+        let batches = locked(&self.state).of_one_epoch(most);
         let (disk, folder) = (self.disk.clone(), self.folder.clone());
         blocking(move || read(&disk, &folder, batches, most, bytes)).await
     }

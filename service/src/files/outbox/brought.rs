@@ -85,6 +85,7 @@ impl Outbox {
                 journal: state.facts.journal,
                 ends: Vec::new(),
                 new: Keys::default(),
+                owners: Vec::new(),
                 recent: Vec::new(),
             }
         };

@@ -23,13 +23,14 @@ pub enum Change {
         number: u64,
         length: u64,
     },
-    /// Series by their ids.
-    Own(Vec<(u32, String)>),
     Quarantine(String),
     Lift(String),
     Forget(Vec<u32>),
     Beside(Vec<UnitOfMetric>),
 }
+
+/// Of each series who posts it, where that is known.
+pub type Owners = Vec<Option<Arc<str>>>;
 
 /// What one checkpoint flushed.
 #[derive(Debug)]
@@ -46,6 +47,8 @@ pub struct Group {
     pub ends: Vec<End>,
     /// The keys of those that are new, which have the next ids: the last of these.
     pub new: Keys,
+    /// Who posts each of these.
+    pub owners: Owners,
     /// What posts had last of series, by their ids: also of those that are held, and so in no group yet.
     pub recent: Vec<(u32, Recent)>,
 }

@@ -49,9 +49,6 @@ impl Outbox {
         let segment = Segment::create(disk, folder, Which::Outbox, number, Ahead::Nothing, None)?;
         // What was read is durable.
         let settled = AtomicU64::new(state.facts.next);
-        // A kill may have come between the last commit and the owners of its series: the keeper's begin finds them.
-        let are_known = state.series.iter().all(|(_, known)| known.series.owner.is_some());
-        let without_owners = if are_known { u64::MAX } else { 0 };
         Ok(Outbox {
             disk: disk.clone(),
             folder: folder.into(),
@@ -62,7 +59,6 @@ impl Outbox {
             state: Mutex::new(state),
             arrived: Notify::new(),
             settled,
-            without_owners: AtomicU64::new(without_owners),
             ended,
             dropped,
             stuck: Mutex::new(None),

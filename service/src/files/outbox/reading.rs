@@ -5,7 +5,7 @@
 
 use super::changes::{Change, Group};
 use super::parts;
-use super::rows::{self, GroupHead};
+use super::rows::{self, EndsRead, GroupHead};
 use super::snapshot::Snapshot;
 use super::state::{Batch, State};
 use super::table::{Heard, Table};
@@ -161,7 +161,7 @@ impl Reading {
         let Items::Whole { journal, ends, from, to } = items else {
             return Err(wrong());
         };
-        let (ends, new, recent) = rows::ends_of(&ends, series).ok_or_else(wrong)?;
+        let EndsRead { ends, new, owners, recent } = rows::ends_of(&ends, series).ok_or_else(wrong)?;
         let group = Group {
             first: head.first,
             epoch: head.epoch.as_str().into(),
@@ -170,6 +170,7 @@ impl Reading {
             journal,
             ends,
             new,
+            owners,
             recent,
         };
         Ok(Change::Group { group, count: head.count, segment: self.number, items: from..to })

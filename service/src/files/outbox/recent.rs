@@ -1,10 +1,11 @@
-//! What posts had last of a series, by digests: so a repeat is known as one.
+//! What posts had last of a series, by digests, so that a repeat is known as one; and of a new one who posts it.
 //!
 //! A digest decides of nothing that is added: it is looked at only after the book has refused a point as out of order. Nobody
 //! gains anything by two points of one digest: who sends both hides a late point of a series of his own from himself.
 
 use crate::otlp::series::Digest;
 use std::collections::HashMap;
+use std::sync::Arc;
 
 /// Of a series' points in one post, one after the other; nothing where there is none. It has 48 bits: two of them and a number of
 /// 32 take 16 bytes.
@@ -82,13 +83,21 @@ impl Recent {
 /// How many posts are known of a series.
 pub const POSTS_KNOWN: usize = 2;
 
+/// What posts say of a series that may be in no group yet.
+#[derive(Clone, Debug, Default, PartialEq, Eq)]
+pub struct Noted {
+    /// Who posts it, where that is known.
+    pub owner: Option<Arc<str>>,
+    pub recent: Recent,
+}
+
 /// Of series that posts had points of, as it was when a group was taken.
 #[derive(Clone, Debug, Default)]
 pub struct Recents {
     /// Of this numbering are the ids.
     pub numbering: u64,
     pub by_id: Vec<(u32, Recent)>,
-    pub by_digest: HashMap<Digest, Recent>,
+    pub by_digest: HashMap<Digest, Noted>,
 }
 
 #[cfg(test)]

@@ -7,16 +7,15 @@
 //! | 18 item | number (u64), packed body |
 //! | 19 commit, behind the items of its group | number of its first item, of items, the journal's segment (u64 each), packed `Ends` |
 //! | 20 ack | number (u64) |
-//! | 21 owners | packed `[[id, owner], ..]` |
-//! | 22 quarantine, 23 lift | the sender's name |
-//! | 24 forget | packed `[id, ..]` |
-//! | 25 beside | packed `[[metric, unit], ..]` |
-//! | 26 part | the first bytes of the snapshot or the commit behind it, where that is longer than a record (`parts`) |
+//! | 21 quarantine, 22 lift | the sender's name |
+//! | 23 forget | packed `[id, ..]` |
+//! | 24 beside | packed `[[metric, unit], ..]` |
+//! | 25 part | the first bytes of the snapshot or the commit behind it, where that is longer than a record (`parts`) |
 //!
 //! Packed is deflated; but bodies it is JSON. A series has the id of the snapshot, or the next free one from the
 //! commit that first has it.
 
-use super::changes::{Change, End, Group};
+use super::changes::{Change, End, Group, Owners};
 use super::keys::{each_part, Keys};
 use super::parts::put_long;
 use super::snapshot::{RecentRow, RunRow};
@@ -37,18 +36,18 @@ use std::collections::HashMap;
 use std::io::{self, BufWriter, Read, Write};
 use std::ops::Range;
 use std::path::Path;
+use std::sync::Arc;
 
 pub const SNAPSHOT: u8 = OWN;
 pub const GROUP: u8 = OWN + 1;
 pub const ITEM: u8 = OWN + 2;
 pub const COMMIT: u8 = OWN + 3;
 pub const ACK: u8 = OWN + 4;
-pub const OWNERS: u8 = OWN + 5;
-pub const QUARANTINE: u8 = OWN + 6;
-pub const LIFT: u8 = OWN + 7;
-pub const FORGET: u8 = OWN + 8;
-pub const BESIDE: u8 = OWN + 9;
-pub const PART: u8 = OWN + 10;
+pub const QUARANTINE: u8 = OWN + 5;
+pub const LIFT: u8 = OWN + 6;
+pub const FORGET: u8 = OWN + 7;
+pub const BESIDE: u8 = OWN + 8;
+pub const PART: u8 = OWN + 9;
 
 /// How much is done to pack.
 const LEVEL: u32 = 5;
@@ -65,21 +64,20 @@ const MOST_AT_ONCE: usize = if cfg!(test) { 64 << 10 } else { 256 << 20 };
 struct Ends<N> {
     /// Id and frontier.
     known: Vec<(u32, u64)>,
-    /// Key and frontier of those that get the next ids.
+    /// Key, frontier and owner of those that get the next ids.
     new: N,
-    #[serde(default)]
     runs: Vec<RunRow>,
-    #[serde(default)]
     recent: Vec<RecentRow>,
 }
 
 /// Rows of new series, written one by one: their keys are long.
-struct NewRows<'g>(&'g Texts, &'g [End]);
+struct NewRows<'g>(&'g Texts, &'g [End], &'g [Option<Arc<str>>]);
 
 #[derive(Default)]
 struct NewRead {
     keys: Keys,
     ends: Vec<u64>,
+    owners: Owners,
 }
 
 /// A group's records, and where in them its items are.
@@ -193,7 +191,7 @@ fn ends(group: &Group) -> Ends<NewRows<'_>> {
     let run = |end: &End| Some(RunRow::of(end.id, end.end, end.run.as_ref()?));
     Ends {
         known: known.iter().map(|end| (end.id, end.end)).collect(),
-        new: NewRows(&group.new.texts, new),
+        new: NewRows(&group.new.texts, new, &group.owners),
         runs: group.ends.iter().filter_map(run).collect(),
         recent: group.recent.iter().filter_map(|(id, recent)| RecentRow::of(*id, *recent)).collect(),
     }
@@ -201,18 +199,20 @@ fn ends(group: &Group) -> Ends<NewRows<'_>> {
 
 impl Serialize for NewRows<'_> {
     fn serialize<S: Serializer>(&self, serializer: S) -> Result<S::Ok, S::Error> {
-        let rows = self.0.all().zip(self.1);
-        serializer.collect_seq(rows.map(|(key, end)| (key, end.end)))
+        let rows = self.0.all().zip(self.1).zip(self.2);
+        serializer.collect_seq(rows.map(|((key, end), owner)| (key, end.end, owner.as_deref())))
     }
 }
 
 impl<'de> Deserialize<'de> for NewRead {
     fn deserialize<D: Deserializer<'de>>(deserializer: D) -> Result<NewRead, D::Error> {
         let mut new = NewRead::default();
-        let of = |row: (SeriesKey, u64)| row;
-        each_part(deserializer, of, |keys, ends| {
+        let of = |(key, end, owner): (SeriesKey, u64, Option<String>)| (key, (end, owner.map(Arc::from)));
+        each_part(deserializer, of, |keys, rows| {
+            let (ends, owners): (Vec<u64>, Vec<_>) = rows.into_iter().unzip();
             new.keys.append(keys);
             new.ends.extend(ends);
+            new.owners.extend(owners);
         })?;
         Ok(new)
     }
@@ -234,8 +234,13 @@ pub fn commit_of<'a>(mut bytes: &'a [u8], head: &GroupHead) -> Option<(u64, &'a 
     is_its.then_some((journal, *rest))
 }
 
-/// What a group did to series, the keys of those that are new, and what posts had last of some, by their ids.
-type EndsRead = (Vec<End>, Keys, Vec<(u32, Recent)>);
+/// As a `Group` has it.
+pub struct EndsRead {
+    pub ends: Vec<End>,
+    pub new: Keys,
+    pub owners: Owners,
+    pub recent: Vec<(u32, Recent)>,
+}
 
 /// What a group did, after all that these know.
 pub fn ends_of(bytes: &[u8], series: &Table) -> Option<EndsRead> {
@@ -248,9 +253,10 @@ pub fn ends_of(bytes: &[u8], series: &Table) -> Option<EndsRead> {
     };
     let are_known = known.iter().all(|(id, _)| series.at(*id).is_some());
     let new_ends = (series.next_id()..).zip(new.ends);
-    let all = known.into_iter().chain(new_ends).map(&mut of).collect();
+    let ends = known.into_iter().chain(new_ends).map(&mut of).collect();
     let recent = recent.into_iter().map(|row| (row.0, row.recent())).collect();
-    (are_known && runs.is_empty()).then_some((all, new.keys, recent))
+    let read = EndsRead { ends, new: new.keys, owners: new.owners, recent };
+    (are_known && runs.is_empty()).then_some(read)
 }
 
 /// The record of a change that is no group.
@@ -258,7 +264,6 @@ pub fn record(change: &Change) -> Vec<u8> {
     let (kind, bytes) = match change {
         Change::Group { .. } => return Vec::new(),
         Change::Acknowledge { number, .. } => (ACK, number.to_le_bytes().to_vec()),
-        Change::Own(owners) => (OWNERS, packed(owners)),
         Change::Quarantine(sender) => (QUARANTINE, sender.as_bytes().to_vec()),
         Change::Lift(sender) => (LIFT, sender.as_bytes().to_vec()),
         Change::Forget(ids) => (FORGET, packed(ids)),
@@ -274,10 +279,6 @@ pub fn change_of(kind: u8, bytes: &[u8], series: &Table) -> Option<Change> {
     let was_given = |id: &u32| *id < series.next_id();
     let name = || Some(std::str::from_utf8(bytes).ok()?.to_string());
     Some(match kind {
-        OWNERS => {
-            let rows: Vec<(u32, String)> = unpacked(bytes)?;
-            rows.iter().all(|(id, _)| was_given(id)).then_some(Change::Own(rows))?
-        }
         QUARANTINE => Change::Quarantine(name()?),
         LIFT => Change::Lift(name()?),
         FORGET => {

@@ -1,7 +1,5 @@
 //! What a segment begins with: all that the outbox knows, but its requests.
 
-use super::changes::UnitOfMetric;
-use super::epochs::Epochs;
 use super::keys::each_part;
 use super::parts::put_long;
 use super::rows::{packed_pieces, unpacked, PIECE, SNAPSHOT};
@@ -10,9 +8,8 @@ use super::table::{whole_seconds, Heard, KnownSeries, Table};
 use super::texts::{Texts, PART};
 use super::{PointsDigest, Recent, Series};
 use crate::otlp::series::SeriesKey;
-use crate::runs::{EndedRun, Forgotten, Point, Run, Since};
+use crate::runs::{EndedRun, Point, Run};
 use serde::{Deserialize, Deserializer, Serialize};
-use std::collections::BTreeSet;
 use std::ops::Range;
 use std::sync::Arc;
 
@@ -24,23 +21,13 @@ pub struct Snapshot {
     pub texts: Texts,
 }
 
-/// As it is written: `Facts`, series, runs and what posts had last of series.
+/// As it is written.
 #[derive(Deserialize)]
 struct Content {
-    epoch: String,
-    next: u64,
-    acknowledged: u64,
-    journal: u64,
-    quarantined: BTreeSet<String>,
-    series: Table,
-    since: Since,
+    facts: Facts,
     runs: Vec<RunRow>,
-    beside: BTreeSet<UnitOfMetric>,
-    forgotten: Forgotten,
-    #[serde(default)]
     recent: Vec<RecentRow>,
-    #[serde(default)]
-    epochs: Epochs,
+    series: Table,
 }
 
 /// A part of what is written.
@@ -101,25 +88,11 @@ impl Snapshot {
         let runs: Vec<RunRow> = (0..).zip(&self.series).filter_map(run).collect();
         let recent = |(id, series): (u32, &Series)| RecentRow::of(id, series.recent);
         let recent: Vec<RecentRow> = (0..).zip(&self.series).filter_map(recent).collect();
-        let Facts { epoch, next, acknowledged, journal, quarantined, since, beside, forgotten, epochs } =
-            &self.facts;
-        let ahead = format!(
-            r#"{{"epoch":{},"next":{next},"acknowledged":{acknowledged},"journal":{journal},"quarantined":{},"series":["#,
-            json(&&**epoch),
-            json(quarantined)
-        );
-        let behind = format!(
-            r#"],"since":{},"runs":{},"beside":{},"forgotten":{},"recent":{},"epochs":{}}}"#,
-            json(since),
-            json(&runs),
-            json(beside),
-            json(forgotten),
-            json(&recent),
-            json(epochs)
-        );
+        let (facts, runs, recent) = (json(&self.facts), json(&runs), json(&recent));
+        let ahead = format!(r#"{{"facts":{facts},"runs":{runs},"recent":{recent},"series":["#);
         let text = |text: &[u8]| Piece::Text(text.into());
-        let pieces = std::iter::once(text(ahead.as_bytes()));
-        let pieces = pieces.chain(self.parts()).chain(behind.as_bytes().chunks(PIECE).map(text));
+        let pieces = ahead.as_bytes().chunks(PIECE).map(text);
+        let pieces = pieces.chain(self.parts()).chain([text(b"]}")]);
         let mut out = Vec::new();
         put_long(&mut out, SNAPSHOT, &packed_pieces(pieces, |piece| self.written(piece)));
         out
@@ -147,18 +120,13 @@ impl Snapshot {
     }
 
     pub fn read(bytes: &[u8]) -> Option<State> {
-        let content: Content = unpacked(bytes)?;
-        let Content { next, acknowledged, journal, quarantined, since, beside, forgotten, epochs, .. } =
-            content;
-        let epoch = content.epoch.into();
-        let facts =
-            Facts { epoch, next, acknowledged, journal, quarantined, since, beside, forgotten, epochs };
-        let mut state = State { facts, series: content.series, ..State::default() };
-        for row in content.runs {
+        let Content { facts, runs, recent, series } = unpacked(bytes)?;
+        let mut state = State { facts, series, ..State::default() };
+        for row in runs {
             let series = &mut state.series.at_mut(row.0)?.series;
             series.run = Some(row.run(series.frontier));
         }
-        for row in content.recent {
+        for row in recent {
             state.series.at_mut(row.0)?.series.recent = row.recent();
         }
         Some(state)

@@ -8,6 +8,7 @@ use super::{Recent, Series, Waiting};
 use crate::files::{nanoseconds, seconds};
 use crate::otlp::series::{Digest, SeriesKey};
 use crate::runs::{Forgotten, Since};
+use serde::{Deserialize, Serialize};
 use std::collections::{BTreeSet, HashSet, VecDeque};
 use std::sync::Arc;
 use std::time::Duration;
@@ -37,11 +38,9 @@ impl Table {
 }
 
 impl KnownSeries {
-    /// One whose owner is unknown stays: the journal may still have its owner's posts. So does one that ends ahead of the clock:
-    /// else no run of it that begins before that would count.
+    /// One that ends ahead of the clock stays: else no run of it that begins before that would count.
     fn may_be_forgotten(&self, age: Age) -> bool {
-        self.series.owner.is_some()
-            && u64::from(self.series.seen) < age.before
+        u64::from(self.series.seen) < age.before
             && self.series.frontier / 1_000_000_000 < age.before
             && self.heard.is_so_long_ago(age.age)
     }
@@ -81,9 +80,10 @@ pub struct Front {
 }
 
 /// What is known beside series and requests.
-#[derive(Clone, Default)]
+#[derive(Clone, Default, Serialize, Deserialize)]
 pub struct Facts {
-    /// Of the groups to come.
+    /// Of the groups to come, which each start says.
+    #[serde(skip)]
     pub epoch: Arc<str>,
     pub next: u64,
     /// The sink has all up to this number.
@@ -150,14 +150,6 @@ impl State {
                 self.advance(group);
             }
             Change::Acknowledge { number, length } => self.acknowledge(number, length),
-            Change::Own(owners) => {
-                for (id, owner) in owners {
-                    let owner = self.series.shared(&owner);
-                    if let Some(known) = self.series.at_mut(id) {
-                        known.series.owner = Some(owner);
-                    }
-                }
-            }
             Change::Quarantine(sender) => drop(self.facts.quarantined.insert(sender)),
             Change::Lift(sender) => drop(self.facts.quarantined.remove(&sender)),
             Change::Forget(ids) => self.forget(&ids),
@@ -198,10 +190,12 @@ impl State {
 
     fn advance(&mut self, group: Group) {
         let (seen, heard) = (whole_seconds(group.since), group.heard);
-        let new = group.new.digests.iter().map(|_| {
-            let (frontier, owner, run, recent) = (0, None, None, Recent::default());
+        let new = group.owners.into_iter().map(|owner| {
+            let (frontier, run, recent) = (0, None, Recent::default());
+            let owner = owner.map(|owner| self.series.shared(&owner));
             KnownSeries { series: Series { frontier, owner, seen, run, recent }, heard }
         });
+        let new: Vec<KnownSeries> = new.collect();
         self.series.put_all(&group.new, new);
         for end in group.ends {
             let Some(known) = self.series.at_mut(end.id) else {

@@ -41,13 +41,23 @@ fn unit_of(metric: &str, unit: &str) -> UnitOfMetric {
 
 fn open_on(disk: &Disk, path: &Path, epoch: &str, longest: u64) -> Result<Outbox, Fault> {
     let free_space = Arc::new(FreeSpace::new(Path::new("/"))?);
-    let outbox = Outbox::read_with(disk, path, epoch, free_space, read_ends, longest)?.begun()?;
-    outbox.owners_are_known(); // as the keeper says once it has begun
-    Ok(outbox)
+    Outbox::read_with(disk, path, epoch, free_space, read_ends, longest)?.begun()
 }
 
 fn open(path: &Path) -> Outbox {
     open_on(&Disk::default(), path, "e", SEGMENT).unwrap()
+}
+
+/// Who posts which of the series.
+fn owned(owners: &[(&str, &str)]) -> Recents {
+    let noted = |owner: &str| Noted { owner: Some(owner.into()), ..Noted::default() };
+    let by_digest = owners.iter().map(|(key, owner)| (key_of(key).digest(), noted(owner)));
+    Recents { by_digest: by_digest.collect(), ..Recents::default() }
+}
+
+/// A group whose series have these owners.
+fn commit_owned(outbox: &Outbox, bodies: &[Vec<u8>], journal: u64, owners: &[(&str, &str)]) {
+    outbox.commit_with(bodies, journal, Runs::new(), &owned(owners)).unwrap();
 }
 
 /// As `kill -9` leaves it.
@@ -95,11 +105,10 @@ async fn groups_come_back_with_their_numbers_bytes_and_series() {
     let folder = tempfile::tempdir().unwrap();
     let outbox = open(folder.path());
     let bodies = [body(&[("a", 5), ("b", 7), ("a", 9)], "one"), body(&[("c", 3)], "two")];
-    outbox.commit(&bodies, 4).unwrap();
-    outbox
-        .own(HashMap::from([(key_of("a").digest(), "me".into()), (key_of("unknown").digest(), "you".into())]))
-        .unwrap();
-    outbox.commit(&[], 5).unwrap();
+    let owners = owned(&[("a", "me"), ("unknown", "you")]);
+    let committed = outbox.commit_with(&bodies, 4, Runs::new(), &owners).unwrap();
+    assert_eq!(committed.unowned, (2, Some(key_of("b"))), "these are in no post");
+    commit_owned(&outbox, &[], 5, &[("a", "another")]);
     assert_eq!((outbox.journal(), outbox.series_count(), outbox.waiting().0), (5, 3, 2));
     let before = view(&outbox);
     kill(outbox);
@@ -123,25 +132,6 @@ async fn groups_come_back_with_their_numbers_bytes_and_series() {
     tokio::time::sleep(Duration::from_millis(20)).await;
     late.commit(&bodies[1..], 7).unwrap();
     assert_eq!(first.await.unwrap(), 4);
-}
-
-/// A sink writes the owners down.
-#[tokio::test]
-async fn requests_wait_for_the_owners_of_their_series() {
-    let folder = tempfile::tempdir().unwrap();
-    let outbox = Arc::new(open(folder.path()));
-    let bodies = [body(&[("a", 5)], "one"), body(&[("b", 5)], "two")];
-    outbox.commit(&bodies[..1], 4).unwrap();
-    outbox.wait_for_owners();
-    outbox.commit(&bodies[1..], 5).unwrap();
-    assert!(outbox.behind_first(10, usize::MAX).await.is_empty());
-    assert_eq!(take(&outbox).await.0, 1);
-    let waits = outbox.clone();
-    let first = tokio::spawn(async move { waits.first().await.unwrap().0.number });
-    tokio::time::sleep(Duration::from_millis(20)).await;
-    assert!(!first.is_finished());
-    outbox.owners_are_known();
-    assert_eq!(first.await.unwrap(), 2);
 }
 
 #[tokio::test]
@@ -193,7 +183,6 @@ fn a_clock_that_is_set_forgets_no_series_of_this_run() {
     let folder = tempfile::tempdir().unwrap();
     let outbox = open(folder.path());
     outbox.commit(&[body(&[("a", 1)], "")], 2).unwrap();
-    outbox.own(HashMap::from([(key_of("a").digest(), "me".into())])).unwrap();
     let far_ahead = Age { before: u64::MAX, age: Duration::from_secs(3600) };
     assert_eq!(outbox.forget_of(far_ahead, &HashSet::new()).unwrap(), []);
     drop(outbox);
@@ -202,18 +191,16 @@ fn a_clock_that_is_set_forgets_no_series_of_this_run() {
 }
 
 #[test]
-fn a_series_without_an_owner_is_never_forgotten() {
+fn a_series_that_is_kept_is_not_forgotten() {
     let folder = tempfile::tempdir().unwrap();
     let outbox = open(folder.path());
-    outbox.commit(&[body(&[("a", 1), ("b", 1), ("c", 1)], "")], 2).unwrap();
-    let owner = |key| (key_of(key).digest(), "me".to_string());
-    outbox.own(HashMap::from([owner("a"), owner("b")])).unwrap();
+    outbox.commit(&[body(&[("a", 1), ("b", 1)], "")], 2).unwrap();
     assert_eq!(outbox.forget(Duration::MAX, &HashSet::new()).unwrap(), []);
     let keep = HashSet::from([key_of("b").digest()]);
     assert_eq!(outbox.forget_of(AT_ONCE, &keep).unwrap(), [key_of("a")]);
     drop(outbox);
     let outbox = open(folder.path());
-    assert_eq!(outbox.series_count(), 2);
+    assert_eq!(outbox.series_count(), 1);
     assert!(!outbox.series().contains_key(&key_of("a")));
 }
 
@@ -244,7 +231,7 @@ fn runs_of_a_group_last() {
         let outbox = open(path);
         let given = runs(&[("a", a.clone()), ("b", b.clone()), ("held", late.clone())]);
         let bodies = [body(&[("a", 10), ("b", 11), ("c", 12)], "")];
-        let saved = outbox.commit_with(&bodies, 2, given, &Recents::default()).unwrap();
+        let saved = outbox.commit_with(&bodies, 2, given, &Recents::default()).unwrap().runs;
         assert_eq!(saved, runs(&[("a", a.clone()), ("b", b.clone())]), "what the group has");
         // The book is ahead of the run: it has delta points.
         let late = runs(&[("a", late.clone())]);
@@ -271,8 +258,9 @@ fn what_posts_had_last_is_known_over_starts() {
     let digest = |number: u64| PointsDigest::from(number);
     let recent = |last: u64, before: u64| Recent([last, before].map(digest));
     let by_digest = |all: &[(&str, Recent)]| {
-        let by_digest = all.iter().map(|(key, recent)| (key_of(key).digest(), *recent)).collect();
-        Recents { by_digest, ..Recents::default() }
+        let noted = |recent| Noted { owner: None, recent };
+        let by_digest = all.iter().map(|(key, recent)| (key_of(key).digest(), noted(*recent)));
+        Recents { by_digest: by_digest.collect(), ..Recents::default() }
     };
     let found = |outbox: &Outbox| {
         ["a", "b", "c", "held"].map(|key| outbox.recent(&key_of(key).digest()).0.map(u64::from))
@@ -322,8 +310,6 @@ fn what_was_forgotten_is_known_by_when_it_ended() {
     let made = {
         let outbox = open(folder.path());
         outbox.commit(&[body(&[("a", 40), ("b", 70), ("c", 90)], "")], 2).unwrap();
-        let owners = ["a", "b", "c"].map(|key| (key_of(key).digest(), "A".to_string()));
-        outbox.own(owners.into()).unwrap();
         let keep = HashSet::from([key_of("c").digest()]);
         assert_eq!(outbox.forget_of(AT_ONCE, &keep).unwrap().len(), 2);
         outbox.since().made

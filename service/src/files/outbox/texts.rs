@@ -1,12 +1,10 @@
 //! The keys of series by their ids, packed: neighbours share most of what they say, so one takes some ten bytes in the place
 //! of some hundreds. They are read seldom: at a start, for a snapshot, and where an operator names series.
 //!
-//! Each is what it has beside the one before it, and this is deflated: by itself that looks back over 32 KiB alone, and a key
-//! may be longer.
+//! They are in a row (`text_row`), and this is deflated: by itself that looks back over 32 KiB alone, and a key may be longer.
 
-use super::rows::{deflated_fast, inflated, numbers};
-use crate::files::records::take_number;
-use crate::files::shared_ends;
+use super::rows::{deflated_fast, inflated};
+use crate::files::text_row::TextRow;
 use crate::otlp::series::SeriesKey;
 use crate::work::made_in_order;
 use std::sync::Arc;
@@ -128,27 +126,16 @@ pub fn begin_of(key: &SeriesKey) -> Box<[u8]> {
     bytes[..bytes.len().min(LOOKED_AT)].into()
 }
 
-/// Of each key with how many bytes of the one before it it begins, with how many it ends, how many are between, and these.
 fn packed(keys: &[SeriesKey]) -> Vec<u8> {
-    let (mut out, mut before) = (Vec::new(), &[][..]);
-    for key in keys.iter().map(|key| key.0.as_bytes()) {
-        let (begin, end) = shared_ends(before, key);
-        let own = &key[begin..key.len() - end];
-        out.extend(numbers([begin, end, own.len()].map(|number| number as u64)));
-        out.extend(own);
-        before = key;
-    }
+    let (mut row, mut out) = (TextRow::default(), Vec::new());
+    keys.iter().for_each(|key| row.put(&mut out, key.0.as_bytes()));
     deflated_fast(&out)
 }
 
 fn unpacked(mut rest: &[u8]) -> Option<Vec<SeriesKey>> {
-    let (mut keys, mut key) = (Vec::with_capacity(IN_BLOCK), Vec::new());
+    let (mut row, mut keys) = (TextRow::default(), Vec::with_capacity(IN_BLOCK));
     while !rest.is_empty() {
-        let mut number = || take_number(&mut rest).map(|number| number as usize);
-        let (begin, end, length) = (number()?, number()?, number()?);
-        let own = rest.split_off(..length)?;
-        key.splice(begin..key.len().checked_sub(end)?, own.iter().copied());
-        keys.push(SeriesKey(std::str::from_utf8(&key).ok()?.into()));
+        keys.push(SeriesKey(std::str::from_utf8(row.take(&mut rest)?).ok()?.into()));
     }
     Some(keys)
 }

@@ -1,6 +1,6 @@
 //! What is written to an outbox, and how: a change is a record first.
 
-use super::changes::{Change, End, Group};
+use super::changes::{Change, End, Group, Owners};
 use super::keys::Keys;
 use super::rows;
 use super::state::State;
@@ -14,6 +14,14 @@ use crate::otlp::series::{Digest, Digests, NotForwarded, SeriesKey};
 use std::collections::HashMap;
 use std::io;
 
+/// What came of a group.
+pub struct Committed {
+    /// Those of the runs whose series it has.
+    pub runs: Runs,
+    /// How many of its new series are of no post that was noted, and one of them: a fault of this program.
+    pub unowned: (usize, Option<SeriesKey>),
+}
+
 /// Whoever commits a group is who forgets series.
 const OTHER_SERIES: &str = "series were forgotten while it was read";
 
@@ -25,14 +33,14 @@ impl Outbox {
     }
 
     /// Makes a group durable, whole or not at all; with a drive once it is settled. Posts of the journal's segments before `journal` are in it or in earlier
-    /// ones. Of the runs those count whose series the group has: these are returned.
+    /// ones. Of the runs those count whose series the group has. What is noted of a series that is new here says whose it is.
     pub fn commit_with(
         &self,
         bodies: &[Vec<u8>],
         journal: u64,
         mut runs: Runs,
         recents: &Recents,
-    ) -> Result<Runs, Fault> {
+    ) -> Result<Committed, Fault> {
         let (mut ends, mut items) = (Ends::default(), Vec::new());
         for body in bodies {
             for (key, end) in (self.read_ends)(body).map_err(|error| self.unreadable(error))? {
@@ -46,8 +54,9 @@ impl Outbox {
         let group = {
             let state = locked(&self.state);
             let recent = ends.recent_by_id(recents, &state.series);
-            let by_id = ends.by_id(&runs, &state.series);
-            let (ends, new) = by_id.ok_or_else(|| self.unreadable(NotForwarded(OTHER_SERIES.into())))?;
+            let by_id = ends.by_id(&runs, recents, &state.series);
+            let (ends, new, owners) =
+                by_id.ok_or_else(|| self.unreadable(NotForwarded(OTHER_SERIES.into())))?;
             Group {
                 first: state.facts.next,
                 epoch: state.facts.epoch.clone(),
@@ -56,12 +65,14 @@ impl Outbox {
                 journal,
                 ends,
                 new,
+                owners,
                 recent,
             }
         };
+        let unowned = group.unowned();
         self.put_group(&mut writer, group, &items)?;
         self.arrived.notify_one();
-        Ok(runs)
+        Ok(Committed { runs, unowned })
     }
 
     /// Makes durable a group of these, which are packed.
@@ -81,16 +92,6 @@ impl Outbox {
     fn unreadable(&self, error: NotForwarded) -> Fault {
         let source = io::Error::new(io::ErrorKind::InvalidData, error.to_string());
         Fault::Io { path: self.folder.clone(), source }
-    }
-
-    /// Makes durable who owns series.
-    pub fn own(&self, owners: HashMap<Digest, String>) -> Result<(), Fault> {
-        self.change(|state| {
-            let by_id = |(digest, owner)| Some((state.series.id_of(&digest)?, owner));
-            let owners: Vec<_> = owners.into_iter().filter_map(by_id).collect();
-            (!owners.is_empty()).then_some(Change::Own(owners))
-        })
-        .map(drop)
     }
 
     pub fn quarantine(&self, sender: &str) -> Result<(), Fault> {
@@ -183,6 +184,15 @@ impl Outbox {
     }
 }
 
+impl Group {
+    fn unowned(&self) -> (usize, Option<SeriesKey>) {
+        let mut places = (0..).zip(&self.owners).filter(|(_, owner)| owner.is_none()).map(|(place, _)| place);
+        let first = places.next();
+        let key = self.new.texts.of(first.into_iter()).next();
+        (usize::from(first.is_some()) + places.count(), key)
+    }
+}
+
 /// Where the last points of series end.
 #[derive(Default)]
 struct Ends {
@@ -224,17 +234,17 @@ impl Ends {
     /// What posts had last of series that have an id, now or by this group.
     fn recent_by_id(&self, recents: &Recents, series: &Table) -> Vec<(u32, Recent)> {
         let new = |digest: &Digest| Some(series.next_id() + self.of.get(digest)?.1?);
-        let by_digest = recents.by_digest.iter().filter_map(|(digest, recent)| {
+        let by_digest = recents.by_digest.iter().filter_map(|(digest, noted)| {
             let id = series.id_of(digest).or_else(|| new(digest))?;
-            Some((id, *recent))
+            Some((id, noted.recent))
         });
         let has_ids = recents.numbering == series.numbering();
         let by_id = recents.by_id.iter().filter(|_| has_ids).map(|(id, recent)| (*id, *recent));
         by_id.chain(by_digest).collect()
     }
 
-    /// What they do to these series, and the keys of those that are new; none where other series are known than before.
-    fn by_id(self, runs: &Runs, series: &Table) -> Option<(Vec<End>, Keys)> {
+    /// What they do to these series, and the keys and owners of those that are new; none where other series are known than before.
+    fn by_id(self, runs: &Runs, recents: &Recents, series: &Table) -> Option<(Vec<End>, Keys, Owners)> {
         let mut all = Vec::with_capacity(self.of.len());
         let mut digests = vec![Digest::default(); self.new.count() as usize];
         for (digest, (end, new)) in self.of {
@@ -249,7 +259,9 @@ impl Ends {
             all.push(End { id, end, run: runs.get(&digest).cloned() });
         }
         all.sort_unstable_by_key(|end| end.id);
-        Some((all, Keys { texts: self.new, digests }))
+        let owner = |digest| recents.by_digest.get(digest)?.owner.clone();
+        let owners = digests.iter().map(owner).collect();
+        Some((all, Keys { texts: self.new, digests }, owners))
     }
 }
 

@@ -289,7 +289,7 @@ async fn who_proves_nothing_is_refused_where_its_series_are_to_be_its_own() {
 async fn what_has_too_long_series_is_told_so() {
     let budget = Budget::new(64 << 20);
     let reading = Arc::new(Reading { profile: Profile::AlsoCumulative, ..Reading::default() });
-    let (slots, metrics) = (Slots::one(Arc::new(WithoutRoom)), Arc::new(Metrics::new().unwrap()));
+    let (slots, metrics) = (Slots::one(Some(Arc::new(WithoutRoom))), Arc::new(Metrics::new().unwrap()));
     let intake = Intake::of(slots, Arc::new(()), reading, budget.clone(), metrics);
     let metric = r#"{"name":"m","sum":{"aggregationTemporality":2,"dataPoints":[]}}"#;
     let body = format!(r#"{{"resourceMetrics":[{{"scopeMetrics":[{{"metrics":[{metric}]}}]}}]}}"#);

@@ -120,13 +120,9 @@ impl Again {
         self.each.len().max(1)
     }
 
-    /// The points of each post of these, which are all: those of a post that is by itself.
-    pub fn posts_of<'p>(&'p self, all: &'p Points) -> impl Iterator<Item = &'p Points> {
-        let each = self.each.iter().filter_map(|post| match &post.body {
-            Body::Points(points) => Some(points),
-            Body::Text(_) => None,
-        });
-        each.chain(self.each.is_empty().then_some(all))
+    /// These, where there are several.
+    pub fn each_post(&self) -> &[Post] {
+        &self.each
     }
 
     /// Each by itself, where there are several: they are to be read.

@@ -33,11 +33,8 @@ impl Drop for Stop {
 }
 
 impl Priming {
-    /// Begins it, where there is a thread. None also where a series has no owner yet: the journal's posts say whose it is first.
+    /// Begins it, where there is a thread.
     pub fn begin(core: &Arc<Core>, outbox: &Arc<Outbox>, has_posts: bool) -> Option<Priming> {
-        if !outbox.without_owner().is_empty() {
-            return None;
-        }
         let (core, outbox, stop) = (core.clone(), outbox.clone(), Stop(Arc::default()));
         let stopped = stop.0.clone();
         let work = move || {
@@ -119,7 +116,7 @@ impl Part<'_> {
     }
 
     fn read(&self, core: &Core) -> Result<Vec<Read>, Unprimed> {
-        let read = |body: Vec<u8>| Ok(Read::of_body(core, self.owner.into(), body.into())?);
+        let read = |body: String| Ok(core.read(self.owner.into(), body.into())?);
         zeros(self.of.with_keys(self.series))?.into_iter().map(read).collect()
     }
 

@@ -1,6 +1,5 @@
 //! What primes.
 
-use super::*;
 use crate::core::{Core, Names};
 use crate::otlp::series::{request_of, zeros, SeriesKey, KINDS, VALUES};
 
@@ -20,7 +19,7 @@ fn what_primes_is_of_the_series_that_its_key_names() {
     let series = || keys.iter().map(|key| (SeriesKey(key.as_str().into()), 9));
     let (core, names) = (Core::new(1).unwrap(), Names::new().unwrap());
     for body in zeros(series()).unwrap() {
-        let mut read = Read::of_body(&core, "A".into(), body.into()).unwrap();
+        let mut read = core.read("A".into(), body.into()).unwrap();
         assert_eq!((read.points(), read.post.foreign, read.ends()), (keys.len() as u64, 0, Some((9, 9))));
         read.note(&names);
     }

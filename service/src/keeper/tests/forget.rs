@@ -64,7 +64,7 @@ async fn series_are_forgotten_where_there_are_too_many() {
     assert_eq!(refused(&post(&run, "C", &["held".into()], 30).await), "other writer: point 0");
     // Nobody is the owner of what was forgotten.
     assert_eq!(post(&run, "C", &names(8..9), 30).await, Outcome::taken(0));
-    for kind in ["reading", "replay", "owner"] {
+    for kind in ["replay", "owner"] {
         let faults = run.slot.metrics.faults.with_label_values(&[kind]).get();
         assert_eq!(faults, 0, "{kind}");
     }

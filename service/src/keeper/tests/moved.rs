@@ -249,7 +249,7 @@ async fn lose_at(call: u64, more: Option<u64>, how: How) -> u64 {
     wanted.insert("m".into(), world.time as i64);
     assert_eq!(world.sums(), wanted, "call {call}, {how:?}");
     let run = world.run.take().unwrap();
-    for kind in ["reading", "replay", "owner"] {
+    for kind in ["replay", "owner"] {
         let faults = run.slot.metrics.faults.with_label_values(&[kind]);
         assert_eq!(faults.get(), 0, "{kind}, call {call}, {how:?}");
     }

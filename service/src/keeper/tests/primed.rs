@@ -1,52 +1,45 @@
-//! What a book is primed by that begins with the outbox alone.
+//! What a book is primed by that begins with the outbox alone: each commit says whose its series are.
 
 use super::*;
-use crate::files::{Recents, Runs};
+use crate::otlp::series::only;
 
-/// As a kill leaves it behind a commit: what says whose its series are has not come.
-fn committed_without_owners(folder: &Folder) {
-    let (journal, outbox) = folder.slot().unwrap();
-    let core = Core::new(1).unwrap();
-    let mut read = core.read("A".into(), point("a", 10).into()).unwrap();
-    core.lock().admit(&mut read).unwrap();
-    journal.append(&read.post, read.names());
-    let bodies = core.lock().take_all().unwrap().texts().unwrap();
-    let (next, turned) = journal.turn();
-    journal.settle(turned);
-    outbox.commit_with(&bodies, next, Runs::new(), &Recents::default()).unwrap();
-    assert_eq!(outbox.without_owner().len(), 1);
-}
-
-/// Else whoever posts first behind that start would have the series.
+/// Also of a post that the journal has as a text, and of one that was kept back for a while: else whoever posts first behind a start
+/// would have the series, and a database does not know whose it is.
 #[tokio::test(flavor = "multi_thread")]
-async fn a_book_is_primed_once_all_owners_are_known() {
+async fn a_commit_says_whose_its_series_are() {
     let place = tempfile::tempdir().unwrap();
     let folder = Folder::open(&place.path().join("data"), Durability::Process).unwrap();
-    committed_without_owners(&folder);
+    {
+        let (journal, _outbox) = folder.slot().unwrap();
+        let read = Core::new(1).unwrap().read("A".into(), point("text", 10).into()).unwrap();
+        journal.write(journal.append(&read.post, read.names())).unwrap();
+    }
     let run = Run::begin_in(folder, settings()).await;
-    let other = run.slot.post("B".into(), point("a", 20).into()).await;
-    assert_eq!(other, Refused::OtherWriter { point: 0 }.into());
-    assert_eq!((run.post(10).await.status(), run.post(20).await), (400, Outcome::taken(0)));
+    let owners = || {
+        let owner = |name| run.slot.outbox.owner(&only(point(name, 1).as_bytes()).unwrap().digest());
+        ["text", "b", "held"].map(owner)
+    };
+    let some = |name: &str| Some(name.to_string());
+    let order = |order| run.orders.order(order);
+    for (sender, name) in [("B", "b"), ("Q", "held")] {
+        assert_eq!(run.slot.post(sender.into(), point(name, 10).into()).await, Outcome::taken(0));
+    }
+    assert_eq!(order(Order::Quarantine("Q".into())).await, Some(Done::Answered(Outcome::taken(0))));
+    for _ in 0..2 {
+        run.flush().await;
+        assert_eq!(owners(), [some("A"), some("B"), None]);
+    }
+    assert_eq!(order(Order::Lift("Q".into())).await, Some(Done::Answered(Outcome::taken(0))));
+    run.flush().await;
+    assert_eq!(owners(), [some("A"), some("B"), some("Q")]);
+    assert_eq!(run.slot.metrics.faults.with_label_values(&["owner"]).get(), 0);
     run.end().await;
-}
-
-/// Else a database writes the request's series down without the name of who posts them.
-#[tokio::test(flavor = "multi_thread")]
-async fn what_a_kill_left_without_owners_is_delivered_once_these_are_known() {
-    let place = tempfile::tempdir().unwrap();
-    let folder = Folder::open(&place.path().join("data"), Durability::Process).unwrap();
-    committed_without_owners(&folder);
-    let (journal, outbox) = folder.slot().unwrap();
-    let metrics = Arc::new(Metrics::new().unwrap());
-    let slot = Slot::new(0, journal, Arc::new(outbox), metrics, Core::new(1).unwrap());
-    let mut keeper = Keeper::new(slot.clone(), settings()).0;
-    let first = async { tokio::time::timeout(Duration::from_millis(100), slot.outbox.first()).await };
-    assert!(first.await.is_err(), "it is delivered before its owner is known");
-    assert!(slot.outbox.behind_first(10, usize::MAX).await.is_empty());
-    keeper.begin().await.unwrap();
-    let (_, body) = slot.outbox.first().await.unwrap();
-    let series = forwarded(&body).unwrap().remove(0).series;
-    assert_eq!(slot.outbox.owner(&series.digest()).as_deref(), Some("A"));
+    let run = Run::begin(place.path(), Disk::default()).await;
+    let noted = run.slot.core.lock().changed_recents().by_series(run.slot.outbox.numbering());
+    assert_eq!(noted.digests().count(), 0, "the outbox has what a book was primed by");
+    let other = run.slot.post("B".into(), point("held", 20).into()).await;
+    assert_eq!(other, Refused::OtherWriter { point: 0 }.into());
+    run.end().await;
 }
 
 /// It takes as long as many series need, and nobody waits for it then.

@@ -64,7 +64,7 @@ async fn runs_over_kills_and_quarantines_come_to_the_sum_of_their_last_values() 
         }
         assert_eq!(sums, plain.sums(), "seed {seed}");
         assert!(kills > 3 && sums.len() == 6, "{kills} kills");
-        for kind in ["reading", "replay", "owner"] {
+        for kind in ["replay", "owner"] {
             assert_eq!(run.slot.metrics.faults.with_label_values(&[kind]).get(), 0, "{kind}");
         }
         run.end().await;

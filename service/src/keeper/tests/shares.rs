@@ -30,11 +30,12 @@ impl Run {
     async fn with_shares(path: &Path) -> Run {
         let run = Run::begin_runs(path, Options::default()).await;
         run.slot.shares.begin(Rules {
-            most_series: 10_000,
+            max_series: 10_000,
             of_each: Share { series: None, points: Some(1) }.into(),
             tokens: None,
             profile: Profile::AlsoCumulative,
             owned: Box::new(Unflushed),
+            flush_interval: Duration::ZERO,
         });
         run
     }

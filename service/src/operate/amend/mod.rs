@@ -8,12 +8,11 @@ pub(super) use sought::Sought;
 use super::named::named;
 use super::query::Query;
 use super::reach::{slots_shown, Answer, Command};
-use super::{Actor, Desk, Unit, ANYWAY};
+use super::{Actor, Desk, Unit, FORCE};
 use crate::log::{since_1970, utc};
 use crate::otlp::series::SeriesKey;
 use crate::sinks::periods::{hour_shown, seconds_of};
 use crate::sinks::sql::totals::Hour;
-use crate::sinks::sql::totals::SeriesTotal;
 use sought::{InAllSlots, Meant};
 use std::collections::BTreeMap;
 use std::sync::Arc;
@@ -26,8 +25,8 @@ const NAMED: usize = 5;
 const HOURS: usize = 5;
 
 impl Desk {
-    pub(super) async fn amend(self: &Arc<Self>, actor: Actor, parts: &[String], query: Query<'_>) -> Answer {
-        let sought = match read(parts, query) {
+    pub(super) async fn amend(self: &Arc<Self>, actor: Actor, to: Option<&str>, query: Query<'_>) -> Answer {
+        let sought = match read(to, query) {
             Ok(read) => read,
             Err(why) => return Answer::told(400, &why),
         };
@@ -42,15 +41,15 @@ impl Desk {
         if flushed.status != 200 {
             return Err(flushed);
         }
-        let found = self.in_all_slots(&who, &Command::Find(sought.clone())).await.all()?;
+        let found = self.in_all_slots(&who, &Command::Find(sought.clone())).await?;
         if sought.to.is_none() && InAllSlots::read(&found)?.has_none() {
             let nothing = "nothing of it is known yet, or it is forgotten already";
             return Ok(Answer::told(200, &format!("no series is named {}: {nothing}", sought.written)));
         }
-        if self.totals.is_none() && !sought.anyway {
+        if self.totals.is_none() && !sought.force {
             let what = "can't tell what it has already, so what is posted again would count twice";
             let what = format!("the sink {} {what}", self.sink.name());
-            return Err(Answer::told(409, &format!("{what}; give --anyway where nobody posts it again")));
+            return Err(Answer::told(409, &format!("{what}; give --force where nobody posts it again")));
         }
         let meant_in = |found: &[(u16, Answer)], sought: &Sought| {
             InAllSlots::read(found)?.meant(sought).map_err(|why| Answer::told(409, &why))
@@ -110,10 +109,10 @@ impl Desk {
 
     /// What the sink has of a series beyond a time.
     async fn beyond(&self, key: &SeriesKey, to: u64) -> String {
-        let (Some(totals), Ok(series)) = (&self.totals, SeriesTotal::of_none(key)) else {
+        let Some(totals) = &self.totals else {
             return String::new();
         };
-        let what = match totals.hours(series, to / HOUR).await {
+        let what = match totals.hours(key.digest(), to / HOUR).await {
             Err(why) => format!("the sink can't be read: {why}"),
             Ok(None) => "the sink has nothing of it yet".into(),
             Ok(Some(hours)) if hours.is_empty() => "the sink has nothing of it from that hour on".into(),
@@ -162,20 +161,16 @@ fn in_hours(hours: &[Hour]) -> String {
 }
 
 /// What is asked for.
-fn read(parts: &[String], query: Query<'_>) -> Result<Sought, String> {
-    let to = match parts.iter().map(String::as_str).collect::<Vec<_>>()[..] {
-        ["forget"] => None,
-        ["repair", to] => {
-            let seconds = seconds_of(to).filter(|seconds| *seconds > 0);
-            let nanoseconds = seconds.and_then(|seconds| seconds.checked_mul(SECOND));
-            let why = || format!("`{to}` is no time: write 2026-11-05T13:30:15, of UTC");
-            Some(nanoseconds.ok_or_else(why)?)
-        }
-        _ => return Err("this takes /repair/TIME?series=NAME and /forget?series=NAME".into()),
-    };
+fn read(to: Option<&str>, query: Query<'_>) -> Result<Sought, String> {
+    let to = to.map(|to| {
+        let seconds = seconds_of(to).filter(|seconds| *seconds > 0);
+        let nanoseconds = seconds.and_then(|seconds| seconds.checked_mul(SECOND));
+        nanoseconds.ok_or_else(|| format!("`{to}` is no time: write 2026-11-05T13:30:15, of UTC"))
+    });
+    let to = to.transpose()?;
     let (written, now) = (query.value("series")?, since_1970().as_nanos() as u64);
     let mut sought = Sought::new(written, to, query.has("all"), now)?;
-    sought.anyway = query.has(ANYWAY);
+    sought.force = query.has(FORCE);
     Ok(sought)
 }
 
@@ -190,25 +185,19 @@ mod tests {
 
     #[test]
     fn what_is_asked_for_is_read() {
-        let asked = |path: &str, query: &str| {
-            let parts: Vec<String> = path.split('/').map(String::from).collect();
-            read(&parts, Query(query))
-        };
-        let one = asked("repair/2026-11-27T12:00:00", "series=a%7Bshop%3Ds1%7D&all").unwrap();
+        let one = read(Some("2026-11-27T12:00:00"), Query("series=a%7Bshop%3Ds1%7D&all")).unwrap();
         let noon = 1_795_780_800 * SECOND;
-        assert_eq!((one.to, &*one.written, one.all, one.anyway), (Some(noon), "a{shop=s1}", true, false));
-        let one = asked("forget", "series=a&anyway").unwrap();
-        assert_eq!((one.to, one.all, one.anyway), (None, false, true));
-        for (path, query, part) in [
-            ("repair/yesterday", "series=a", "no time"),
-            ("repair/1970-01-01", "series=a", "no time"),
-            ("repair", "series=a", "/repair/TIME"),
-            ("forget/2026-11-27", "series=a", "/forget"),
-            ("forget", "", "names no series"),
-            ("forget", "series=a%7B", "names no series"),
+        assert_eq!((one.to, &*one.written, one.all, one.force), (Some(noon), "a{shop=s1}", true, false));
+        let one = read(None, Query("series=a&force")).unwrap();
+        assert_eq!((one.to, one.all, one.force), (None, false, true));
+        for (to, query, part) in [
+            (Some("yesterday"), "series=a", "no time"),
+            (Some("1970-01-01"), "series=a", "no time"),
+            (None, "", "names no series"),
+            (None, "series=a%7B", "names no series"),
         ] {
-            let why = asked(path, query).unwrap_err();
-            assert!(why.contains(part), "{path}: {why}");
+            let why = read(to, Query(query)).unwrap_err();
+            assert!(why.contains(part), "{to:?}: {why}");
         }
     }
 

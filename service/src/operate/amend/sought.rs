@@ -22,7 +22,7 @@ pub struct Sought {
     pub(super) all: bool,
     /// Although the sink may count a repeat twice.
     #[serde(default)]
-    pub(super) anyway: bool,
+    pub(super) force: bool,
     /// When it was asked, by the clock of who was.
     now: u64,
 }
@@ -33,14 +33,25 @@ pub type Was = (SeriesKey, u64);
 /// What a slot has of what is meant.
 #[derive(Debug, Default, PartialEq, Eq, Serialize, Deserialize)]
 struct InSlot {
-    /// How many are named so, and the first of them by their keys.
-    count: usize,
-    first: Vec<(String, u64)>,
+    named: Few,
     /// Where the last of them ends.
     last: u64,
-    /// The same of those that end after the time that is asked for.
-    beyond: usize,
-    first_beyond: Vec<(String, u64)>,
+    /// Those of them that end after the time that is asked for.
+    beyond: Few,
+}
+
+/// How many series, and the first of them by their keys, each with where it ends.
+#[derive(Debug, Default, PartialEq, Eq, Serialize, Deserialize)]
+struct Few {
+    count: usize,
+    first: Vec<(String, u64)>,
+}
+
+impl Few {
+    fn of<'w>(all: impl Iterator<Item = &'w Was> + Clone) -> Few {
+        let first = all.clone().take(NAMED).map(|(key, end)| (key.0.to_string(), *end));
+        Few { first: first.collect(), count: all.count() }
+    }
 }
 
 /// The same of all slots.
@@ -63,16 +74,16 @@ pub struct Meant {
 impl Sought {
     pub fn new(written: String, to: Option<u64>, all: bool, now: u64) -> Result<Sought, String> {
         written.parse::<Named>()?;
-        Ok(Sought { written, to, all, anyway: false, now })
+        Ok(Sought { written, to, all, force: false, now })
     }
 
     /// What is written down of it.
     pub fn act(&self) -> Asked {
         let asked = match self.to {
-            Some(to) => Asked::new("repair", format!("{} to {}", self.written, time(to))),
+            Some(to) => Asked::new("rewind", format!("{} to {}", self.written, time(to))),
             None => Asked::new("forget", &self.written),
         };
-        asked.with("--all", self.all).with("--anyway", self.anyway)
+        asked.with("--all", self.all).with("--force", self.force)
     }
 
     /// Those of a slot that are named so, in the order of their keys.
@@ -91,17 +102,10 @@ impl Sought {
     }
 
     fn counted(&self, named: &[Was]) -> InSlot {
-        let first = |all: &mut dyn Iterator<Item = &Was>| {
-            let first = all.take(NAMED).map(|(key, end)| (key.0.to_string(), *end));
-            first.collect()
-        };
-        let beyond = || named.iter().filter(|(_, end)| self.is_beyond(*end));
         InSlot {
-            count: named.len(),
-            first: first(&mut named.iter()),
+            named: Few::of(named.iter()),
             last: named.iter().map(|(_, end)| *end).max().unwrap_or(0),
-            beyond: beyond().count(),
-            first_beyond: first(&mut beyond()),
+            beyond: Few::of(named.iter().filter(|(_, end)| self.is_beyond(*end))),
         }
     }
 
@@ -141,7 +145,7 @@ async fn ordered(unit: &Unit, amend: Amend) -> Option<Result<(), Answer>> {
     Some(match unit.orders.order(Order::Amend(amend)).await? {
         Done::Amended(Ok(())) => Ok(()),
         Done::Amended(Err(one)) => {
-            let why = "has posts that are kept back of its sender: lift it first (`totxegun status`)";
+            let why = "has posts that are kept back of its sender: release it first (`totxegun status`)";
             Err(Answer::told(409, &format!("{} {why}", named(&one))))
         }
         Done::Answered(outcome) => Err(outcome.into()),
@@ -161,21 +165,18 @@ impl InAllSlots {
         Ok(found)
     }
 
-    fn count(&self, of: fn(&InSlot) -> usize) -> usize {
-        self.in_slot.iter().map(|(_, in_slot)| of(in_slot)).sum()
-    }
-
-    fn first(&self, of: fn(&InSlot) -> &Vec<(String, u64)>) -> Vec<Was> {
-        let all = self.in_slot.iter().flat_map(|(_, in_slot)| of(in_slot));
-        let mut all: Vec<Was> = all.map(|(key, end)| (SeriesKey(key.as_str().into()), *end)).collect();
-        all.sort_unstable();
-        all.truncate(NAMED);
-        all
+    fn of_all(&self, of: fn(&InSlot) -> &Few) -> (usize, Vec<Was>) {
+        let all = || self.in_slot.iter().map(|(_, in_slot)| of(in_slot));
+        let first = all().flat_map(|few| &few.first);
+        let mut first: Vec<Was> = first.map(|(key, end)| (SeriesKey(key.as_str().into()), *end)).collect();
+        first.sort_unstable();
+        first.truncate(NAMED);
+        (all().map(|few| few.count).sum(), first)
     }
 
     /// Whether no slot has one that is named so.
     pub fn has_none(&self) -> bool {
-        self.count(|of| of.count) == 0
+        self.of_all(|of| &of.named).0 == 0
     }
 
     /// The series that are meant, or why there are none.
@@ -187,7 +188,7 @@ impl InAllSlots {
                 time(sought.now)
             ));
         }
-        let (count, first) = (self.count(|of| of.count), self.first(|of| &of.first));
+        let (count, first) = self.of_all(|of| &of.named);
         match &first[..] {
             [] => {
                 return Err(format!(
@@ -205,13 +206,12 @@ impl InAllSlots {
             }
             _ => {}
         }
-        let beyond = self.count(|of| of.beyond);
+        let (beyond, first) = self.of_all(|of| &of.beyond);
         if beyond == 0 {
             let last = self.in_slot.iter().map(|(_, of)| of.last).max().unwrap_or(0);
             return Err(format!("what is named so ends at {}: there is nothing to put back", time(last)));
         }
-        let first = self.first(|of| &of.first_beyond);
-        let has_some = self.in_slot.iter().filter(|(_, of)| of.beyond > 0);
+        let has_some = self.in_slot.iter().filter(|(_, of)| of.beyond.count > 0);
         Ok(Meant {
             count: beyond,
             slots: has_some.map(|(slot, _)| *slot).collect(),

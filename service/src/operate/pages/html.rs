@@ -76,8 +76,7 @@ impl Html {
         besides: usize,
     ) -> &mut Html {
         let more = rows.len().saturating_sub(ROWS) + besides;
-        let cells = |row: Vec<String>| row.into_iter().map(Cell::Text).collect();
-        self.table(caption, heads, rows.into_iter().take(ROWS).map(cells).collect());
+        self.table(caption, heads, &rows[..rows.len().min(ROWS)], &[]);
         if more > 0 {
             self.markup("<p class=note>").text(grouped(more)).markup(" more</p>");
         }
@@ -85,12 +84,13 @@ impl Html {
     }
 
     /// A table that says `none` where it has no row. Its caption is for who hears the page. Columns whose heads end in `#` have
-    /// numbers.
+    /// numbers. The first text of each row leads to the series of its place, if there are any.
     pub fn table(
         &mut self,
         caption: &'static str,
         heads: &[&'static str],
-        rows: Vec<Vec<Cell>>,
+        rows: &[Vec<String>],
+        series: &[String],
     ) -> &mut Html {
         if rows.is_empty() {
             return self.markup("<p class=none>none</p>\n");
@@ -100,7 +100,8 @@ impl Html {
             self.markup("<th scope=col").markup(class(head)).markup(">").markup(title(head)).markup("</th>");
         }
         self.markup("</tr></thead><tbody>\n");
-        for row in rows {
+        for (place, row) in rows.iter().enumerate() {
+            let mut series = series.get(place);
             self.markup("<tr>");
             for (head, cell) in heads.iter().zip(row) {
                 self.markup("<td")
@@ -108,7 +109,12 @@ impl Html {
                     .markup(" data-head=\"")
                     .markup(title(head))
                     .markup("\">");
-                cell.write(self);
+                match series.take() {
+                    Some(id) => {
+                        self.markup("<a href=\"series?id=").query(id).markup("\">").text(cell).markup("</a>")
+                    }
+                    None => self.text(cell),
+                };
                 self.markup("</td>");
             }
             self.markup("</tr>\n");
@@ -133,31 +139,6 @@ fn title(head: &'static str) -> &'static str {
     head.trim_end_matches('#')
 }
 
-/// What is in a table's cell.
-pub enum Cell {
-    Text(String),
-    /// A text that leads to a series.
-    Series {
-        text: String,
-        id: String,
-    },
-}
-
-impl Cell {
-    pub fn of(text: impl Display) -> Cell {
-        Cell::Text(text.to_string())
-    }
-
-    fn write(self, html: &mut Html) {
-        match self {
-            Cell::Text(text) => html.text(text),
-            Cell::Series { text, id } => {
-                html.markup("<a href=\"series?id=").query(&id).markup("\">").text(text).markup("</a>")
-            }
-        };
-    }
-}
-
 #[cfg(test)]
 mod tests {
     use super::*;
@@ -177,14 +158,13 @@ mod tests {
     #[test]
     fn a_table_has_its_rows() {
         let mut html = Html::default();
-        let id = "a&b".to_string();
-        let row = vec![Cell::of("<i>"), Cell::Series { text: "n".into(), id }];
-        html.table("totals", &["name", "total#"], vec![row]).table("names", &["name"], Vec::new());
+        let rows = [vec!["n".to_string(), "<i>".to_string()]];
+        html.table("totals", &["name", "total#"], &rows, &["a&b".into()]).table("names", &["name"], &[], &[]);
         assert_eq!(
             html.into_text(),
             "<div class=wide><table><caption>totals</caption><thead><tr><th scope=col>name</th><th scope=col class=n>total</th></tr>\
-             </thead><tbody>\n<tr><td data-head=\"name\">&lt;i&gt;</td><td class=n data-head=\"total\">\
-             <a href=\"series?id=a%26b\">n</a></td></tr>\n</tbody></table></div>\n<p class=none>none</p>\n"
+             </thead><tbody>\n<tr><td data-head=\"name\"><a href=\"series?id=a%26b\">n</a></td>\
+             <td class=n data-head=\"total\">&lt;i&gt;</td></tr>\n</tbody></table></div>\n<p class=none>none</p>\n"
         );
     }
 }

@@ -1,6 +1,6 @@
 //! `GET /series`: search by name and attribute, with each total as the sink has it now; and one series by itself.
 
-use super::html::{Cell, Html};
+use super::html::Html;
 use super::plot::{self, Bar};
 use super::{frame, Desk, Page};
 use crate::command::values::grouped;
@@ -132,7 +132,9 @@ impl FoundRows {
             .text(grouped(self.of))
             .markup(" series</h2>");
         let heads = ["name", "attributes", "total#", "unit", "count#", "until (UTC)", "resource"];
-        html.table("Series that were found", &heads, self.rows.iter().map(row).collect());
+        let rows: Vec<Vec<String>> = self.rows.iter().map(row).collect();
+        let ids: Vec<String> = self.rows.iter().map(identity).collect();
+        html.table("Series that were found", &heads, &rows, &ids);
         if self.count > ROWS {
             html.markup("<p class=note>These are the first ")
                 .text(ROWS)
@@ -143,29 +145,25 @@ impl FoundRows {
 }
 
 /// One of several.
-fn row(series: &SeriesTotal) -> Vec<Cell> {
+fn row(series: &SeriesTotal) -> Vec<String> {
     let count = series.histogram.as_ref().map(|histogram| grouped(histogram.count));
-    let name = Cell::Series { text: series.name.clone(), id: identity(series) };
     vec![
-        name,
-        Cell::of(joined(&series.attributes)),
-        Cell::of(grouped(series.total)),
-        Cell::of(&series.unit),
-        Cell::of(count.unwrap_or_default()),
-        Cell::of(time(series.end_ns)),
-        Cell::of(joined(&series.resource)),
+        series.name.clone(),
+        joined(&series.attributes),
+        grouped(series.total),
+        series.unit.clone(),
+        count.unwrap_or_default(),
+        time(series.end_ns),
+        joined(&series.resource),
     ]
 }
 
 /// All that is known of one.
 fn one(html: &mut Html, series: &SeriesTotal) {
-    let rows = facts(series).into_iter();
-    let rows = rows.map(|(what, value)| vec![Cell::of(what), Cell::Text(value)]);
+    let rows: Vec<_> = facts(series).into_iter().map(|(what, value)| vec![what.to_string(), value]).collect();
     html.markup("<section><h2>").text(&series.name).markup("</h2><p class=total>");
     html.text(grouped(series.total)).markup(" <small>").text(&series.unit);
-    html.markup("</small></p>")
-        .table("What is known of it", &["what", "value"], rows.collect())
-        .end_section();
+    html.markup("</small></p>").table("What is known of it", &["what", "value"], &rows, &[]).end_section();
     if let Some(histogram) = &series.histogram {
         buckets(html, histogram);
     }
@@ -197,16 +195,16 @@ fn buckets(html: &mut Html, histogram: &Histogram) {
     let bounds = histogram.bounds.iter().map(|bound| format!("to {}", grouped(bound)));
     let names = bounds.chain(["over all of them".to_string()]);
     let counts = histogram.buckets.iter().map(grouped);
-    let rows = names.zip(counts).map(|(name, count)| vec![Cell::Text(name), Cell::Text(count)]);
+    let rows: Vec<_> = names.zip(counts).map(|(name, count)| vec![name, count]).collect();
     html.section("Buckets")
-        .table("How many values each bucket has", &["values", "count#"], rows.collect())
+        .table("How many values each bucket has", &["values", "count#"], &rows, &[])
         .end_section();
 }
 
 /// What came in each of the last hours: of a histogram how many values, else their sum. Nothing where the sink has no hours.
 async fn last_hours(html: &mut Html, totals: &Totals, series: &SeriesTotal) {
     let from = (seconds() / HOUR + 1).saturating_sub(HOURS);
-    match totals.hours(series.clone(), from).await {
+    match totals.hours(series.digest, from).await {
         Ok(None) => {}
         Ok(Some(hours)) => plot_of_hours(html, &hours, from),
         Err(why) => {
@@ -228,10 +226,11 @@ fn plot_of_hours(html: &mut Html, hours: &[Hour], from: u64) {
     plot::bars(html.section("The last 48 hours"), label, &bars, &marks.collect::<Vec<String>>());
     let rows = hours.iter().rev().map(|one| {
         let count = one.count.map(grouped).unwrap_or_default();
-        vec![Cell::Text(hour(one.hour)), Cell::of(grouped(one.total)), Cell::Text(count)]
+        vec![hour(one.hour), grouped(one.total), count]
     });
+    let rows: Vec<_> = rows.collect();
     let heads = ["hour (UTC)", "total#", "count#"];
-    html.table("What came in each hour, the last first", &heads, rows.collect()).end_section();
+    html.table("What came in each hour, the last first", &heads, &rows, &[]).end_section();
 }
 
 /// Nanoseconds since 1970 to the second, in UTC.

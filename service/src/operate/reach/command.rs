@@ -19,7 +19,7 @@ pub enum Command {
     Flush,
     /// Of a sender.
     Quarantine(String),
-    Lift(String),
+    Release(String),
     /// Which series are meant.
     Find(Sought),
 }
@@ -103,7 +103,7 @@ impl Command {
     pub fn act(&self) -> Option<Asked> {
         Some(match self {
             Command::Quarantine(sender) => Asked::new("quarantine", sender),
-            Command::Lift(sender) => Asked::new("lift", sender),
+            Command::Release(sender) => Asked::new("release", sender),
             Command::Flush | Command::Find(_) => return None,
         })
     }
@@ -123,7 +123,7 @@ impl Desk {
                 let is_known = self.knows(&unit, &sender).await;
                 ordered(&unit, Order::Quarantine(sender)).await.map(|answer| answer.of_sender(is_known))
             }
-            Command::Lift(sender) => {
+            Command::Release(sender) => {
                 let is_known = self.knows(&unit, &sender).await;
                 ordered(&unit, Order::Lift(sender)).await.map(|answer| answer.of_sender(is_known))
             }

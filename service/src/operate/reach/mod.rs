@@ -12,18 +12,18 @@ mod places;
 
 pub(super) use answers::Question;
 pub(super) use command::{Answer, Command};
-pub(super) use ended::{slots_shown, Ended};
+pub(super) use ended::slots_shown;
 pub use places::Others;
 
 use super::{reply, Desk};
-use ended::Done;
+use crate::work::side_by_side;
+use ended::{of_all, Done};
 use hyper::header::{HeaderValue, LOCATION};
 use hyper::{Body, Response};
 use places::Place;
 use std::collections::{BTreeMap, BTreeSet};
 use std::sync::Arc;
 use std::time::Duration;
-use tokio::task::JoinSet;
 use tokio::time::Instant;
 
 /// A slot that nobody has is looked for so long: a machine that is lost has its slots elsewhere within.
@@ -44,38 +44,38 @@ const ENDING: &str = "stopping";
 type InSlot = (u16, Done);
 
 impl Desk {
-    /// Has each slot do it, wherever it is.
-    pub(super) async fn in_all_slots(self: &Arc<Self>, who: &str, command: &Command) -> Ended {
-        let mut left: BTreeSet<u16> = (0..self.units.slots()).collect();
-        let (mut ended, mut until) = (Ended::of(command, left.len()), None);
+    /// Has each slot do it, wherever it is: the answers of all.
+    pub(super) async fn in_all_slots(
+        self: &Arc<Self>,
+        who: &str,
+        command: &Command,
+    ) -> Result<Vec<(u16, Answer)>, Answer> {
+        let not_yet = |slot| (slot, Err(MOVED.to_string()));
+        let mut done: BTreeMap<u16, Done> = (0..self.units.slots()).map(not_yet).collect();
+        let mut until = None;
         loop {
-            for (slot, done) in self.round(who, command, &left).await {
-                ended.note(slot, done);
-            }
-            left.retain(|slot| ended.is_left(*slot));
-            let Some(others) = self.others.as_ref().filter(|_| !left.is_empty()) else {
-                return ended;
+            let left = done.iter().filter(|(_, done)| done.is_err()).map(|(slot, _)| *slot).collect();
+            done.extend(self.round(who, command, &left).await);
+            let Some(others) = self.others.as_ref().filter(|_| done.values().any(Result::is_err)) else {
+                break;
             };
             // The first time may have been waited for somebody who stands still.
             if Instant::now() >= *until.get_or_insert(Instant::now() + LOOKED_FOR) {
-                return ended;
+                break;
             }
             others.look_again().await;
         }
+        of_all(command, done)
     }
 
     /// Asks once for each slot, all at the same time.
     async fn round(self: &Arc<Self>, who: &str, command: &Command, slots: &BTreeSet<u16>) -> Vec<InSlot> {
-        let mut asking = JoinSet::new();
-        for (place, slots) in self.places(slots) {
+        let at = |(place, slots)| {
             let (desk, who, command) = (self.clone(), who.to_string(), command.clone());
-            asking.spawn(async move { desk.at(place, who, command, slots).await });
-        }
-        let mut all = Vec::new();
-        while let Some(asked) = asking.join_next().await {
-            all.extend(asked.unwrap_or_default()); // what has failed stays to be asked
-        }
-        all
+            async move { desk.at(place, who, command, slots).await }
+        };
+        let asked = side_by_side(self.places(slots).into_iter().map(at)).await;
+        asked.into_iter().flatten().collect() // what has failed stays to be asked
     }
 
     /// What slots at a place have said, and why those have not done it that say nothing.
@@ -122,16 +122,11 @@ impl Desk {
 
     /// Has those of these slots that are here do it.
     async fn here(self: &Arc<Self>, command: &Command, slots: &[u16]) -> BTreeMap<u16, Answer> {
-        let mut doing = JoinSet::new();
-        for slot in slots.iter().copied() {
-            let (desk, command) = (self.clone(), command.clone());
-            doing.spawn(async move { Some((slot, desk.in_slot(slot, command).await?)) });
-        }
-        let mut all = BTreeMap::new();
-        while let Some(done) = doing.join_next().await {
-            all.extend(done.ok().flatten());
-        }
-        all
+        let done = slots.iter().map(|slot| {
+            let (desk, slot, command) = (self.clone(), *slot, command.clone());
+            async move { Some((slot, desk.in_slot(slot, command).await?)) }
+        });
+        side_by_side(done).await.into_iter().flatten().collect()
     }
 }
 

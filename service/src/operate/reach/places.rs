@@ -45,9 +45,7 @@ impl Desk {
         }
         places
     }
-}
 
-impl Desk {
     /// A slot that is here; else where it is asked for.
     pub(in crate::operate) fn unit_here(&self, slot: u16) -> Result<Arc<Unit>, Answer> {
         self.units.get(slot).ok_or_else(|| match &self.others {
@@ -68,7 +66,7 @@ impl Others {
         let ask = match &location {
             Some(at) => format!("ask there, at {at}"),
             None => format!(
-                "ask on its machine ({address}), since its operators' address is reached from no other: --operate can be"
+                "ask on its machine ({address}), since its operators' address is reached from no other: --admin can be"
             ),
         };
         Answer { location, ..Answer::told(307, &format!("slot {slot} is at instance {name}: {ask}")) }

@@ -4,12 +4,12 @@ use super::{Desk, InstanceStatus, RoundedStatus, SlotStatus, Status};
 use crate::cluster::status::{OtherInstance, OwnedSlot};
 use crate::cluster::Refusal;
 use crate::metrics::SHOWN_OF_RULE;
-use crate::operate::reach::{Others, Question};
+use crate::operate::reach::Question;
 use crate::shares;
+use crate::work::side_by_side;
 use std::collections::BTreeMap;
 use std::sync::Arc;
 use std::time::Duration;
-use tokio::task::JoinSet;
 
 /// An instance says how it is within.
 const WITHIN: Duration = Duration::from_secs(3);
@@ -31,31 +31,22 @@ impl Desk {
     }
 
     async fn ask_each(self: &Arc<Self>, others: Vec<OtherInstance>) -> Vec<Said> {
-        let mut asking = JoinSet::new();
-        for other in others {
+        let asked = others.into_iter().map(|other| {
             let desk = self.clone();
-            asking.spawn(async move {
+            async move {
                 let said = match &desk.others {
-                    Some(_) if other.is_gone => Err("its beats have stopped".to_string()),
-                    Some(others) => others.status_at(&other.address).await,
-                    None => Err(String::new()),
+                    Some(others) if !other.is_gone => {
+                        let said = others.ask(&other.address, &Question::Status, WITHIN).await;
+                        said.map_err(|why| format!("it does not answer: {why}"))
+                    }
+                    _ => Err("its beats have stopped".to_string()),
                 };
                 (other, said)
-            });
-        }
-        let mut all = Vec::new();
-        while let Some(asked) = asking.join_next().await {
-            all.extend(asked.ok());
-        }
+            }
+        });
+        let mut all = side_by_side(asked).await;
         all.sort_by(|(one, _), (other, _)| one.name.cmp(&other.name));
         all
-    }
-}
-
-impl Others {
-    async fn status_at(&self, address: &str) -> Result<Status, String> {
-        let said = self.ask(address, &Question::Status, WITHIN).await;
-        said.map_err(|why| format!("it does not answer: {why}"))
     }
 }
 

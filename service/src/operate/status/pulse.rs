@@ -12,15 +12,10 @@ pub const EVERY: Duration = Duration::from_secs(2);
 pub const KEPT: usize = 150;
 
 /// The counters as they were at each look, the oldest first.
-pub struct Pulse(Mutex<VecDeque<Counted>>);
+pub struct Pulse(Mutex<VecDeque<Counters>>);
 
-/// Counters since the start.
-#[derive(Clone, Copy, Debug, Default, PartialEq, Eq)]
-pub struct Counted {
-    pub taken: u64,
-    pub refused: u64,
-    pub delivered: u64,
-}
+/// Posts taken and refused, requests delivered: since the start.
+type Counters = [u64; 3];
 
 /// What came of them in a second.
 #[derive(Clone, Copy, Debug, Default, PartialEq, Serialize, Deserialize)]
@@ -38,19 +33,19 @@ impl Pulse {
         pulse
     }
 
-    fn note(&self, counted: Counted) {
+    fn note(&self, counters: Counters) {
         let mut all = locked(&self.0);
         if all.len() > KEPT {
             all.pop_front();
         }
-        all.push_back(counted);
+        all.push_back(counters);
     }
 
     /// The oldest first.
     pub fn rates(&self) -> Vec<Rates> {
         let all = locked(&self.0);
         let pairs = all.iter().zip(all.iter().skip(1));
-        pairs.map(|(before, now)| now.since(*before)).collect()
+        pairs.map(|(before, now)| rates(*before, *now)).collect()
     }
 }
 
@@ -59,28 +54,21 @@ async fn look(pulse: Weak<Pulse>, metrics: Arc<Metrics>) {
     loop {
         looks.tick().await;
         match pulse.upgrade() {
-            Some(pulse) => pulse.note(Counted::of(&metrics)),
+            Some(pulse) => pulse.note(counters(&metrics)),
             None => return,
         }
     }
 }
 
-impl Counted {
-    pub fn of(metrics: &Metrics) -> Counted {
-        let (taken, refused) = metrics.requests_answered();
-        let outcomes =
-            ["taken", "partial"].map(|outcome| metrics.deliveries.with_label_values(&[outcome]).get());
-        Counted { taken, refused, delivered: outcomes.iter().sum() }
-    }
+fn counters(metrics: &Metrics) -> Counters {
+    let (taken, refused) = metrics.requests_answered();
+    let outcomes = ["taken", "partial"].map(|outcome| metrics.deliveries.with_label_values(&[outcome]).get());
+    [taken, refused, outcomes.iter().sum()]
+}
 
-    fn since(self, before: Counted) -> Rates {
-        let a_second = |now: u64, before: u64| now.saturating_sub(before) as f64 / EVERY.as_secs_f64();
-        Rates {
-            taken: a_second(self.taken, before.taken),
-            refused: a_second(self.refused, before.refused),
-            delivered: a_second(self.delivered, before.delivered),
-        }
-    }
+fn rates(before: Counters, now: Counters) -> Rates {
+    let a_second = |of: usize| now[of].saturating_sub(before[of]) as f64 / EVERY.as_secs_f64();
+    Rates { taken: a_second(0), refused: a_second(1), delivered: a_second(2) }
 }
 
 #[cfg(test)]
@@ -92,8 +80,7 @@ mod tests {
         let pulse = Pulse(Mutex::default());
         assert_eq!(pulse.rates(), []);
         for look in 0..1000 {
-            let (taken, refused, delivered) = (look * look, look, 2 * look);
-            pulse.note(Counted { taken, refused, delivered });
+            pulse.note([look * look, look, 2 * look]);
         }
         let rates = pulse.rates();
         let last = Rates { taken: (999.0 * 999.0 - 998.0 * 998.0) / 2.0, refused: 0.5, delivered: 1.0 };

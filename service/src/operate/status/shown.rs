@@ -151,7 +151,7 @@ fn waits(status: &Status) -> Section {
     }
     let names: Vec<String> = quarantined(slots).into_iter().map(String::from).collect();
     let quarantined =
-        format!("quarantined: {}; `totxegun lift NAME` once it is repaired", senders_shown(&names));
+        format!("quarantined: {}; `totxegun release NAME` once it is repaired", senders_shown(&names));
     let notes = of_deliveries(status).into_iter().chain((!names.is_empty()).then_some(quarantined));
     Section::new("What waits", &["what", "how many#", "on disk#", "oldest#"], rows).noting(notes)
 }
@@ -274,9 +274,9 @@ fn limits(limits: &LimitsStatus) -> Section {
         vec![what.to_string(), shown(of.used), shown(of.limit), part, option.to_string()]
     };
     let rows = vec![
-        row("series", limits.series, grouped, "--most-series"),
-        row("memory of the book", limits.memory_bytes, bytes_shown, "--book-memory"),
-        row("memory of posts under way", limits.request_bytes, bytes_shown, "--most-bytes"),
+        row("series", limits.series, grouped, "--max-series"),
+        row("memory of the book", limits.memory_bytes, bytes_shown, "--max-memory"),
+        row("memory of posts under way", limits.request_bytes, bytes_shown, "--max-bytes"),
     ];
     let free = limits.disk_free_bytes.map(|free| format!("free on the disk: {}", bytes_shown(free)));
     Section::new("Limits", &["what", "now#", "at most#", "used#", "option"], rows).noting(free)
@@ -288,7 +288,7 @@ fn shares(status: &Status) -> Section {
         vec![
             sender_shown(&of.sender),
             grouped(of.series),
-            most(of.most_series),
+            most(of.max_series),
             grouped(of.points),
             most(of.most_points),
             format!("{:.0} %", 100.0 * of.part()),
@@ -355,8 +355,8 @@ fn late(status: &Status) -> Section {
 fn dead(status: &Status) -> Section {
     let requests = counted(status.dead, "request");
     let note = format!(
-        "{requests} that the sink refused for good: `totxegun dead list` has the reasons. Repair the sink, then `totxegun dead \
-         resend --all`; or `totxegun dead drop KEY`, and its points are lost"
+        "{requests} that the sink refused for good: `totxegun dead-letters list` has the reasons. Repair the sink, then `totxegun dead-letters \
+         resend --all`; or `totxegun dead-letters drop KEY`, and its points are lost"
     );
     Section::new("Dead requests", &[], Vec::new()).noting((status.dead > 0).then_some(note))
 }

@@ -13,15 +13,14 @@ pub(super) use labels::identity;
 pub use page::Times;
 
 use super::{message, reply, Desk, PROMETHEUS};
-use crate::sinks::postgres::{self, Server};
-use crate::sinks::sql::totals::Hour;
-use crate::sinks::sql::totals::{Filter, SeriesTotal};
-use crate::sinks::{sqlite, Address};
+use crate::otlp::series::Digest;
+use crate::sinks::sql::reading;
+use crate::sinks::sql::totals::{Hour, SeriesTotal};
+use crate::sinks::Address;
 use crate::work::blocking;
 use hyper::{Body, Response};
 use std::collections::HashSet;
 use std::fmt::Display;
-use std::path::PathBuf;
 use std::sync::Arc;
 use std::time::Duration;
 use tokio::sync::Semaphore;
@@ -32,7 +31,7 @@ const PATIENCE: Duration = Duration::from_secs(10);
 
 /// The sink that is read.
 pub struct Totals {
-    source: Source,
+    source: Address,
     times: Times,
     /// One reads the sink at a time.
     turn: Arc<Semaphore>,
@@ -40,58 +39,48 @@ pub struct Totals {
     page: Arc<Semaphore>,
 }
 
-#[derive(Clone)]
-enum Source {
-    Sqlite(PathBuf),
-    Postgres(Box<Server>),
-}
-
 impl Totals {
     /// None where the sink can't be read.
     pub fn of(sink: &Address, times: Times) -> Option<Totals> {
-        let source = match sink {
-            Address::Sqlite(path) => Source::Sqlite(path.clone()),
-            Address::Postgres(server) => Source::Postgres(server.clone()),
-            Address::Otlp { .. } => return None,
-        };
+        if let Address::Otlp { .. } = sink {
+            return None;
+        }
+        let source = sink.clone();
         let [turn, page] = [(); 2].map(|()| Arc::new(Semaphore::new(1)));
         Some(Totals { source, times, turn, page })
     }
 
     /// What came of a series in each hour from this one on (since 1970); none where the sink has no hours yet.
-    pub(super) async fn hours(&self, series: SeriesTotal, from: u64) -> Result<Option<Vec<Hour>>, String> {
-        let _turn = self.turn.clone().acquire_owned().await;
-        match self.source.clone() {
-            Source::Sqlite(path) => {
-                blocking(move || sqlite::by_hour::read(&path, &series, from)).await.map_err(said)
-            }
-            Source::Postgres(server) => postgres::by_hour::read(&server, &series, from).await.map_err(said),
-        }
+    pub(super) async fn hours(&self, series: Digest, from: u64) -> Result<Option<Vec<Hour>>, String> {
+        self.asked(move |sink| reading::hours(sink, &series, from).map_err(said)).await
     }
 
     /// The keys of late data that the sink has booked.
     pub(super) async fn booked(&self) -> Result<HashSet<String>, String> {
-        let _turn = self.turn.clone().acquire_owned().await;
-        match self.source.clone() {
-            Source::Sqlite(path) => blocking(move || sqlite::periods::booked(&path)).await.map_err(said),
-            Source::Postgres(server) => postgres::periods::booked(&server).await.map_err(said),
-        }
+        self.asked(|sink| reading::booked(sink).map_err(said)).await
     }
 
-    /// What is made of all totals. The turn is given back by who reads, also where who asked has gone.
+    /// What is made of all totals.
     pub(super) async fn read<T: Send + 'static>(
         &self,
         make: impl FnOnce(Vec<SeriesTotal>) -> Result<T, String> + Send + 'static,
     ) -> Result<T, String> {
+        self.asked(move |sink| make(reading::totals(sink).map_err(said)?)).await
+    }
+
+    /// The turn is given back by who reads, also where who asked has gone.
+    async fn asked<T: Send + 'static>(
+        &self,
+        read: impl FnOnce(&Address) -> Result<T, String> + Send + 'static,
+    ) -> Result<T, String> {
         let turn = self.turn.clone().acquire_owned().await;
         let source = self.source.clone();
-        let reading = tokio::spawn(async move {
-            let totals = source.read().await;
-            let made = blocking(move || make(totals?)).await;
+        let reading = move || {
+            let read = read(&source);
             drop(turn);
-            made
-        });
-        reading.await.unwrap_or_else(|error| Err(error.to_string()))
+            read
+        };
+        blocking(reading).await
     }
 
     /// A page of all totals.
@@ -101,17 +90,6 @@ impl Totals {
             return Err(format!("another reader has had a page of totals for {seconds} s: ask again"));
         };
         Ok(sent::sent(self.read(Ok).await?, self.times, turn))
-    }
-}
-
-impl Source {
-    async fn read(self) -> Result<Vec<SeriesTotal>, String> {
-        match self {
-            Source::Sqlite(path) => {
-                blocking(move || sqlite::totals::read(&path, &Filter::default())).await.map_err(said)
-            }
-            Source::Postgres(server) => postgres::totals::read(&server).await.map_err(said),
-        }
     }
 }
 

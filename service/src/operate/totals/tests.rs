@@ -3,9 +3,13 @@
 use super::labels::identity;
 use super::names::{label, metric};
 use super::page::{write, Times};
+use super::Totals;
 use crate::sinks::sql::exact::Exact;
 use crate::sinks::sql::totals::{Histogram, Kind, SeriesTotal};
 use serde_json::{json, Map, Value};
+use std::time::Duration;
+use tokio::net::TcpListener;
+use tokio::time::timeout;
 
 pub fn object(value: Value) -> Map<String, Value> {
     value.as_object().unwrap().clone()
@@ -21,6 +25,7 @@ pub fn series(name: &str, unit: &str, kind: Kind, total: i128, attributes: Value
         scope_name: String::new(),
         scope_version: String::new(),
         scope_attributes: Map::new(),
+        digest: [0; 32],
         points: 1,
         start_ns: 1,
         end_ns: 2,
@@ -302,4 +307,21 @@ fn a_sample_has_the_time_of_its_series_last_interval() {
     assert_eq!(ends("wait_seconds_sum"), ["77 1700000010000"]);
     assert_eq!(ends("wait_seconds_count"), ["3 1700000010000"]);
     assert_eq!(ends("target_info{"), ["1"]);
+}
+
+/// Else who asks and goes, while the server is silent, takes one thread after the other from all that is long.
+#[tokio::test]
+async fn one_reads_the_sink_at_a_time_also_once_who_asked_has_gone() {
+    let listener = TcpListener::bind("127.0.0.1:0").await.unwrap();
+    let address = format!("postgres://u@{}/d", listener.local_addr().unwrap());
+    let totals = Totals::of(&address.parse().unwrap(), Times::None).unwrap();
+    let short = Duration::from_millis(300);
+    timeout(short, totals.booked()).await.unwrap_err();
+    let accepted = |time| timeout(time, listener.accept());
+    let silent = accepted(Duration::from_secs(20)).await.unwrap().unwrap();
+    timeout(short, totals.hours([0; 32], 0)).await.unwrap_err();
+    timeout(short, totals.read(|all| Ok(all.len()))).await.unwrap_err();
+    timeout(short, totals.booked()).await.unwrap_err();
+    assert!(accepted(short).await.is_err(), "another reads it too");
+    drop(silent);
 }

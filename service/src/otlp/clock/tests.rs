@@ -7,7 +7,7 @@ const SECOND: u64 = 1_000_000_000;
 #[test]
 fn ends_at_the_bounds_are_taken_and_past_them_not() {
     let clock =
-        Clock { most_ahead: Some(Duration::from_secs(600)), most_behind: Some(Duration::from_secs(86_400)) };
+        Clock { max_ahead: Some(Duration::from_secs(600)), max_age: Some(Duration::from_secs(86_400)) };
     let now = 1_700_000_000 * SECOND;
     let window = clock.window_at(now);
     let (last, first) = (now + 600 * SECOND, now - 86_400 * SECOND);
@@ -30,6 +30,6 @@ fn what_is_not_bounded_is_taken_whatever_the_clock_says() {
         let window = Clock::default().window_at(now);
         assert!(window.has_all(0, u64::MAX));
     }
-    let ahead = Clock { most_ahead: Some(Duration::MAX), most_behind: None };
+    let ahead = Clock { max_ahead: Some(Duration::MAX), max_age: None };
     assert!(ahead.window_at(5).has_all(0, u64::MAX));
 }

@@ -47,7 +47,7 @@ struct Book {
 
 impl Book {
     fn new(most: usize) -> Book {
-        Book { series: Series::new(Arc::default(), most), named: RefCell::default() }
+        Book { series: Series::new(most), named: RefCell::default() }
     }
 
     fn read(&self, body: &[u8]) -> Option<(Vec<u64>, u64)> {
@@ -259,7 +259,7 @@ fn a_metric_keeps_its_unit_where_a_rule_puts_another_of_its_name_into_a_coarser_
         field(1, &field(2, &field(2, &metric)))
     };
     let as_text = |body: Vec<u8>| taken_of_test(Encoding::Protobuf, body.into(), &reading).unwrap().body;
-    let (series, named) = (Series::new(Arc::new(reading.clone()), 1 << 20), RefCell::new(Vec::new()));
+    let (series, named) = (Series::new(1 << 20), RefCell::new(Vec::new()));
     let read = |body: Vec<u8>| {
         let read = series.read(&body, &reading, |request| {
             named.borrow_mut().push(String::from_utf8(request.to_vec()).unwrap());

@@ -12,7 +12,7 @@ type ReadResult<T> = Result<T, NotForwarded>;
 
 /// The points of a forwarded request, in its order.
 pub fn forwarded(body: &[u8]) -> ReadResult<Vec<ForwardedPoint>> {
-    let document = parsed(body)?;
+    let document = Document::parse(body)?;
     let mut points = Vec::new();
     each(document.root(), "resourceMetrics", |of_resource| {
         let resource = list(member(of_resource, "resource")?, "attributes")?.raw();
@@ -28,7 +28,7 @@ pub fn forwarded(body: &[u8]) -> ReadResult<Vec<ForwardedPoint>> {
 
 /// A forwarded request in protobuf.
 pub fn protobuf_of_forwarded(body: &[u8]) -> ReadResult<Vec<u8>> {
-    let document = parsed(body)?;
+    let document = Document::parse(body)?;
     let mut out = Vec::with_capacity(body.len() / 2);
     put_message(&mut out, &REQUEST, document.root()).ok_or_else(|| missing("a field of a point"))?;
     Ok(out)
@@ -36,10 +36,6 @@ pub fn protobuf_of_forwarded(body: &[u8]) -> ReadResult<Vec<u8>> {
 
 fn missing(what: &str) -> NotForwarded {
     NotForwarded(format!("{what} is missing or of another form"))
-}
-
-pub(super) fn parsed(body: &[u8]) -> ReadResult<Document<'_>> {
-    Document::parse(body).map_err(|error| NotForwarded(error.to_string()))
 }
 
 fn member<'d>(object: Json<'d>, name: &str) -> ReadResult<Json<'d>> {

@@ -3,6 +3,7 @@
 use crate::log::cut;
 use crate::otlp::json::{begin, Value};
 use crate::otlp::number::{double_shown, MAX_WHOLE_DOUBLE};
+use crate::otlp::Reason;
 use std::borrow::Cow;
 use std::fmt;
 
@@ -24,88 +25,91 @@ pub struct Why<'d> {
     pub key: Option<Value<'d>>,
 }
 
-#[derive(Clone, Copy, Debug, PartialEq, Eq)]
-pub enum What {
-    OtherKind,
-    SeveralKinds,
-    Cumulative,
-    NotDelta,
-    NoTruth,
-    NoText,
-    LongText,
-    NoAttributes,
-    ManyAttributes,
-    SameKeys,
-    DoubleValue,
-    BytesValue,
-    MapValue,
-    ListInList,
-    LongList,
-    SeveralValues,
-    WrongValue,
-    NoStart,
-    EmptySpan,
-    NotRecorded,
-    NoNumber,
-    Double,
-    NotWhole,
-    Negative,
-    TooLarge,
-    NoList,
-    ManyBounds,
-    NotAscending,
-    NotFitting,
-    NotAdding,
-    /// Of an exponential histogram.
-    NoView,
+/// What may be wrong has a row: as what it is counted (of some that hangs on the metric too: `of_seen`), and its words, in which
+/// `{field}` and `{value}` are those of the point.
+macro_rules! wrong {
+    ($($what:ident $reason:ident $words:literal;)*) => {
+        #[derive(Clone, Copy, Debug, PartialEq, Eq)]
+        pub enum What {
+            $($what,)*
+        }
+
+        impl What {
+            fn row(self) -> (Reason, &'static str) {
+                match self {
+                    $(What::$what => (Reason::$reason, $words),)*
+                }
+            }
+        }
+    };
+}
+
+wrong! {
+    OtherKind ExponentialHistogram "{field} are not added up: only sums and histograms are";
+    SeveralKinds Other "its metric has more than one kind of data";
+    Cumulative UpDownCounter "it is cumulative: set the sender's temporality preference to delta";
+    NotDelta Other "aggregationTemporality is {value}: only 1, delta, is taken";
+    NoTruth Other "{field} is {value}, neither true nor false";
+    NoText Other "{field} is {value}, no text";
+    LongText Other "{field} has more than 4096 bytes";
+    NoAttributes Attribute "{field} is {value}, no list of attributes";
+    ManyAttributes Attribute "{field} has more than 128 attributes";
+    SameKeys Attribute "its key is there twice";
+    DoubleValue Attribute "its value is a double, {value}: texts, whole numbers, truths and lists of them are taken";
+    BytesValue Attribute "its value is bytes: texts, whole numbers, truths and lists of them are taken";
+    MapValue Attribute "its value is a map: texts, whole numbers, truths and lists of them are taken";
+    ListInList Attribute "its value is a list in a list";
+    LongList Attribute "its value is a list of more than 128";
+    SeveralValues Attribute "it has more than one value";
+    WrongValue Attribute "its value can't be read: {value}";
+    NoStart Span "startTimeUnixNano is {value}: each point has to say where it starts, over 0";
+    EmptySpan Span "timeUnixNano is {value}, not over its start";
+    NotRecorded NoValue "its flags say that no value was recorded";
+    NoNumber NoValue "it has no asInt";
+    Double Double "it is a double, {value}: use an instrument of whole numbers, or serve with --whole UNIT=FINER";
+    NotWhole Other "{field} is {value}, no whole number";
+    Negative Other "{field} is {value}, below zero";
+    TooLarge Other "{field} is {value}, over the limit";
+    NoList Other "{field} is {value}, no list";
+    ManyBounds Other "{field} are more than 255";
+    NotAscending Other "{field} do not ascend at {value}";
+    NotFitting Other "bucketCounts are not one more than explicitBounds";
+    NotAdding Other "bucketCounts do not add up to the count";
+    NoView ExponentialHistogram "it is an exponential histogram: {value}";
 }
 
 impl<'d> Why<'d> {
     pub fn new(what: What, field: &'static str, value: Option<Value<'d>>) -> Why<'d> {
         Why { what, field, value, key: None }
     }
+
+    /// As what it is counted, where its metric does not say more.
+    pub fn reason(&self) -> Reason {
+        self.what.row().0
+    }
+
+    /// Whether it is of a histogram's sum or a bound that is not whole.
+    pub fn is_fraction(&self) -> bool {
+        self.what == What::NotWhole && ["a bound", "sum"].contains(&self.field)
+    }
 }
 
 impl fmt::Display for Why<'_> {
     fn fmt(&self, out: &mut fmt::Formatter<'_>) -> fmt::Result {
-        let Why { what, field, .. } = *self;
         if let Some(key) = self.key.and_then(Value::text) {
-            write!(out, "{field} `{}`: ", short(&key, SHOWN))?;
+            write!(out, "{} `{}`: ", self.field, short(&key, SHOWN))?;
         }
         let value = self.value.map_or_else(|| "nothing".to_string(), shown);
-        match what {
-            What::OtherKind => write!(out, "{field} are not added up: only sums and histograms are"),
-            What::SeveralKinds => out.write_str("its metric has more than one kind of data"),
-            What::Cumulative => out.write_str("it is cumulative: set the sender's temporality preference to delta"),
-            What::NotDelta => write!(out, "aggregationTemporality is {value}: only 1, delta, is taken"),
-            What::NoTruth => write!(out, "{field} is {value}, neither true nor false"),
-            What::NoText => write!(out, "{field} is {value}, no text"),
-            What::LongText => write!(out, "{field} has more than 4096 bytes"),
-            What::NoAttributes => write!(out, "{field} is {value}, no list of attributes"),
-            What::ManyAttributes => write!(out, "{field} has more than 128 attributes"),
-            What::SameKeys => out.write_str("its key is there twice"),
-            What::DoubleValue => write!(out, "its value is a double, {value}: texts, whole numbers, truths and lists of them are taken"),
-            What::BytesValue => out.write_str("its value is bytes: texts, whole numbers, truths and lists of them are taken"),
-            What::MapValue => out.write_str("its value is a map: texts, whole numbers, truths and lists of them are taken"),
-            What::ListInList => out.write_str("its value is a list in a list"),
-            What::LongList => out.write_str("its value is a list of more than 128"),
-            What::SeveralValues => out.write_str("it has more than one value"),
-            What::WrongValue => write!(out, "its value can't be read: {value}"),
-            What::NoStart => write!(out, "startTimeUnixNano is {value}: each point has to say where it starts, over 0"),
-            What::EmptySpan => write!(out, "timeUnixNano is {value}, not over its start"),
-            What::NotRecorded => out.write_str("its flags say that no value was recorded"),
-            What::NoNumber => out.write_str("it has no asInt"),
-            What::Double if is_past_whole(&value) => write!(out, "it is a double, {value}, which also --whole takes for no whole number"),
-            What::Double => write!(out, "it is a double, {value}: use an instrument of whole numbers, or serve with --whole UNIT=FINER"),
-            What::NotWhole => write!(out, "{field} is {value}, no whole number{}", whole_help(field)),
-            What::Negative => write!(out, "{field} is {value}, below zero"),
-            What::TooLarge => write!(out, "{field} is {value}, over the limit"),
-            What::NoList => write!(out, "{field} is {value}, no list"),
-            What::ManyBounds => write!(out, "{field} are more than 255"),
-            What::NotAscending => write!(out, "{field} do not ascend at {value}"),
-            What::NotFitting => out.write_str("bucketCounts are not one more than explicitBounds"),
-            What::NoView => write!(out, "it is an exponential histogram: {value}"),
-            What::NotAdding => out.write_str("bucketCounts do not add up to the count"),
+        let words = match self.what {
+            What::Double if is_past_whole(&value) => {
+                "it is a double, {value}, which also --whole takes for no whole number"
+            }
+            what => what.row().1,
+        };
+        out.write_str(&words.replace("{field}", self.field).replace("{value}", &value))?;
+        match self.is_fraction() {
+            true => out.write_str(": measure in a finer unit, or serve with --whole UNIT=FINER"),
+            false => Ok(()),
         }
     }
 }
@@ -114,13 +118,6 @@ impl fmt::Display for Why<'_> {
 fn is_past_whole(shown: &str) -> bool {
     let double: f64 = shown.parse().unwrap_or(0.0);
     double.is_nan() || double.abs() > MAX_WHOLE_DOUBLE as f64
-}
-
-fn whole_help(field: &str) -> &'static str {
-    match field {
-        "a bound" | "sum" => ": measure in a finer unit, or serve with --whole UNIT=FINER",
-        _ => "",
-    }
 }
 
 /// A value as people write it.

@@ -4,10 +4,8 @@
 use super::random::Random;
 use super::{bytes, varint};
 use crate::otlp::messages::*;
-use crate::otlp::protobuf_of_forwarded;
 use crate::otlp::schema::{Kind, Message as Table, KEY_VALUE, NUMBER_POINT, REQUEST};
 use crate::otlp::wire::{Fields, Payload};
-use bytes::Bytes;
 use prost::Message;
 
 /// How many requests are drawn, of which each is posted again and again.
@@ -222,20 +220,4 @@ fn mutated(mut body: Vec<u8>, random: &mut Random) -> Vec<u8> {
         }
     }
     body
-}
-
-/// A request of sums in one scope, each of its name, its start, its end and its value.
-pub fn sums(sums: &[(&str, u64, u64, i64)]) -> Bytes {
-    let metric = |(name, start, end, value): &(&str, u64, u64, i64)| {
-        format!(
-            r#"{{"name":"{name}","unit":"","sum":{{"aggregationTemporality":1,"isMonotonic":false,"dataPoints":[{{"asInt":"{value}","attributes":[],"startTimeUnixNano":"{start}","timeUnixNano":"{end}"}}]}}}}"#
-        )
-    };
-    let metrics: Vec<String> = sums.iter().map(metric).collect();
-    let scope = r#"{"attributes":[],"name":"s","version":"1"}"#;
-    let json = format!(
-        r#"{{"resourceMetrics":[{{"resource":{{"attributes":[]}},"scopeMetrics":[{{"metrics":[{}],"scope":{scope}}}]}}]}}"#,
-        metrics.join(",")
-    );
-    protobuf_of_forwarded(json.as_bytes()).unwrap().into()
 }

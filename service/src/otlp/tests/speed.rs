@@ -4,7 +4,7 @@
 use super::*;
 
 /// Nanoseconds that this thread was on a processor.
-fn on_processor() -> u64 {
+pub fn on_processor() -> u64 {
     let times = std::fs::read_to_string("/proc/thread-self/schedstat").unwrap();
     times.split(' ').next().unwrap().parse().unwrap()
 }

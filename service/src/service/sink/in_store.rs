@@ -6,9 +6,7 @@ use crate::files::KnownSink;
 use crate::store::postgres::PostgresStore;
 use crate::work::locked;
 use anyhow::{anyhow, Context};
-use std::collections::BTreeMap;
 use std::sync::{Arc, Mutex};
-use std::thread::sleep;
 use std::time::Duration;
 use tokio::runtime::{Handle, RuntimeFlavor};
 use tokio::task::block_in_place;
@@ -24,13 +22,18 @@ pub struct InStore {
 
 impl InStore {
     pub fn open(store: Arc<PostgresStore>) -> anyhow::Result<InStore> {
-        let known = store.sink()?;
-        Ok(InStore { known: Mutex::new(KnownSink::of_line(&known)), store })
+        let known = known(&store.sink()?)?;
+        Ok(InStore { known: Mutex::new(known), store })
     }
+}
 
-    fn beats(&self) -> Result<BTreeMap<String, u64>, Ended> {
-        Ok(self.store.beats().context("the store can't be read")?)
-    }
+/// What the store has, which is none as long as nobody has met one.
+fn known(text: &str) -> anyhow::Result<Option<KnownSink>> {
+    KnownSink::of_text(text).with_context(|| {
+        format!(
+            "its sink is {text:?}, as an earlier build of totxegun wrote it: start the totxegun that wrote it, or give another --store"
+        )
+    })
 }
 
 impl Remembers for InStore {
@@ -41,11 +44,10 @@ impl Remembers for InStore {
     /// All instances deliver to one, so the first that meets it says so for all.
     fn set_sink(&self, sink: KnownSink) -> Result<(), Ended> {
         let mut known = locked(&self.known);
-        let before = known.as_ref().map(KnownSink::line).unwrap_or_default();
-        let line = sink.line();
-        let there = in_place(|| self.store.set_sink(&before, &line));
-        let there = there.context("the store can't be written")?;
-        *known = KnownSink::of_line(&there);
+        let text = |sink: &KnownSink| sink.text().context("the sink can't be written");
+        let (before, now) = (known.as_ref().map_or(Ok(String::new()), text)?, text(&sink)?);
+        let there = in_place(|| self.store.set_sink(&before, &now));
+        *known = self::known(&there.context("the store can't be written")?)?;
         match &*known {
             Some(there) if there.is(&sink) || sink.id.is_none() && there.is_at(&sink) => Ok(()),
             there => {
@@ -58,16 +60,11 @@ impl Remembers for InStore {
 
     /// What one has under way would go into the former sink, and what is not acknowledged there into both.
     fn may_change(&self) -> Result<(), Ended> {
-        let before = self.beats()?;
-        if before.is_empty() {
-            return Ok(());
-        }
-        tracing::info!("--new-sink: it is looked for {STILL:?} whether another instance runs");
-        in_place(|| sleep(STILL));
-        let after = self.beats()?;
-        let beats = |name: &&String| before.get(*name) != after.get(*name);
-        let living: Vec<&str> = after.keys().filter(beats).map(String::as_str).collect();
-        match living[..] {
+        tracing::info!(
+            "--new-sink: if there were other instances, it is looked for {STILL:?} whether one runs"
+        );
+        let living = in_place(|| self.store.running(STILL)).context("the store can't be read")?;
+        match &living[..] {
             [] => Ok(()),
             _ => Err(Ended::Other(anyhow!(
                 "--new-sink is for one start while no other instance runs, and {} do: stop all first",
@@ -99,8 +96,19 @@ fn in_place<T>(work: impl FnOnce() -> T) -> T {
 
 #[cfg(test)]
 mod tests {
-    use super::in_place;
+    use super::{in_place, known};
+    use crate::files::KnownSink;
     use tokio::runtime::Builder;
+
+    /// One that is there and can't be read is not taken for none: what waits would go into any.
+    #[test]
+    fn a_sink_of_an_earlier_build_is_refused_by_name() {
+        let sink = KnownSink::new("sqlite", "/a.db");
+        let [nothing, there] = ["", &sink.text().unwrap()].map(|text| known(text).unwrap());
+        assert_eq!((nothing, there), (None, Some(sink)));
+        let why = format!("{:#}", known("sqlite /a.db").unwrap_err());
+        assert!(why.contains("earlier build") && why.contains("another --store"), "{why}");
+    }
 
     #[test]
     fn it_is_waited_for_on_every_runtime() {

@@ -4,6 +4,7 @@ use super::*;
 use crate::files::Durability;
 use crate::sinks::Fate;
 use crate::sinks::Forwarded;
+use serde_json::{json, Value};
 use std::path::{Path, PathBuf};
 use tempfile::{tempdir, TempDir};
 
@@ -22,10 +23,15 @@ impl Place {
         self.file("data").join("version")
     }
 
-    /// What `version` says of the sink.
-    fn line(&self) -> Option<String> {
-        let text = std::fs::read_to_string(self.version()).unwrap();
-        text.lines().find(|line| line.starts_with("sink ")).map(String::from)
+    fn said(&self) -> Value {
+        serde_json::from_slice(&std::fs::read(self.version()).unwrap()).unwrap()
+    }
+
+    /// Has `version` say this of the sink.
+    fn say(&self, sink: Value) {
+        let mut said = self.said();
+        said["sink"] = sink;
+        std::fs::write(self.version(), said.to_string()).unwrap();
     }
 
     /// A start, which ends at once.
@@ -48,12 +54,12 @@ impl Place {
     }
 
     fn is_refused(&self, sink: &str, parts: &[&str]) {
-        let before = self.line();
+        let before = self.said()["sink"].clone();
         let said = self.start(sink, false).err().expect("it is another");
         for part in parts.iter().chain(&["--new-sink", "requests that wait: 1"]) {
             assert!(said.contains(part), "{part}: {said}");
         }
-        assert_eq!(self.line(), before);
+        assert_eq!(self.said()["sink"], before);
     }
 }
 
@@ -117,19 +123,18 @@ fn a_new_sink_is_taken_by_name_and_kept() {
 }
 
 #[test]
-fn a_folder_without_the_line_takes_the_first_sink() {
+fn a_folder_that_has_met_no_sink_takes_the_first() {
     let place = Place::new();
     let (one, other) = (place.file("one.db"), place.file("other.db"));
     place.starts(&one);
-    let text = std::fs::read_to_string(place.version()).unwrap();
-    let (before, line) = text.split_at(text.find("sink ").unwrap());
-    assert!(line.ends_with(&format!(" sqlite {}\n", one.display())), "{line}");
-    std::fs::write(place.version(), before).unwrap();
+    let met = &place.said()["sink"];
+    assert_eq!((&met["kind"], &met["address"]), (&json!("sqlite"), &json!(one)));
+    place.say(Value::Null);
     place.starts(&other);
     place.starts(&other);
-    std::fs::write(place.version(), format!("{before}sink what\n")).unwrap();
+    place.say(json!("what"));
     let error = Folder::open(&place.file("data"), Durability::Disk).err().unwrap();
-    assert!(error.to_string().contains("which sink it has"), "{error}");
+    assert!(error.to_string().contains("put a copy of this file"), "{error}");
 }
 
 #[test]
@@ -143,7 +148,7 @@ fn no_secret_is_written_or_said() {
         // A password that changes makes no other sink.
         assert_eq!(place.start(&sink.replace("secret", "hidden"), false).err(), None);
         let written = std::fs::read_to_string(place.version()).unwrap();
-        assert!(written.contains("sink - ") && !written.contains("secret"), "{written}");
+        assert!(written.contains("\"id\":null") && !written.contains("secret"), "{written}");
         let said = place.start(other, false).err().unwrap();
         assert!(said.contains("127.0.0.1:9/") && !said.contains("secret"), "{said}");
     }

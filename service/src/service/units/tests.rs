@@ -75,11 +75,11 @@ fn settings(place: &Path) -> Settings {
         live: Live::default(),
         reload: Box::new(|| None),
         pass: None,
-        most_bytes: 64 << 20,
+        max_bytes: 64 << 20,
         max_late: 1 << 20,
-        most_connections: 8,
+        max_connections: 8,
         threads: 1,
-        most_series: 1000,
+        max_series: 1000,
         totals_times: operate::Times::None,
         metrics: Arc::new(Metrics::new().unwrap()),
     }
@@ -112,7 +112,7 @@ impl Service {
         let slots = Slots::several(Resources::new(SLOTS, reading.clone()), None);
         let of_desk = operate::Units::of(SLOTS);
         let (at_work, ends) = AtWork::new(of_desk.clone());
-        let budget = Budget::new(settings.most_bytes);
+        let budget = Budget::new(settings.max_bytes);
         let intake = Intake::of(slots.clone(), reporter.clone(), reading, budget.clone(), metrics.clone());
         let desk = Arc::new(Desk {
             others,
@@ -130,7 +130,7 @@ impl Service {
             operate: String::new(),
             is_local: true,
             data: place.display().to_string(),
-            most_series: 1000,
+            max_series: 1000,
             begun: Instant::now(),
         });
         let units = Units { settings, shared, sink: sink.clone(), reporter, slots, at_work };
@@ -296,7 +296,7 @@ async fn what_a_start_puts_in_again_is_a_group_of_its_own() {
     service.units.lose(0);
     service.begin(0, files()).await;
     assert_eq!(service.post(&[0], 20).await, Outcome::taken(0));
-    assert_eq!(service.ask("POST", "/checkpoint").await.0, 503, "two slots are elsewhere");
+    assert_eq!(service.ask("POST", "/flush").await.0, 503, "two slots are elsewhere");
     assert_eq!(service.taken().await, (vec![0, 0], 2));
 }
 
@@ -315,7 +315,7 @@ async fn orders_are_all_slots_and_503_where_one_is_not_here() {
     assert_eq!(service.ask(quarantine.0, quarantine.1).await.0, 200, "also where some had it");
     assert_eq!(service.post(&[0, 1, 2], 10).await.status(), 403);
     assert_eq!(service.ask(quarantine.0, quarantine.1).await.0, 400, "all had it");
-    assert_eq!(service.ask("POST", "/lift/A").await.0, 200);
+    assert_eq!(service.ask("POST", "/release/A").await.0, 200);
     assert_eq!(service.post(&[0, 1, 2], 10).await, Outcome::taken(0));
     let (status, text) = service.ask("POST", "/flush").await;
     assert_eq!((status, text.as_str()), (200, r#"{"requests":3}"#));

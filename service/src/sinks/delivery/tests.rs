@@ -1,6 +1,8 @@
 //! What becomes of requests, by a sink that answers by a script and files that are in memory.
 
 use super::*;
+use crate::files::outbox::Waiting;
+use crate::files::{Epochs, Lost, Tenure};
 use crate::sinks::{Answer, Beyond, Keys};
 use std::collections::VecDeque;
 

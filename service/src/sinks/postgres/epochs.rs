@@ -28,7 +28,7 @@ pub(super) async fn goes_on(session: &mut Session, slot: u16, epochs: &Epochs) -
 
 struct Noting<'a> {
     transaction: Transaction<'a>,
-    statements: &'a super::session::Statements,
+    statements: &'a super::statements::Statements,
     slot: i32,
 }
 

@@ -60,6 +60,12 @@ impl From<NotConnected> for Fault {
     }
 }
 
+impl From<anyhow::Error> for Fault {
+    fn from(odd: anyhow::Error) -> Fault {
+        Fault::Server(odd.to_string())
+    }
+}
+
 impl From<Fault> for NotTaken<Fault> {
     fn from(fault: Fault) -> NotTaken<Fault> {
         NotTaken::Fault(fault)

@@ -3,20 +3,18 @@
 //! It connects when it is needed and again after a fault, so whatever is wrong with the server is a reason to try
 //! again: no request is lost by it.
 
-pub mod by_hour;
 mod epochs;
-pub mod export;
 mod fault;
 mod fence;
-pub mod periods;
+mod periods;
 mod point_rows;
+pub(super) mod reading;
 mod schema;
 mod series;
 mod series_rows;
 mod session;
 mod statements;
 mod store;
-pub mod totals;
 mod upkeep;
 mod values;
 
@@ -30,6 +28,7 @@ use crate::files::{Epochs, Tenure};
 use crate::work::blocking;
 use fault::Fault;
 use session::{within, Session};
+use std::slice::from_ref;
 use std::sync::atomic::{AtomicBool, Ordering::Relaxed};
 use std::sync::Arc;
 use std::time::Duration;
@@ -85,21 +84,22 @@ impl PostgresSink {
         })
     }
 
-    /// By the session that is there, or by a new one, which may have to bring the schema up first.
+    /// By the session that is there, or by a new one, which may have to make the schema first.
     async fn take(
         &self,
-        request: &Forwarded,
+        all: &[Forwarded],
         sent: Sent,
         tenure: Option<&Tenure>,
     ) -> Result<LeftOut, NotTaken> {
-        let body = request.body.clone();
+        let bodies: Vec<Vec<u8>> = all.iter().map(|one| one.body.clone()).collect();
         // Milliseconds of work, too much for the runtime.
-        let content = blocking(move || Content::read(&body)).await?;
+        let read = move || bodies.iter().map(|body| Content::read(body)).collect::<Result<_, _>>();
+        let contents = blocking(read).await?;
         // It is not the server that is late where other slots' requests go first.
         let mut place = self.session.lock().await;
         let mut session = self.session(&mut place).await?;
-        session.owners = Some(self.owners.of(request));
-        let taken = within(self.patience, store::take(&mut session, request, sent, tenure, content)).await;
+        session.owners = all.first().and_then(|first| self.owners.of(first));
+        let taken = within(self.patience, store::take(&mut session, all, sent, tenure, contents)).await;
         PostgresSink::put_back(session, &mut place, &taken);
         taken
     }
@@ -125,23 +125,11 @@ impl PostgresSink {
         Ok(session)
     }
 
-    /// As `take`, of several, which are all taken or none of them.
-    async fn take_together(&self, all: &[Forwarded], tenure: Option<&Tenure>) -> Result<bool, NotTaken> {
-        let bodies: Vec<Vec<u8>> = all.iter().map(|one| one.body.clone()).collect();
-        let read = move || bodies.iter().map(|body| Content::read(body)).collect::<Result<Vec<_>, _>>();
-        let contents = blocking(read).await?;
-        let mut place = self.session.lock().await;
-        let mut session = self.session(&mut place).await?;
-        session.owners = all.first().map(|first| self.owners.of(first));
-        let taken = within(self.patience, store::take_together(&mut session, all, tenure, contents)).await;
-        PostgresSink::put_back(session, &mut place, &taken);
-        taken
-    }
-
-    async fn send(&self, request: &Forwarded, sent: Sent, tenure: Option<&Tenure>) -> Fate {
-        match self.take(request, sent, tenure).await {
-            Ok(left) => left.fate(&request.body),
-            Err(why) => self.fate(why),
+    async fn send(&self, all: &[Forwarded], sent: Sent, tenure: Option<&Tenure>) -> Fate {
+        match (self.take(all, sent, tenure).await, all.first()) {
+            (Ok(left), Some(first)) => left.fate(&first.body),
+            (Ok(_), None) => Fate::Taken,
+            (Err(why), _) => self.fate(why),
         }
     }
 
@@ -176,11 +164,11 @@ fn try_once(server: &Server, memory: Arc<dyn Memory>) -> anyhow::Result<Result<(
 
 impl Sink for PostgresSink {
     fn deliver<'a>(&'a self, request: &'a Forwarded) -> Answer<'a, Fate> {
-        Box::pin(self.send(request, Sent::ByHand, None))
+        Box::pin(self.send(from_ref(request), Sent::ByHand, None))
     }
 
     fn deliver_of<'a>(&'a self, request: &'a Forwarded, tenure: Option<&'a Tenure>) -> Answer<'a, Fate> {
-        Box::pin(self.send(request, Sent::InOrder, tenure))
+        Box::pin(self.send(from_ref(request), Sent::InOrder, tenure))
     }
 
     fn goes_on<'a>(&'a self, slot: u16, epochs: &'a Epochs) -> Answer<'a, Result<Beyond, Fate>> {
@@ -192,7 +180,7 @@ impl Sink for PostgresSink {
     }
 
     fn deliver_together<'a>(&'a self, all: &'a [Forwarded], tenure: Option<&'a Tenure>) -> Answer<'a, bool> {
-        Box::pin(async move { self.take_together(all, tenure).await.unwrap_or(false) })
+        Box::pin(async move { self.send(all, Sent::InOrder, tenure).await == Fate::Taken })
     }
 
     fn settle<'a>(&'a self, who: &'a str, deed: &'a Deed) -> Answer<'a, Told> {
@@ -249,8 +237,7 @@ mod tests {
             body: br#"{"resourceMetrics":[]}"#.to_vec(),
         };
         let (one, other) = (request(0), request(1));
-        let fates =
-            tokio::join!(sink.send(&one, Sent::InOrder, None), sink.send(&other, Sent::InOrder, None));
+        let fates = tokio::join!(sink.deliver_of(&one, None), sink.deliver_of(&other, None));
         for fate in [fates.0, fates.1] {
             let Fate::Away { reason } = fate else { panic!("{fate:?}") };
             assert!(reason.ends_with("no answer within 0.3 s"), "{reason}");

@@ -5,13 +5,12 @@ use super::schema;
 use super::session;
 use super::statements;
 use super::store::commit;
-use super::totals::parts_of;
 use super::Server;
-use crate::sinks::periods::{Adjusted, Adjustment, Closed, Deed, Period, Row, Told, Which};
-use crate::sinks::sql;
+use crate::sinks::periods::{Deed, Told};
+use crate::sinks::sql::{self, Cell, Row};
 use crate::sinks::Memory;
-use std::collections::HashSet;
 use std::time::Duration;
+use tokio_postgres::types::ToSql;
 use tokio_postgres::{Error, Row as DatabaseRow, Transaction};
 
 /// `totxegun` and two more, as the number of an advisory lock.
@@ -21,24 +20,6 @@ pub(super) const LOCK: i64 = schema::LOCK + 2;
 const PATIENCE: Duration = Duration::from_secs(30);
 
 const ALONE: &str = "select pg_advisory_xact_lock($1::int8)";
-
-const MADE_BEFORE: &str = "select who, extract(epoch from made_at)::int8 from totxegun.corrections
-    where late_key = $5::text and (late_key <> ''
-        or (series = $1::int8 and of_hour = $2::int4 and value = $3::int8 and reason = $4::text))";
-
-/// Those that have points, of a name, which has U+FFFD for what no text of the server holds.
-const NAMED: &str =
-    "select id, identity from totxegun.series join totxegun.series_total on series_total.series = series.id
-    where name = $1::text";
-const HAS_POINTS: &str = "select series from totxegun.series_total where series = $1::int8";
-
-/// What all adjustments come to; and from when hours are there.
-const ADJUSTED: &str =
-    "select (select coalesce(sum(abs(value::numeric)), 0)::int8 from totxegun.corrections), hours_from
-    from totxegun.horizon";
-
-const ADJUST: &str = "insert into totxegun.corrections (series, of_hour, hour, value, reason, late_key, who)
-    values ($1::int8, $2::int4, $3::int4, $4::int8, $5::text, $6::text, $7::text)";
 
 /// Where its hour is later than the last one of the series, that one is over.
 const LAST_HOUR: &str = "select hour from totxegun.series_total where series = $1::int8 for no key update";
@@ -56,23 +37,6 @@ const TO_METRIC: &str =
     "insert into totxegun.metric_hour as h (metric, hour, points, total, count, corrections)
     select metric, $2::int4, 0, 0, 0, $3::int8 from totxegun.series where id = $1::int8
     on conflict (metric, hour) do update set corrections = coalesce(h.corrections, 0) + excluded.corrections";
-
-/// Of rows of `statements::CLOSED`, of which there is at least one.
-pub(super) fn closed_of(rows: &[DatabaseRow]) -> Closed {
-    let row = |row: &DatabaseRow| {
-        Some(Row {
-            period: row.get::<_, Option<String>>(1)?,
-            from: row.get::<_, i32>(2).into(),
-            to: row.get::<_, i32>(3).into(),
-            who: row.get(4),
-            at: row.get(5),
-        })
-    };
-    Closed {
-        rows: rows.iter().filter_map(row).collect(),
-        now: rows.first().map_or(0, |first| first.get::<_, i32>(0).into()),
-    }
-}
 
 /// Carries a deed out, or leaves all as it was, unless the answer to the commit was lost: the same may be asked again.
 pub(super) async fn settle(server: &Server, memory: &dyn Memory, who: &str, deed: &Deed) -> Told {
@@ -95,83 +59,24 @@ async fn settled(server: &Server, memory: &dyn Memory, who: &str, deed: &Deed) -
     commit(periods.0, &connection.warnings).await.map(|()| told)
 }
 
-/// The keys of late data that is booked; none while there is no schema.
-pub async fn booked(server: &Server) -> anyhow::Result<HashSet<String>> {
-    let keys = async {
-        let (client, _connection) = session::connect_to_read(server).await?;
-        if !schema::check(&client).await? {
-            return Ok(HashSet::new());
-        }
-        let rows =
-            client.query("select late_key from totxegun.corrections where late_key <> ''", &[]).await?;
-        Ok::<HashSet<String>, Fault>(rows.iter().map(|row| row.get(0)).collect())
-    };
-    session::within(PATIENCE, keys).await.map_err(|fault| fault.at(server))
-}
-
 struct Changing<'a>(Transaction<'a>);
 
 impl sql::Periods for Changing<'_> {
-    type Fault = Error;
+    type Fault = Fault;
 
-    async fn closed(&mut self) -> Result<Closed, Error> {
-        Ok(closed_of(&self.0.query(statements::CLOSED, &[]).await?))
+    async fn rows(&mut self, statement: &str, values: &[Cell<'_>]) -> Result<Vec<Row>, Fault> {
+        let values: Vec<&(dyn ToSql + Sync)> = values.iter().map(|value| value as _).collect();
+        Ok(self.0.query(&statement.replace('?', "$"), &values).await?.iter().map(texts).collect())
     }
 
-    async fn close(&mut self, who: &str, period: &Period) -> Result<(), Error> {
-        let (from, to) = (period.from as i32, period.to as i32);
-        let row = "insert into totxegun.closed (from_hour, to_hour, period, who)
-            values ($1::int4, $2::int4, $3::text, $4::text)";
-        self.0.execute(row, &[&from, &to, &period.to_string(), &who]).await.map(drop)
+    async fn add(&mut self, series: i64, hour: i64, value: i64) -> Result<(), Fault> {
+        Ok(add(&self.0, series, hour as i32, value).await?)
     }
+}
 
-    async fn open(&mut self, period: &Period) -> Result<(), Error> {
-        let row = "delete from totxegun.closed where from_hour = $1::int4 and to_hour = $2::int4";
-        self.0.execute(row, &[&(period.from as i32), &(period.to as i32)]).await.map(drop)
-    }
-
-    async fn number(&mut self, series: &Which) -> Result<Option<i64>, Error> {
-        let named = match series {
-            Which::Number(number) => {
-                let row = self.0.query_opt(HAS_POINTS, &[number]).await?;
-                return Ok(row.map(|row| row.get(0)));
-            }
-            Which::Identified(series) => series,
-        };
-        let rows = self.0.query(NAMED, &[&named.name.replace('\0', "\u{fffd}")]).await?;
-        let is_it = |row: &&DatabaseRow| parts_of(row.get(1)).is_ok_and(|found| found.is_of_series(named));
-        Ok(rows.iter().find(is_it).map(|row| row.get(0)))
-    }
-
-    async fn made_before(
-        &mut self,
-        series: i64,
-        adjustment: &Adjustment,
-    ) -> Result<Option<(String, i64)>, Error> {
-        let Adjustment { hour, value, reason, late_key, .. } = adjustment;
-        let hour = hour.from as i32;
-        let row = self.0.query_opt(MADE_BEFORE, &[&series, &hour, value, reason, late_key]).await?;
-        Ok(row.map(|row| (row.get(0), row.get(1))))
-    }
-
-    async fn adjusted(&mut self) -> Result<Adjusted, Error> {
-        let row = self.0.query_one(ADJUSTED, &[]).await?;
-        let hours_from: i32 = row.get(1);
-        Ok(Adjusted { so_far: row.get(0), hours_from: hours_from.into() })
-    }
-
-    async fn adjust(
-        &mut self,
-        who: &str,
-        series: i64,
-        adjustment: &Adjustment,
-        hour: i64,
-    ) -> Result<(), Error> {
-        let Adjustment { hour: of_hour, value, reason, late_key, .. } = adjustment;
-        let (of_hour, hour) = (of_hour.from as i32, hour as i32);
-        self.0.execute(ADJUST, &[&series, &of_hour, &hour, value, reason, late_key, &who]).await?;
-        add(&self.0, series, hour, *value).await
-    }
+/// A row of texts.
+pub(super) fn texts(row: &DatabaseRow) -> Row {
+    Row((0..row.len()).map(|column| row.get(column)).collect())
 }
 
 /// To an hour of a series and of its metric, made where nothing was counted.

@@ -5,7 +5,7 @@ use super::values::{row, NewRow, Numeric};
 use crate::otlp::series::{ForwardedPoint, Value};
 use crate::sinks::sql::{by_metric, sums_of, Adding, InHour, Sums};
 
-/// A row of `totxegun.new_interval`. Times from 2^63 on, in the year 2262, are less 2^64.
+/// A row of `interval_row`. Times from 2^63 on, in the year 2262, are less 2^64.
 pub(super) fn interval_row(series: i64, point: &ForwardedPoint) -> NewRow<'_> {
     row(move |write| {
         let (value, count, sum, counts) = match &point.value {
@@ -52,7 +52,7 @@ fn earlier<'a>(adding: &'a Adding<'_, Known>) -> &'a [InHour<'a>] {
     &adding.hours[..adding.hours.partition_point(|hour| hour.hour < last)]
 }
 
-/// A row of `totxegun.new_total`.
+/// What a row of `series_total` gets more, as such a row.
 pub(super) fn total_row<'a>(adding: &'a Adding<'a, Known>) -> NewRow<'a> {
     row(move |write| {
         let (points, all, before) = (&adding.of.points, adding.sums(), sums_of(earlier(adding)));
@@ -71,13 +71,14 @@ pub(super) fn total_row<'a>(adding: &'a Adding<'a, Known>) -> NewRow<'a> {
             &Numeric(before.count),
             &before.without_sum,
             &numerics(before.buckets),
+            &None::<Numeric>,
             &adding.ends.life,
             &Numeric::from(adding.ends.floor),
         ])
     })
 }
 
-/// Rows of `totxegun.new_hour`, for what counts in earlier hours than the last one.
+/// Rows of `past_hour`, for what counts in earlier hours than the last one.
 pub(super) fn hour_rows<'a>(adding: &'a Adding<'a, Known>) -> impl Iterator<Item = NewRow<'a>> {
     let hours = earlier(adding).chunk_by(|one, next| one.hour == next.hour);
     hours.map(move |hours| {
@@ -85,41 +86,43 @@ pub(super) fn hour_rows<'a>(adding: &'a Adding<'a, Known>) -> impl Iterator<Item
             let (hour, all) = (hours.first().map(|hour| hour.hour as i32), sums_of(hours));
             write(&[
                 &adding.stored.row.id,
-                &hour,
                 &all.points,
+                &all.without_sum,
+                &hour,
                 &Numeric(all.total),
                 &Numeric(all.count),
-                &all.without_sum,
                 &numerics(all.buckets),
+                &Numeric(0),
             ])
         })
     })
 }
 
-/// Rows of `totxegun.new_late`, for what belongs to closed hours.
+/// Rows of `late_hour`, for what belongs to closed hours.
 pub(super) fn late_rows<'a>(adding: &'a Adding<'a, Known>) -> impl Iterator<Item = NewRow<'a>> {
     adding.late().map(move |late| {
         row(move |write| {
             let all = late.sums();
             write(&[
                 &adding.stored.row.id,
+                &all.points,
+                &all.without_sum,
                 &(late.of as i32),
                 &(late.hour as i32),
-                &all.points,
                 &Numeric(all.total),
                 &Numeric(all.count),
-                &all.without_sum,
                 &numerics(all.buckets),
             ])
         })
     })
 }
 
-/// Rows of `totxegun.new_metric_hour`.
+/// Rows of `metric_hour`.
 pub(super) fn metric_rows<'a>(all: &'a [Adding<'a, Known>]) -> Vec<NewRow<'a>> {
-    let of_row = |((metric, hour), sums): ((&'a str, i64), Sums)| {
+    let of_row = |((metric, hour), sums): ((&'a [u8], i64), Sums)| {
         row(move |write| {
-            write(&[&metric, &(hour as i32), &sums.points, &Numeric(sums.total), &Numeric(sums.count)])
+            let (total, count) = (Numeric(sums.total), Numeric(sums.count));
+            write(&[&metric, &(hour as i32), &sums.points, &total, &count, &None::<Numeric>])
         })
     };
     by_metric(all, |known: &'a Known| &known.metric[..]).into_iter().map(of_row).collect()

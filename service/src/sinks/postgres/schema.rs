@@ -3,13 +3,14 @@
 use super::fault::Fault;
 use super::upkeep::days;
 use super::Server;
+use crate::sinks::sql::{about, About};
 use crate::sinks::Memory;
-use tokio_postgres::{Client, Error, GenericClient};
+use tokio_postgres::{Client, Error, GenericClient, Transaction};
 
 const SCHEMA: &str = include_str!("schema.sql");
 
-/// The version that this program reads and writes. Schemas of 1 to 11 have other tables.
-pub(super) const KNOWN: i32 = 12;
+/// The version that this program reads and writes.
+pub(super) const KNOWN: i32 = 1;
 
 /// `totxegun`, as the number of an advisory lock: one of several services makes the schema, the others wait.
 pub(super) const LOCK: i64 = 0x746f_7478_6567_756e;
@@ -40,10 +41,29 @@ async fn make_anew(client: &mut Client, server: &Server, was_there: bool) -> Res
     if !check(&transaction).await? {
         tell_of_lost(&transaction, server, was_there).await?;
         transaction.batch_execute(SCHEMA).await?;
+        explain(&transaction).await?;
         days::make(&mut transaction).await?;
         tracing::info!("{server}: the schema totxegun of version {KNOWN} was made");
     }
     Ok(transaction.commit().await?)
+}
+
+/// Has tables, views and columns say what they are.
+async fn explain(transaction: &Transaction<'_>) -> Result<(), Error> {
+    let all = "select relname::text, attname::text from pg_attribute join pg_class on pg_class.oid = attrelid
+        where relnamespace = 'totxegun'::regnamespace and relkind in ('r', 'p', 'v') and attnum > 0";
+    let columns: Vec<(String, String)> =
+        transaction.query(all, &[]).await?.iter().map(|row| (row.get(0), row.get(1))).collect();
+    let comment = |About { is_view, of, column, what }: &About| {
+        let of = match (*column, is_view) {
+            ("", true) => format!("view totxegun.{of}"),
+            ("", false) => format!("table totxegun.{of}"),
+            (column, _) => format!("column totxegun.{of}.\"{column}\""),
+        };
+        format!("comment on {of} is '{}';", what.replace('\'', "''"))
+    };
+    let comments: String = about(SCHEMA, &columns).iter().map(comment).collect();
+    transaction.batch_execute(&comments).await
 }
 
 /// Says so where the tables are made although there were some: these are under another name, or gone.

@@ -1,39 +1,13 @@
 //! The rows of a request's series: made where they are new, found, and locked.
 
 use super::fault::Fault;
-use super::series_rows::Objects;
+use super::series_rows::series_row;
 use super::store::{NotTaken, Writing};
 use crate::sinks::sql::{Ends, OfSeries, Stored};
-use std::collections::HashSet;
 use tokio_postgres::Row;
 
 /// How many new series are worth a statement of their own.
 const PIECE: usize = 100;
-/// How many series are kept in mind, in some megabytes. Then it begins anew.
-const SEEN: usize = 1_000_000;
-
-/// Series that the database has, by the first bytes of their digests. It may have others too.
-#[derive(Default)]
-pub(super) struct Seen(HashSet<u64>);
-
-impl Seen {
-    fn has(&self, series: &OfSeries) -> bool {
-        self.0.contains(&Seen::first_bytes(series))
-    }
-
-    /// Once they are committed.
-    pub(super) fn add(&mut self, all: Vec<u64>) {
-        if self.0.len() > SEEN {
-            self.0.clear();
-        }
-        self.0.extend(all);
-    }
-
-    pub(super) fn first_bytes(series: &OfSeries) -> u64 {
-        let first = series.digest.first_chunk();
-        first.map_or(0, |first| u64::from_be_bytes(*first))
-    }
-}
 
 /// What the server has of a series.
 #[derive(Clone, Debug)]
@@ -42,7 +16,7 @@ pub(super) struct Known {
     /// Made by this transaction: nobody else sees it, and it has no total yet.
     pub(super) is_new: bool,
     /// The number of its metric.
-    pub(super) metric: String,
+    pub(super) metric: Vec<u8>,
     /// In which its last interval ends, or a correction counts, in hours since 1970.
     pub(super) last_hour: Option<i32>,
 }
@@ -61,68 +35,78 @@ impl Writing<'_> {
     /// What is known of each series, made where it is new. Nobody else adds to them until the transaction ends.
     pub(super) async fn stored(&self, all: &[OfSeries]) -> Result<Vec<Stored<Known>>, NotTaken> {
         let mut found = vec![None; all.len()];
+        let mut sent = self.find(all, &mut found).await?;
         self.make(all, &mut found).await?;
-        self.find(all, &mut found).await?;
+        // Those that another transaction has made meanwhile.
+        sent.extend(self.find(all, &mut found).await?);
+        self.set_senders(sent).await?;
         let known: Option<Vec<Known>> = found.into_iter().collect();
         let known = known.ok_or_else(|| Fault::told("a series that was there is gone: it is made anew"))?;
         let stored = all.iter().zip(known).map(|(of, row)| Stored { row, buckets: of.buckets(), ends: None });
         self.lock(stored.collect()).await
     }
 
-    /// Makes those that were not seen, unless they are there, and the metrics of those that it makes.
+    /// Makes those that were not found, unless they are there by now, and the metrics of those that it makes.
     async fn make(&self, all: &[OfSeries], found: &mut FoundSeries) -> Result<(), NotTaken> {
-        let new: Vec<&OfSeries> = all.iter().filter(|series| !self.seen.has(series)).collect();
+        let both = all.iter().zip(&*found);
+        let new: Vec<&OfSeries> =
+            both.filter(|(_, found)| found.is_none()).map(|(series, _)| series).collect();
+        if new.is_empty() {
+            return Ok(());
+        }
         // While the server has one piece, the next one is written down here.
         let mut pieces = new.chunks(new.len().div_ceil(4).max(PIECE));
         let mut next = || self.make_piece(pieces.next().unwrap_or_default());
         let (one, two, three, four) = tokio::try_join!(next(), next(), next(), next())?;
         let mut made = [one, two, three, four].into_iter().flatten().peekable();
         // They came back in the order in which they went.
-        for (series, found) in all.iter().zip(&mut *found) {
+        let mut ids: Vec<i64> = Vec::new();
+        for (series, found) in all.iter().zip(&mut *found).filter(|(_, found)| found.is_none()) {
             let is_of = |row: &Row| row.get::<_, &[u8]>(0) == series.digest;
             *found = made.next_if(is_of).map(|row| Known::of(&row, true));
+            ids.extend(found.as_ref().map(|known| known.id));
         }
         if made.next().is_some() {
             return Err(Fault::told("new series came back in another order").into());
         }
-        let ids: Vec<i64> = found.iter().flatten().map(|known| known.id).collect();
-        if !ids.is_empty() {
-            self.rows(&self.statements.metrics, &[&ids]).await?;
-        }
-        Ok(())
+        self.rows(&self.statements.metrics, &[&ids]).await.map(drop)
     }
 
     async fn make_piece(&self, series: &[&OfSeries]) -> Result<Vec<Row>, NotTaken> {
         if series.is_empty() {
             return Ok(Vec::new());
         }
-        let mut objects = Objects::default();
-        let rows = series.iter().map(|series| objects.row(series, self.owner(series)));
+        let rows = series.iter().map(|series| series_row(series, self.owner(series)));
         let rows = rows.collect::<Result<Vec<_>, _>>()?;
-        self.rows(&self.statements.make, &[&rows, &objects.all]).await
+        self.rows(&self.statements.make, &[&rows]).await
     }
 
-    /// Finds those that were not made.
-    async fn find(&self, all: &[OfSeries], found: &mut FoundSeries) -> Result<(), NotTaken> {
+    /// Finds those of which nothing is known yet. Which of them have no sender so far, though theirs is known.
+    async fn find(&self, all: &[OfSeries], found: &mut FoundSeries) -> Result<Vec<(i64, String)>, NotTaken> {
+        let mut sent = Vec::new();
         let places: Vec<usize> = (0..all.len()).filter(|place| found[*place].is_none()).collect();
         if places.is_empty() {
-            return Ok(());
+            return Ok(sent);
         }
         let digests: Vec<&[u8]> = places.iter().map(|place| &all[*place].digest[..]).collect();
-        let (mut ids, mut senders) = (Vec::new(), Vec::new());
         for row in self.rows(&self.statements.find, &[&digests]).await? {
             let (place, known) = (places[row.get::<_, i64>(0) as usize - 1], Known::of(&row, false));
             // Of an operator's letter, say, whose slot was not delivered here.
             if let (true, Some(sender)) = (row.get(3), self.owner(&all[place])) {
-                ids.push(known.id);
-                senders.push(sender);
+                sent.push((known.id, sender));
             }
             found[place] = Some(known);
         }
-        if !ids.is_empty() {
-            self.rows(&self.statements.set_senders, &[&ids, &senders]).await?;
+        Ok(sent)
+    }
+
+    /// Writes down who sends these. All at once, and behind new series, since it locks their rows.
+    async fn set_senders(&self, sent: Vec<(i64, String)>) -> Result<(), NotTaken> {
+        if sent.is_empty() {
+            return Ok(());
         }
-        Ok(())
+        let (ids, senders): (Vec<i64>, Vec<String>) = sent.into_iter().unzip();
+        self.rows(&self.statements.set_senders, &[&ids, &senders]).await.map(drop)
     }
 
     /// Locks the totals of those that were there, and reads where they end.

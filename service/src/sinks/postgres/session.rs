@@ -2,22 +2,22 @@
 
 use super::fault::Fault;
 use super::fence::Fence;
-use super::series::Seen;
-use super::{schema, statements, Server, PATIENCE};
+use super::statements::Statements;
+use super::{schema, Server, PATIENCE};
 use crate::postgres::{self, Driver};
-use crate::sinks::owners::OwnersOfSlot;
-use crate::sinks::Memory;
+use crate::sinks::{KnowsOwners, Memory};
 use std::future::Future;
+use std::sync::Arc;
 use std::time::Duration;
 use tokio::time::timeout;
-use tokio_postgres::{Client, Statement};
+use tokio_postgres::Client;
 
 /// Each statement is bounded, and a transaction whose client is gone does not keep its locks. Texts and times mean the
 /// same whatever the role's own settings are. A commit that is told must be on the server's disk.
 const SETTINGS: &str =
-    "set search_path = pg_catalog; set statement_timeout = '20s'; set lock_timeout = '10s';
+    "set search_path = pg_catalog, totxegun; set statement_timeout = '20s'; set lock_timeout = '10s';
     set idle_in_transaction_session_timeout = '30s'; set default_transaction_isolation = 'read committed';
-    set timezone = 'UTC'; set client_min_messages = 'warning'; set jit = off;
+    set timezone = 'UTC'; set datestyle = 'ISO, YMD'; set client_min_messages = 'warning'; set jit = off;
     select set_config('synchronous_commit', 'on', false) where current_setting('synchronous_commit') = 'off'";
 
 /// A request's statements are planned once, and look each row up by an index. Planned for a long array, or for tables
@@ -28,53 +28,11 @@ const PLANS: &str = "set plan_cache_mode = 'force_generic_plan'; set enable_seqs
 pub(super) struct Session {
     pub(super) client: Client,
     pub(super) statements: Statements,
-    pub(super) seen: Seen,
     /// Of the slot whose request is under way.
-    pub(super) owners: Option<OwnersOfSlot>,
+    pub(super) owners: Option<Arc<dyn KnowsOwners>>,
     /// Where the sink is in the store's database.
     pub(super) fence: Option<Fence>,
     pub(super) connection: Driver,
-}
-
-macro_rules! statements {
-    ($($name:ident: $text:ident,)*) => {
-        pub(super) struct Statements {
-            $(pub(super) $name: Statement,)*
-        }
-
-        impl Statements {
-            async fn prepare(client: &Client) -> Result<Statements, tokio_postgres::Error> {
-                Ok(Statements { $($name: client.prepare(statements::$text).await?,)* })
-            }
-        }
-    };
-}
-
-statements! {
-    hold_periods: HOLD_PERIODS,
-    closed: CLOSED,
-    make_requests: MAKE_REQUESTS,
-    first_life: FIRST_LIFE,
-    begin_life: BEGIN_LIFE,
-    beyond: BEYOND,
-    life_of: LIFE_OF,
-    go_on: GO_ON,
-    late: LATE,
-    is_taken: IS_TAKEN,
-    set_left_out: SET_LEFT_OUT,
-    make: MAKE,
-    metrics: METRICS,
-    find: FIND,
-    set_senders: SET_SENDERS,
-    lock: LOCK,
-    intervals: INTERVALS,
-    first_totals: FIRST_TOTALS,
-    hours_over: HOURS_OVER,
-    past_hours: PAST_HOURS,
-    late_hours: LATE_HOURS,
-    totals: TOTALS,
-    metric_hours: METRIC_HOURS,
-    rewind: REWIND,
 }
 
 impl Session {
@@ -100,7 +58,7 @@ impl Session {
             Ok::<_, Fault>((statements, Fence::prepare(&client, memory.store_database()).await?))
         };
         let (statements, fence) = within(patience, preparing).await?;
-        Ok(Session { client, statements, seen: Seen::default(), owners: None, fence, connection })
+        Ok(Session { client, statements, owners: None, fence, connection })
     }
 }
 
@@ -119,11 +77,4 @@ fn no_answer(patience: Duration) -> String {
 /// A connection with our settings, whatever schema is there.
 pub(super) async fn connect(server: &Server) -> Result<(Client, Driver), Fault> {
     Ok(postgres::connect(server, &server.config(), SETTINGS, PATIENCE).await?)
-}
-
-/// One that only reads.
-pub(super) async fn connect_to_read(server: &Server) -> Result<(Client, Driver), Fault> {
-    let (client, driver) = connect(server).await?;
-    client.batch_execute("set default_transaction_read_only = on").await?;
-    Ok((client, driver))
 }

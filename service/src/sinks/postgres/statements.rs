@@ -4,120 +4,11 @@
 //! locks. At a thousand rows it is hardly faster.
 //!
 //! Locks are taken in one order, so that no two transactions wait for each other: the periods; the key; the life of its slot and
-//! epoch, where it is new; the rows of new series, by their digests; those of their metrics; the totals of series that were there,
-//! by their numbers; the hours of metrics.
+//! epoch, where it is new; the rows of new series, by their digests; those of their metrics; the rows of series whose sender is
+//! written down now, by their numbers; the totals of series that were there, by their numbers; the hours of metrics.
 
-/// Shared by all requests; who closes a period has it alone.
-pub(super) const HOLD_PERIODS: &str = "select pg_advisory_xact_lock_shared($1::int8)";
-
-/// The hour that it is, in each row, and what is closed.
-pub(super) const CLOSED: &str =
-    "select now_hour, period, from_hour, to_hour, who, extract(epoch from closed_at)::int8
-    from (select floor(extract(epoch from clock_timestamp()) / 3600)::int4 as now_hour) as clock
-    left join totxegun.closed on true order by from_hour, to_hour";
-
-/// Makes the rows of requests of one slot, in order; fewer come where one was there. It waits for another transaction that has
-/// the same key. None comes for a schema of another version either. With each comes the life of their slot and epoch.
-pub(super) const MAKE_REQUESTS: &str = "with made as (
-        insert into totxegun.request (slot, epoch, number, points, digest)
-        select $1::int4, $2::text, new.number, new.points, new.digest
-        from unnest($3::numeric[], $4::int8[], $5::bytea[]) as new(number, points, digest)
-        join totxegun.version on version = $6::int4 order by new.number
-        on conflict (slot, epoch, number) do nothing returning id
-    )
-    select made.id, (select id from totxegun.life where slot = $1::int4 and epoch = $2::text)
-    from made order by made.id";
-
-pub(super) const FIRST_LIFE: &str = "insert into totxegun.life (slot, epoch) values ($1::int4, $2::text)
-    on conflict (slot, epoch) do update set epoch = excluded.epoch returning id";
-
-/// Of an epoch that was seen before.
-pub(super) const LIFE_OF: &str = "select id from totxegun.life where slot = $1::int4 and epoch = $2::text";
-
-/// What a life has beyond a request, but for those of an epoch: how many, and when the first and the last came.
-pub(super) const BEYOND: &str = "select count(*),
-        coalesce(to_char(min(taken_at), 'YYYY-MM-DD HH24:MI:SS'), ''), coalesce(to_char(max(taken_at), 'YYYY-MM-DD HH24:MI:SS'), '')
-    from totxegun.life join totxegun.request on request.slot = life.slot and request.epoch = life.epoch
-    where life.slot = $1::int4 and life.id = $2::int8 and request.number > $3::numeric and life.epoch <> $4::text";
-
-/// An epoch that goes on with a life.
-pub(super) const GO_ON: &str =
-    "insert into totxegun.life (slot, epoch, id) values ($1::int4, $2::text, $3::int8)";
-
-pub(super) const BEGIN_LIFE: &str = "insert into totxegun.life (slot, epoch) values ($1::int4, $2::text)
-    on conflict (slot, epoch) do update set id = default";
-
-/// Whether a later request of its life was there, and the places of series that a later one has put back. Of series that are
-/// locked: else what was added to them meanwhile would not be known here.
-pub(super) const LATE: &str = "with same as materialized (
-        select epoch from totxegun.life where slot = $1::int4
-            and id = (select id from totxegun.life where slot = $1::int4 and epoch = $2::text)
-    )
-    select exists (select from totxegun.request
-            where slot = $1::int4 and epoch in (select epoch from same) and number > $3::numeric),
-        array(select place from unnest($4::bytea[]) with ordinality as wanted(digest, place)
-            join totxegun.rewind on rewind.slot = $1::int4 and rewind.epoch in (select epoch from same)
-                and rewind.digest = wanted.digest and number > $3::numeric)";
-
-/// A row that is locked makes the commit behind it a write, which waits for the standby.
-pub(super) const IS_TAKEN: &str = "select digest, left_out from totxegun.request
-    where slot = $1::int4 and epoch = $2::text and number = $3::numeric for update";
-
-/// Of a request of which not all was added.
-pub(super) const SET_LEFT_OUT: &str =
-    "update totxegun.request set points = $2::int8, left_out = $3::text where id = $1::int8";
-
-/// Makes the rows of new series, in the order of the array, which is that of their digests. One that another
-/// transaction has made is left, and not returned; one that it is making is waited for.
-pub(super) const MAKE: &str = "insert into totxegun.series (digest, identity, is_exact, name, name_json, unit, kind,
-        bounds, attributes, resource, scope_name, scope_version, scope_attributes, sender)
-    select digest, identity, is_exact, name, name_json, unit, kind, bounds, attributes, ($2::jsonb[])[resource],
-        scope_name, scope_version, ($2::jsonb[])[scope_attributes], sender
-    from unnest($1::totxegun.new_series[])
-    on conflict (digest) do nothing returning digest, id, metric::text";
-
-/// Makes the rows of the metrics of new series.
-pub(super) const METRICS: &str = "insert into totxegun.metric (id, name, kind, unit)
-    select distinct on (metric) metric, name, kind, unit from totxegun.series where id = any($1::int8[]) order by metric
-    on conflict (id) do nothing";
-
-/// Which series are there. It locks nothing.
-pub(super) const FIND: &str = "select wanted.place, series.id, series.metric::text, series.sender is null
-    from unnest($1::bytea[]) with ordinality as wanted(digest, place)
-    join totxegun.series on series.digest = wanted.digest";
-
-/// Of series that were made before it was known who sends them.
-pub(super) const SET_SENDERS: &str = "with unknown as (
-        select series.id, sent.sender from unnest($1::int8[], $2::text[]) as sent(id, sender)
-        join totxegun.series on series.id = sent.id where series.sender is null
-        order by series.id for no key update of series
-    )
-    update totxegun.series set sender = unknown.sender from unknown where series.id = unknown.id";
-
-/// Locks the totals of these series, so nobody else adds to them until the transaction ends.
-pub(super) const LOCK: &str =
-    "select wanted.place, cardinality(t.buckets), t.hour, t.life, t.floor_ns::text, t.last_end_ns::text
-    from unnest($1::int8[]) with ordinality as wanted(series, place)
-    join totxegun.series_total as t on t.series = wanted.series
-    order by t.series for no key update of t";
-
-pub(super) const INTERVALS: &str =
-    "insert into totxegun.interval_row (series, start_ns, end_ns, value, count, sum, counts)
-    select series, start_ns, end_ns, value, count, sum, counts from unnest($1::totxegun.new_interval[])";
-
-/// Of series that are new.
-pub(super) const FIRST_TOTALS: &str =
-    "insert into totxegun.series_total (series, points, first_start_ns, last_end_ns, total, count, without_sum, buckets,
-        hour, before_points, before_total, before_count, before_without_sum, before_buckets, life, floor_ns)
-    select series, points, first_start_ns, last_end_ns, total, count, without_sum, buckets,
-        hour, late_points, late_total, late_count, late_without_sum, late_buckets, life, floor_ns
-    from unnest($1::totxegun.new_total[])";
-
-/// The last hours of these series are over: it is written down what they come to.
-pub(super) const HOURS_OVER: &str =
-    "insert into totxegun.past_hour (series, hour, points, total, count, without_sum, buckets, corrections)
-    select series, hour, points, total, count, without_sum, buckets, coalesce(corrections, 0)
-    from totxegun.last_hour where series = any($1::int8[]) and hour is not null";
+use crate::sinks::sql::CLOSED;
+use tokio_postgres::{Client, Error, Statement};
 
 /// What an hour `h` that is there gets more.
 macro_rules! added {
@@ -133,71 +24,160 @@ macro_rules! added {
     };
 }
 
-/// Adds to hours that are not the last ones of their series.
-pub(super) const PAST_HOURS: &str = concat!(
-    "insert into totxegun.past_hour as h (series, hour, points, total, count, without_sum, buckets)
-    select series, hour, points, total, count, without_sum, buckets
-    from unnest($1::totxegun.new_hour[])
-    on conflict (series, to_timestamp(hour * 3600::double precision)) do update set ",
-    added!()
-);
+/// The last hours of these series are over: it is written down what they come to.
+pub(super) const HOURS_OVER: &str =
+    "insert into totxegun.past_hour (series, hour, points, total, count, without_sum, buckets, corrections)
+    select series, hour, points, total, count, without_sum, buckets, coalesce(corrections, 0)
+    from totxegun.last_hour where series = any($1::int8[]) and hour is not null";
 
-/// To which closed hours it belongs, beside the hours in which it counts.
-pub(super) const LATE_HOURS: &str = concat!(
-    "insert into totxegun.late_hour as h (series, of_hour, hour, points, total, count, without_sum, buckets)
-    select series, of_hour, hour, points, total, count, without_sum, buckets
-    from unnest($1::totxegun.new_late[])
-    on conflict (series, of_hour, hour) do update set ",
-    added!()
-);
+macro_rules! statements {
+    ($($(#[$doc:meta])* $name:ident: $text:expr,)*) => {
+        /// Prepared once for a session.
+        pub(super) struct Statements {
+            $($(#[$doc])* pub(super) $name: Statement,)*
+        }
 
-pub(super) const METRIC_HOURS: &str =
-    "insert into totxegun.metric_hour as h (metric, hour, points, total, count)
-    select metric::uuid, hour, points, total, count from unnest($1::totxegun.new_metric_hour[])
-    on conflict (metric, hour) do update set
-        points = h.points + excluded.points, total = h.total + excluded.total, count = h.count + excluded.count";
+        impl Statements {
+            pub(super) async fn prepare(client: &Client) -> Result<Statements, Error> {
+                Ok(Statements { $($name: client.prepare($text).await?,)* })
+            }
+        }
+    };
+}
 
-/// Where a later hour begins, all so far is before it.
-pub(super) const TOTALS: &str = "update totxegun.series_total as t set
-        points = t.points + n.points,
-        first_start_ns = least(t.first_start_ns, n.first_start_ns),
-        last_end_ns = n.last_end_ns,
-        total = t.total + n.total,
-        count = t.count + n.count,
-        without_sum = t.without_sum + n.without_sum,
-        buckets = case when n.buckets is null then t.buckets else array(
-            select a + b from unnest(t.buckets, n.buckets) with ordinality as both_of(a, b, place) order by place
-        ) end,
-        hour = n.hour,
-        floor_ns = n.floor_ns,
-        life = n.life,
-        before_points = case when n.hour = t.hour then t.before_points else t.points end + n.late_points,
-        before_total = case when n.hour = t.hour then t.before_total else t.total end + n.late_total,
-        before_count = case when n.hour = t.hour then t.before_count else t.count end + n.late_count,
-        before_without_sum = case when n.hour = t.hour then t.before_without_sum else t.without_sum end
-            + n.late_without_sum,
-        before_buckets = case
-            when n.late_buckets is not null then array(
-                select coalesce(a, 0) + b
-                from unnest(case when n.hour = t.hour then t.before_buckets else t.buckets end, n.late_buckets)
-                    with ordinality as both_of(a, b, place) order by place
-            )
-            when n.hour = t.hour then t.before_buckets
-            else t.buckets
-        end,
-        hour_corrections = case when n.hour = t.hour then t.hour_corrections end
-    from unnest($1::totxegun.new_total[]) as n where t.series = n.series";
-
-/// Series end there, where they ended later, and what earlier requests have for them is known by the number of this one.
-pub(super) const REWIND: &str = "with noted as (
-        insert into totxegun.rewind as r (slot, epoch, digest, number)
-        select distinct $4::int4, $5::text, digest, $6::numeric from unnest($1::bytea[]) as digest order by digest
-        on conflict (slot, epoch, digest) do update set number = greatest(r.number, excluded.number)
-    ), known as materialized (
-        select t.series, least(t.last_end_ns, $2::numeric) as last_end_ns
-        from totxegun.series join totxegun.series_total as t on t.series = series.id
-        where series.digest = any($1::bytea[]) order by t.series for no key update of t
-    )
-    update totxegun.series_total as t
-    set last_end_ns = known.last_end_ns, floor_ns = known.last_end_ns, life = $3::int8
-    from known where t.series = known.series";
+statements! {
+    /// Shared by all requests; who closes a period has it alone.
+    hold_periods: "select pg_advisory_xact_lock_shared($1::int8)",
+    /// Makes the rows of requests of one slot, in order; fewer come where one was there. It waits for another transaction that has
+    /// the same key. None comes for a schema of another version either. With each comes the life of their slot and epoch.
+    make_requests: "with made as (
+            insert into totxegun.request (slot, epoch, number, points, digest)
+            select $1::int4, $2::text, new.number, new.points, new.digest
+            from unnest($3::numeric[], $4::int8[], $5::bytea[]) as new(number, points, digest)
+            join totxegun.version on version = $6::int4 order by new.number
+            on conflict (slot, epoch, number) do nothing returning id
+        )
+        select made.id, (select id from totxegun.life where slot = $1::int4 and epoch = $2::text)
+        from made order by made.id",
+    first_life: "insert into totxegun.life (slot, epoch) values ($1::int4, $2::text)
+        on conflict (slot, epoch) do update set epoch = excluded.epoch returning id",
+    /// Of an epoch that was seen before.
+    life_of: "select id from totxegun.life where slot = $1::int4 and epoch = $2::text",
+    /// What a life has beyond a request, but for those of an epoch: how many, and when the first and the last came.
+    beyond: "select count(*),
+            coalesce(to_char(min(taken_at), 'YYYY-MM-DD HH24:MI:SS'), ''), coalesce(to_char(max(taken_at), 'YYYY-MM-DD HH24:MI:SS'), '')
+        from totxegun.life join totxegun.request on request.slot = life.slot and request.epoch = life.epoch
+        where life.slot = $1::int4 and life.id = $2::int8 and request.number > $3::numeric and life.epoch <> $4::text",
+    /// An epoch that goes on with a life.
+    go_on: "insert into totxegun.life (slot, epoch, id) values ($1::int4, $2::text, $3::int8)",
+    begin_life: "insert into totxegun.life (slot, epoch) values ($1::int4, $2::text)
+        on conflict (slot, epoch) do update set id = default",
+    /// Whether a later request of its life was there, and the places of series that a later one has put back. Of series that are
+    /// locked: else what was added to them meanwhile would not be known here.
+    late: "with same as materialized (
+            select epoch from totxegun.life where slot = $1::int4
+                and id = (select id from totxegun.life where slot = $1::int4 and epoch = $2::text)
+        )
+        select exists (select from totxegun.request
+                where slot = $1::int4 and epoch in (select epoch from same) and number > $3::numeric),
+            array(select place from unnest($4::bytea[]) with ordinality as wanted(digest, place)
+                join totxegun.rewind on rewind.slot = $1::int4 and rewind.epoch in (select epoch from same)
+                    and rewind.digest = wanted.digest and number > $3::numeric)",
+    /// A row that is locked makes the commit behind it a write, which waits for the standby.
+    is_taken: "select digest, left_out from totxegun.request
+        where slot = $1::int4 and epoch = $2::text and number = $3::numeric for update",
+    /// Of a request of which not all was added.
+    set_left_out: "update totxegun.request set points = $2::int8, left_out = $3::text where id = $1::int8",
+    /// Makes the rows of new series, in the order of the array, which is that of their digests. One that another
+    /// transaction has made is left, and not returned; one that it is making is waited for.
+    make: "insert into totxegun.series (digest, identity, is_exact, name, name_json, unit, kind,
+            bounds, attributes, resource, scope_name, scope_version, scope_attributes, sender)
+        select digest, identity, is_exact, name, name_json, unit, kind, bounds, attributes, resource, scope_name, scope_version,
+            scope_attributes, sender
+        from unnest($1::totxegun.series[])
+        on conflict (digest) do nothing returning digest, id, metric",
+    /// Makes the rows of the metrics of new series.
+    metrics: "insert into totxegun.metric (id, name, kind, unit)
+        select distinct on (metric) metric, name, kind, unit from totxegun.series where id = any($1::int8[]) order by metric
+        on conflict (id) do nothing",
+    /// Which series are there. It locks nothing.
+    find: "select wanted.place, series.id, series.metric, series.sender is null
+        from unnest($1::bytea[]) with ordinality as wanted(digest, place)
+        join totxegun.series on series.digest = wanted.digest",
+    /// Of series that were made before it was known who sends them.
+    set_senders: "with unknown as (
+            select series.id, sent.sender from unnest($1::int8[], $2::text[]) as sent(id, sender)
+            join totxegun.series on series.id = sent.id where series.sender is null
+            order by series.id for no key update of series
+        )
+        update totxegun.series set sender = unknown.sender from unknown where series.id = unknown.id",
+    /// Locks the totals of these series, so nobody else adds to them until the transaction ends.
+    lock: "select wanted.place, cardinality(t.buckets), t.hour, t.life, t.floor_ns::text, t.last_end_ns::text
+        from unnest($1::int8[]) with ordinality as wanted(series, place)
+        join totxegun.series_total as t on t.series = wanted.series
+        order by t.series for no key update of t",
+    intervals: "insert into totxegun.interval_row select * from unnest($1::totxegun.interval_row[])",
+    /// Of series that are new.
+    first_totals: "insert into totxegun.series_total select * from unnest($1::totxegun.series_total[])",
+    /// Adds to hours that are not the last ones of their series.
+    past_hours: concat!(
+        "insert into totxegun.past_hour as h select * from unnest($1::totxegun.past_hour[])
+        on conflict (series, to_timestamp(hour * 3600::double precision)) do update set ",
+        added!()
+    ),
+    /// To which closed hours it belongs, beside the hours in which it counts.
+    late_hours: concat!(
+        "insert into totxegun.late_hour as h select * from unnest($1::totxegun.late_hour[])
+        on conflict (series, of_hour, hour) do update set ",
+        added!()
+    ),
+    metric_hours: "insert into totxegun.metric_hour as h select * from unnest($1::totxegun.metric_hour[])
+        on conflict (metric, hour) do update set
+            points = h.points + excluded.points, total = h.total + excluded.total, count = h.count + excluded.count",
+    /// Where a later hour begins, all so far is before it.
+    totals: "update totxegun.series_total as t set
+            points = t.points + n.points,
+            first_start_ns = least(t.first_start_ns, n.first_start_ns),
+            last_end_ns = n.last_end_ns,
+            total = t.total + n.total,
+            count = t.count + n.count,
+            without_sum = t.without_sum + n.without_sum,
+            buckets = case when n.buckets is null then t.buckets else array(
+                select a + b from unnest(t.buckets, n.buckets) with ordinality as both_of(a, b, place) order by place
+            ) end,
+            hour = n.hour,
+            floor_ns = n.floor_ns,
+            life = n.life,
+            before_points = case when n.hour = t.hour then t.before_points else t.points end + n.before_points,
+            before_total = case when n.hour = t.hour then t.before_total else t.total end + n.before_total,
+            before_count = case when n.hour = t.hour then t.before_count else t.count end + n.before_count,
+            before_without_sum = case when n.hour = t.hour then t.before_without_sum else t.without_sum end
+                + n.before_without_sum,
+            before_buckets = case
+                when n.before_buckets is not null then array(
+                    select coalesce(a, 0) + b
+                    from unnest(case when n.hour = t.hour then t.before_buckets else t.buckets end, n.before_buckets)
+                        with ordinality as both_of(a, b, place) order by place
+                )
+                when n.hour = t.hour then t.before_buckets
+                else t.buckets
+            end,
+            hour_corrections = case when n.hour = t.hour then t.hour_corrections end
+        from unnest($1::totxegun.series_total[]) as n where t.series = n.series",
+    /// Series end there, where they ended later, and what earlier requests have for them is known by the number of this one.
+    rewind: "with noted as (
+            insert into totxegun.rewind as r (slot, epoch, digest, number)
+            select distinct $4::int4, $5::text, digest, $6::numeric from unnest($1::bytea[]) as digest order by digest
+            on conflict (slot, epoch, digest) do update set number = greatest(r.number, excluded.number)
+        ), known as materialized (
+            select t.series, least(t.last_end_ns, $2::numeric) as last_end_ns
+            from totxegun.series join totxegun.series_total as t on t.series = series.id
+            where series.digest = any($1::bytea[]) order by t.series for no key update of t
+        )
+        update totxegun.series_total as t
+        set last_end_ns = known.last_end_ns, floor_ns = known.last_end_ns, life = $3::int8
+        from known where t.series = known.series",
+    /// The time that it is, and what is closed.
+    closed: CLOSED,
+    hours_over: HOURS_OVER,
+}

@@ -5,75 +5,51 @@ use super::fence::Fence;
 use super::periods;
 use super::point_rows::{hour_rows, interval_row, last_hour, late_rows, metric_rows, total_row};
 use super::schema::KNOWN;
-use super::series::{Known, Seen};
-use super::session::{Session, Statements};
+use super::series::Known;
+use super::session::Session;
+use super::statements::Statements;
 use super::values::{NewRow, Numeric};
 use crate::files::Tenure;
 use crate::postgres::Warnings;
 use crate::sinks::left_out::LeftOut;
-use crate::sinks::owners::OwnersOfSlot;
 use crate::sinks::periods::Closed;
 use crate::sinks::sql::{
-    self, Adding, Content, Late, OfSeries, Outcome, Place, Request, Sent, Stored, Taken,
+    self, closed_of, Adding, Content, Late, OfSeries, Outcome, Place, Request, Sent, Stored, Taken,
 };
-use crate::sinks::{Forwarded, Rewind};
+use crate::sinks::{Forwarded, KnowsOwners, Rewind};
 use tokio_postgres::types::ToSql;
 use tokio_postgres::{Row, Statement, Transaction};
 
 pub(super) type NotTaken = sql::NotTaken<Fault>;
 
-/// Takes a request that is not taken yet, but for points that begin too early: these are left. On any error nothing of it is
-/// there, unless the answer to the commit was lost; then the key says so the next time.
+/// Takes one request, but for points that begin too early, which are left; or several whole. On any error nothing of it is there,
+/// unless the answer to the commit was lost; then the key says so the next time.
 pub(super) async fn take(
     session: &mut Session,
-    request: &Forwarded,
+    requests: &[Forwarded],
     sent: Sent,
     tenure: Option<&Tenure>,
-    content: Content,
+    contents: Vec<Content>,
 ) -> Result<LeftOut, NotTaken> {
     let mut writing = Writing::begin(session).await?;
-    let outcome = sql::take(&mut writing, Request::with(request, sent, content)).await?;
-    if let Outcome::New(left) = &outcome {
-        writing.delivered(request, tenure, left.is_empty()).await?;
+    let both = requests.iter().zip(contents);
+    let all = both.map(|(request, content)| Request::with(request, sent, content)).collect();
+    let outcome = sql::take(&mut writing, all).await?;
+    if let (Outcome::New(left), Some(last)) = (&outcome, requests.last()) {
+        writing.delivered(last, tenure, left.is_empty()).await?;
     }
     // No content can be at fault any more. A server shows, after a restart, what its standby does not have: so also what was
     // there is believed behind a commit.
-    let new = writing.commit().await?;
-    session.seen.add(new);
+    commit(writing.transaction, writing.warnings).await?;
     outcome.left()
-}
-
-/// Takes all of these whole, in one transaction, where none is taken yet and nothing of them is left; whether it did.
-pub(super) async fn take_together(
-    session: &mut Session,
-    requests: &[Forwarded],
-    tenure: Option<&Tenure>,
-    contents: Vec<Content>,
-) -> Result<bool, NotTaken> {
-    let Some(last) = requests.last() else {
-        return Ok(true);
-    };
-    let mut writing = Writing::begin(session).await?;
-    let both = requests.iter().zip(contents);
-    let all = both.map(|(request, content)| Request::with(request, Sent::InOrder, content)).collect();
-    if !sql::take_together(&mut writing, all).await? {
-        return Ok(false);
-    }
-    writing.delivered(last, tenure, true).await?;
-    let new = writing.commit().await?;
-    session.seen.add(new);
-    Ok(true)
 }
 
 pub(super) struct Writing<'a> {
     transaction: Transaction<'a>,
     warnings: &'a Warnings,
     pub(super) statements: &'a Statements,
-    pub(super) seen: &'a Seen,
-    owners: Option<&'a OwnersOfSlot>,
+    owners: Option<&'a dyn KnowsOwners>,
     pub(super) fence: Option<&'a Fence>,
-    /// Series that are there once it is committed.
-    new: Vec<u64>,
 }
 
 impl sql::Transaction for Writing<'_> {
@@ -112,7 +88,6 @@ impl sql::Transaction for Writing<'_> {
 
     async fn series(&mut self, all: &[OfSeries]) -> Result<(Vec<Stored<Known>>, Closed), NotTaken> {
         let (closed, stored) = tokio::try_join!(self.closed(), self.stored(all))?;
-        self.new.extend(all.iter().map(Seen::first_bytes));
         Ok((stored, closed))
     }
 
@@ -146,28 +121,14 @@ impl sql::Transaction for Writing<'_> {
 
 impl<'a> Writing<'a> {
     async fn begin(session: &'a mut Session) -> Result<Writing<'a>, NotTaken> {
-        let Session { client, statements, seen, owners, fence, connection } = session;
+        let Session { client, statements, owners, fence, connection } = session;
         let transaction = client.transaction().await?;
         let (warnings, fence) = (&connection.warnings, fence.as_ref());
-        Ok(Writing {
-            transaction,
-            warnings,
-            statements,
-            seen,
-            owners: owners.as_ref(),
-            fence,
-            new: Vec::new(),
-        })
+        Ok(Writing { transaction, warnings, statements, owners: owners.as_deref(), fence })
     }
 
     pub(super) fn owner(&self, series: &OfSeries) -> Option<String> {
         self.owners?.owner(&series.digest)
-    }
-
-    /// Which series are there now.
-    async fn commit(self) -> Result<Vec<u64>, NotTaken> {
-        commit(self.transaction, self.warnings).await?;
-        Ok(self.new)
     }
 }
 
@@ -244,7 +205,9 @@ impl Writing<'_> {
 
     /// What is closed, once periods are held.
     async fn closed(&self) -> Result<Closed, NotTaken> {
-        Ok(periods::closed_of(&self.rows(&self.statements.closed, &[]).await?))
+        let rows: Vec<_> =
+            self.rows(&self.statements.closed, &[]).await?.iter().map(periods::texts).collect();
+        Ok(closed_of(&rows).map_err(Fault::from)?)
     }
 }
 

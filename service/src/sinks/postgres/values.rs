@@ -1,5 +1,6 @@
 //! Values in PostgreSQL's own form, for types that the driver does not know.
 
+use crate::sinks::sql::Cell;
 use bytes::{BufMut, BytesMut};
 use std::error::Error;
 use std::fmt;
@@ -47,6 +48,20 @@ impl ToSql for Numeric {
     }
 
     accepts!(NUMERIC);
+    to_sql_checked!();
+}
+
+impl ToSql for Cell<'_> {
+    fn to_sql(&self, of: &Type, out: &mut BytesMut) -> Written {
+        match self {
+            Cell::Number(number) if *of == Type::INT4 => i32::try_from(*number)?.to_sql(of, out),
+            Cell::Number(number) => number.to_sql(of, out),
+            Cell::Text(text) => text.to_sql(of, out),
+            Cell::Bytes(bytes) => bytes.to_sql(of, out),
+        }
+    }
+
+    accepts!(INT4, INT8, TEXT, BYTEA);
     to_sql_checked!();
 }
 

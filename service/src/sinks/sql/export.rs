@@ -1,9 +1,8 @@
 //! What a database has in all, or of a month or a day, a line for each series: in one order, so the same rows are the same bytes.
 
 use super::totals::Kind;
-use crate::sinks::periods::{Closed, Period};
-use crate::sinks::{postgres, sqlite, Address};
-use anyhow::{bail, Result};
+use crate::sinks::periods::Period;
+use anyhow::Result;
 use serde::Serialize;
 use serde_json::value::RawValue;
 
@@ -47,20 +46,3 @@ pub enum What {
 
 /// Takes each line, in order.
 pub type Each<'a> = &'a mut dyn FnMut(Line) -> Result<()>;
-
-/// Reads it, as of one moment, beside a service that writes; and what is closed.
-pub fn read(sink: &Address, what: &What, each: Each<'_>) -> Result<Closed> {
-    match sink {
-        Address::Sqlite(path) => sqlite::export::read(path, what, each),
-        Address::Postgres(server) => postgres::export::read(server, what, each),
-        Address::Otlp { .. } => bail!("only a SQLite or PostgreSQL sink can be read: ask the sink itself"),
-    }
-}
-
-/// The view of a period, and how it has its time.
-pub(in crate::sinks) fn view_of(period: &Period) -> (&'static str, String) {
-    match period.is_month() {
-        true => ("month", format!("{period}-01")),
-        false => ("day", period.to_string()),
-    }
-}

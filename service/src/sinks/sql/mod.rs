@@ -4,19 +4,23 @@
 //! points of a series that overlap. So only what an earlier life has sent, a copy of the folder, or what was taken before a
 //! rewind can overlap what comes: see [`Coming::limit`].
 
+mod about;
 mod ends;
 pub mod exact;
 pub mod export;
 mod fault;
+pub mod reading;
 mod request;
 mod settle;
 mod sums;
 pub mod totals;
 
+pub(super) use about::{about, About};
 pub(super) use ends::Ends;
 pub(super) use fault::NotTaken;
+pub(super) use reading::{Cell, Reader, Row};
 pub(super) use request::{by_metric, sums_of, Adding, Content, InHour, OfSeries, Request, Sent};
-pub(super) use settle::{settle, Periods};
+pub(super) use settle::{closed_of, settle, Periods, CLOSED};
 pub(super) use sums::Sums;
 
 use super::left_out::{LeftOut, OTHER_REQUEST};
@@ -149,9 +153,22 @@ impl Outcome {
     }
 }
 
-/// Takes a request that is not taken yet, but for points that begin too early: these are left, also when it is sent again. On an
-/// error the transaction must not be committed.
+/// Takes requests of one slot: one by itself, but for points that begin too early, which are left, also when it is sent again;
+/// several whole, if none of them is taken yet and nothing of them is left. On an error the transaction must not be committed.
 pub(super) async fn take<T: Transaction>(
+    transaction: &mut T,
+    requests: Vec<Request<'_>>,
+) -> Result<Outcome, NotTaken<T::Fault>> {
+    match <[Request; 1]>::try_from(requests) {
+        Ok([request]) => take_one(transaction, request).await,
+        Err(several) => match take_together(transaction, several).await? {
+            true => Ok(Outcome::New(LeftOut::default())),
+            false => Err(NotTaken::Refused("each of them has to come by itself".into())),
+        },
+    }
+}
+
+async fn take_one<T: Transaction>(
     transaction: &mut T,
     request: Request<'_>,
 ) -> Result<Outcome, NotTaken<T::Fault>> {
@@ -170,9 +187,7 @@ pub(super) async fn take<T: Transaction>(
     Ok(Outcome::New(left))
 }
 
-/// Takes all of these whole, where none is taken yet and nothing of them is left; whether it did. Else the transaction must not
-/// be committed.
-pub(super) async fn take_together<T: Transaction>(
+async fn take_together<T: Transaction>(
     transaction: &mut T,
     requests: Vec<Request<'_>>,
 ) -> Result<bool, NotTaken<T::Fault>> {

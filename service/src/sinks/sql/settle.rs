@@ -1,31 +1,39 @@
 //! Closes and opens periods of a database, and adjusts what it has.
 
-use crate::sinks::periods::{closed, Adjusted, Adjustment, Closed, Deed, Period, Told, Which};
+use super::{Cell, Row};
+use crate::sinks::periods::{self, closed, Adjusted, Adjustment, Closed, Deed, Told, Which};
+use anyhow::Context;
 
 /// A transaction while periods are changed: no request is taken meanwhile.
 pub(in crate::sinks) trait Periods {
-    type Fault;
+    type Fault: From<anyhow::Error>;
 
-    async fn closed(&mut self) -> Result<Closed, Self::Fault>;
-    async fn close(&mut self, who: &str, period: &Period) -> Result<(), Self::Fault>;
-    async fn open(&mut self, period: &Period) -> Result<(), Self::Fault>;
-    /// The number of a series, if the sink has something of it.
-    async fn number(&mut self, series: &Which) -> Result<Option<i64>, Self::Fault>;
-    /// Who has made the same adjustment of this series before, and when, in seconds since 1970.
-    async fn made_before(
-        &mut self,
-        series: i64,
-        adjustment: &Adjustment,
-    ) -> Result<Option<(String, i64)>, Self::Fault>;
-    async fn adjusted(&mut self) -> Result<Adjusted, Self::Fault>;
-    /// Adds an adjustment of this series, which counts in this hour.
-    async fn adjust(
-        &mut self,
-        who: &str,
-        series: i64,
-        adjustment: &Adjustment,
-        hour: i64,
-    ) -> Result<(), Self::Fault>;
+    /// The rows of a statement, each value as text; ?1 and those behind it have these values.
+    async fn rows(&mut self, statement: &str, values: &[Cell<'_>]) -> Result<Vec<Row>, Self::Fault>;
+
+    /// Adds to what a series and its metric have in an hour, a day, a month.
+    async fn add(&mut self, series: i64, hour: i64, value: i64) -> Result<(), Self::Fault>;
+}
+
+/// The time that it is, in each row, and what is closed.
+pub(in crate::sinks) const CLOSED: &str =
+    "select cast(current_timestamp as text), period, cast(from_hour as text), cast(to_hour as text), who, cast(closed_at as text)
+    from (select 1) as one left join closed on true order by closed.from_hour, closed.to_hour";
+
+pub(super) const NO_HORIZON: &str =
+    "the table `horizon` has no row, so nobody knows how far back its hours go";
+
+/// Of rows of that, of which there is at least one.
+pub(in crate::sinks) fn closed_of(rows: &[Row]) -> anyhow::Result<Closed> {
+    let mut closed = Closed::default();
+    for row in rows {
+        closed.now = row.time(0)? / 3600;
+        if let Some(period) = row.some(1) {
+            let (from, to, at) = (row.number(2)?, row.number(3)?, row.time(5)?);
+            closed.rows.push(periods::Row { period: period.into(), from, to, who: row.text(4)?.into(), at });
+        }
+    }
+    Ok(closed)
 }
 
 /// Carries a deed out, or leaves all as it was.
@@ -34,18 +42,28 @@ pub(in crate::sinks) async fn settle<P: Periods>(
     who: &str,
     deed: &Deed,
 ) -> Result<Told, P::Fault> {
-    let all = periods.closed().await?;
-    match deed {
+    let all = closed_of(&periods.rows(CLOSED, &[]).await?)?;
+    let (statement, period, told) = match deed {
         Deed::Close(period) => match all.close(period) {
-            Err(told) => Ok(told),
-            Ok(()) => periods.close(who, period).await.map(|()| Told::Done(closed(period))),
+            Err(told) => return Ok(told),
+            Ok(()) => {
+                let insert = "insert into closed (from_hour, to_hour, period, who) values (?1, ?2, ?3, ?4)";
+                (insert, period, Told::Done(closed(period)))
+            }
         },
         Deed::Open(period) => match all.open(period) {
-            Err(told) => Ok(told),
-            Ok(()) => periods.open(period).await.map(|()| Told::Done(all.opened(period))),
+            Err(told) => return Ok(told),
+            Ok(()) => {
+                let delete = "delete from closed where from_hour = ?1 and to_hour = ?2";
+                (delete, period, Told::Done(all.opened(period)))
+            }
         },
-        Deed::Adjust(adjustment) => adjust(periods, &all, who, adjustment).await,
-    }
+        Deed::Adjust(adjustment) => return adjust(periods, &all, who, adjustment).await,
+    };
+    let text = period.to_string();
+    let values = [Cell::Number(period.from), Cell::Number(period.to), Cell::Text(&text), Cell::Text(who)];
+    let count = statement.matches('?').count();
+    periods.rows(statement, &values[..count]).await.map(|_| told)
 }
 
 async fn adjust<P: Periods>(
@@ -54,18 +72,49 @@ async fn adjust<P: Periods>(
     who: &str,
     adjustment: &Adjustment,
 ) -> Result<Told, P::Fault> {
-    let Some(series) = periods.number(&adjustment.series).await? else {
+    let Adjustment { hour, value, reason, late_key, .. } = adjustment;
+    // Only of what has points.
+    let rows = match &adjustment.series {
+        Which::Number(number) => {
+            let query = "select cast(series as text) from series_total where series = ?1";
+            periods.rows(query, &[Cell::Number(*number)]).await?
+        }
+        Which::Identified(series) => {
+            let query = "select cast(series.id as text) from series join series_total on series_total.series = series.id where digest = ?1";
+            periods.rows(query, &[Cell::Bytes(&series.digest)]).await?
+        }
+    };
+    let Some(row) = rows.first() else {
         return Ok(adjustment.has_no_series());
     };
-    if let Some((who, at)) = periods.made_before(series, adjustment).await? {
-        return Ok(adjustment.was_there(&who, at));
+    let series = row.number(0)?;
+    let before = "select who, cast(made_at as text) from corrections where late_key = ?5
+        and (late_key <> '' or (series = ?1 and of_hour = ?2 and value = ?3 and reason = ?4))";
+    let mut made = vec![
+        Cell::Number(series),
+        Cell::Number(hour.from),
+        Cell::Number(*value),
+        Cell::Text(reason),
+        Cell::Text(late_key),
+    ];
+    if let Some(row) = periods.rows(before, &made).await?.first() {
+        return Ok(adjustment.was_there(row.text(0)?, row.time(1)?));
     }
-    let counted_in = match adjustment.counted_in(&periods.adjusted().await?, all) {
+    let so_far = "select cast((select coalesce(sum(abs(value)), 0) from corrections) as text), cast(hours_from as text)
+        from horizon";
+    let rows = periods.rows(so_far, &[]).await?;
+    let row = rows.first().context(NO_HORIZON)?;
+    let adjusted = Adjusted { so_far: row.number(0)?, hours_from: row.number(1)? };
+    let counted_in = match adjustment.counted_in(&adjusted, all) {
         Ok(hour) => hour,
         Err(told) => return Ok(told),
     };
     if !adjustment.is_dry {
-        periods.adjust(who, series, adjustment, counted_in).await?;
+        let insert = "insert into corrections (series, of_hour, value, reason, late_key, hour, who)
+            values (?1, ?2, ?3, ?4, ?5, ?6, ?7)";
+        made.extend([Cell::Number(counted_in), Cell::Text(who)]);
+        periods.rows(insert, &made).await?;
+        periods.add(series, counted_in, *value).await?;
     }
     Ok(adjustment.made(series, counted_in))
 }

@@ -1,7 +1,7 @@
 //! What series have counted, as whoever reads a database gets it.
 
 use super::exact::Exact;
-use crate::otlp::series::{Kind as Identified, NotForwarded, SeriesKey};
+use crate::otlp::series::{Digest, Kind as Identified, NotForwarded, SeriesKey};
 use crate::sinks::attributes::object;
 use serde::Serialize;
 use serde_json::{Map, Value};
@@ -27,6 +27,9 @@ pub struct SeriesTotal {
     pub scope_name: String,
     pub scope_version: String,
     pub scope_attributes: Map<String, Value>,
+    /// Of all that identifies it.
+    #[serde(skip)]
+    pub digest: Digest,
     /// How many points, each of an interval of its own, it has.
     pub points: u64,
     /// The first start and the last end, in nanoseconds since 1970.
@@ -49,14 +52,6 @@ pub enum Kind {
 }
 
 impl Kind {
-    pub(in crate::sinks) fn of(name: &str) -> Kind {
-        match name {
-            "sum" => Kind::Sum,
-            "monotonic" => Kind::Monotonic,
-            _ => Kind::Histogram,
-        }
-    }
-
     /// Of a series' identity, with the bounds of a histogram.
     pub(in crate::sinks) fn identified(kind: Identified) -> (Kind, Option<Vec<i64>>) {
         match kind {
@@ -99,6 +94,7 @@ impl SeriesTotal {
             scope_name: parts.scope_name,
             scope_version: parts.scope_version,
             scope_attributes: object(&parts.scope_attributes)?,
+            digest: key.digest(),
             points: 0,
             start_ns: 0,
             end_ns: 0,
@@ -106,28 +102,16 @@ impl SeriesTotal {
             histogram: bounds.map(|bounds| Histogram { bounds, ..Histogram::default() }),
         })
     }
-
-    /// Whether both are of one series, whatever came of it meanwhile.
-    pub fn is_of_series(&self, other: &SeriesTotal) -> bool {
-        let texts =
-            |of: &SeriesTotal| [&of.name, &of.unit, &of.scope_name, &of.scope_version].map(String::clone);
-        let bounds = |of: &SeriesTotal| of.histogram.as_ref().map(|histogram| histogram.bounds.clone());
-        self.kind == other.kind
-            && self.attributes == other.attributes
-            && self.resource == other.resource
-            && self.scope_attributes == other.scope_attributes
-            && texts(self) == texts(other)
-            && bounds(self) == bounds(other)
-    }
 }
 
 impl Filter {
-    /// Of series of its name.
     pub fn takes(&self, row: &SeriesTotal) -> bool {
-        self.attributes.iter().all(|(key, value)| {
-            let found = [&row.attributes, &row.resource].into_iter().find_map(|all| all.get(key));
-            found.is_some_and(|found| text(found) == *value)
-        })
+        let is_named = self.name.as_ref().is_none_or(|name| *name == row.name);
+        is_named
+            && self.attributes.iter().all(|(key, value)| {
+                let found = [&row.attributes, &row.resource].into_iter().find_map(|all| all.get(key));
+                found.is_some_and(|found| text(found) == *value)
+            })
     }
 }
 

@@ -104,6 +104,12 @@ fn sealed(folder: &Path) -> String {
     )
 }
 
+impl From<anyhow::Error> for Fault {
+    fn from(odd: anyhow::Error) -> Fault {
+        Fault::Told(odd.to_string())
+    }
+}
+
 impl From<Fault> for NotTaken<Fault> {
     fn from(fault: Fault) -> NotTaken<Fault> {
         NotTaken::Fault(fault)

@@ -2,8 +2,7 @@
 
 use super::cached;
 use super::series_row::SeriesIds;
-use super::totals::{json, list};
-use super::wide_integers::parts_of;
+use super::wide_integers::{list, numbers, parts_of};
 use super::writing::Row;
 use crate::sinks::sql::{by_metric, Adding, Sums};
 use crate::sinks::utc::{day_of, month_of};
@@ -167,8 +166,8 @@ fn add_found(transaction: &Transaction, found: &str, key: [i64; 3], sums: &mut S
     if sums.buckets.is_none() {
         return Ok(());
     }
-    let found = cached::find(transaction, found, key, |row| json(row, 0))?;
-    let before: Vec<i128> = found.flatten().unwrap_or_default();
+    let found = cached::find(transaction, found, key, |row| numbers(row, 0))?;
+    let before = found.flatten().unwrap_or_default();
     sums.add_buckets(before.into_iter());
     Ok(())
 }

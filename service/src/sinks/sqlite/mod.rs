@@ -3,18 +3,15 @@
 //! One thread has the connection, since calls of SQLite wait for the disk. It opens the file when it is needed and
 //! again after a fault, so whatever is wrong with the file is a reason to try again: no request is lost by it.
 
-pub mod by_hour;
 mod cached;
-pub mod export;
 mod fault;
-mod horizon;
 mod hours;
-pub mod periods;
+mod periods;
+pub(super) mod reading;
 mod schema;
 mod series_row;
 mod store;
 mod total;
-pub mod totals;
 mod upkeep;
 mod wide_integers;
 mod writing;
@@ -30,6 +27,7 @@ use crate::files::Tenure;
 use anyhow::Context;
 use fault::Fault;
 use std::path::{Path, PathBuf};
+use std::slice::from_ref;
 use std::sync::mpsc::{self, RecvTimeoutError};
 use std::sync::Arc;
 use std::thread::JoinHandle;
@@ -85,9 +83,9 @@ impl SqliteSink {
         Ok(SqliteSink { path: path.into(), jobs: Some(jobs), thread: Some(thread), keys, owners })
     }
 
-    fn send<'a>(&'a self, request: &Forwarded, sent: Sent) -> Answer<'a, Fate> {
-        let request = request.clone();
-        let fate = self.ask(move |writer| writer.take(&request, sent));
+    fn send<'a>(&'a self, all: &[Forwarded], sent: Sent) -> Answer<'a, Fate> {
+        let all = all.to_vec();
+        let fate = self.ask(move |writer| writer.take(&all, sent));
         Box::pin(async { fate.await.unwrap_or_else(Fate::away) })
     }
 
@@ -107,11 +105,11 @@ impl SqliteSink {
 
 impl Sink for SqliteSink {
     fn deliver<'a>(&'a self, request: &'a Forwarded) -> Answer<'a, Fate> {
-        self.send(request, Sent::ByHand)
+        self.send(from_ref(request), Sent::ByHand)
     }
 
     fn deliver_of<'a>(&'a self, request: &'a Forwarded, _tenure: Option<&'a Tenure>) -> Answer<'a, Fate> {
-        self.send(request, Sent::InOrder)
+        self.send(from_ref(request), Sent::InOrder)
     }
 
     fn most_together(&self) -> usize {
@@ -119,9 +117,8 @@ impl Sink for SqliteSink {
     }
 
     fn deliver_together<'a>(&'a self, all: &'a [Forwarded], _tenure: Option<&'a Tenure>) -> Answer<'a, bool> {
-        let all = all.to_vec();
-        let taken = self.ask(move |writer| writer.take_together(&all));
-        Box::pin(async { taken.await.unwrap_or(false) })
+        let fate = self.send(all, Sent::InOrder);
+        Box::pin(async { fate.await == Fate::Taken })
     }
 
     fn settle<'a>(&'a self, who: &'a str, deed: &'a Deed) -> Answer<'a, Told> {
@@ -273,15 +270,17 @@ impl Writer {
         self.store.as_ref().is_some_and(|store| store.file_state() == state)
     }
 
-    fn take(&mut self, request: &Forwarded, sent: Sent) -> Fate {
-        let owners = self.owners.of(request);
-        match self.store().map_err(NotTaken::from).and_then(|store| store.take(request, sent, owners)) {
+    /// What became of one request, or of several, which are all taken or none of them.
+    fn take(&mut self, all: &[Forwarded], sent: Sent) -> Fate {
+        let Some(first) = all.first() else { return Fate::Taken };
+        let owners = self.owners.of(first);
+        match self.store().map_err(NotTaken::from).and_then(|store| store.take(all, sent, owners)) {
             // It is written where nobody will read it: the key says what there is to be done.
             Ok(_) if !self.is(FileState::Intact) => Fate::away(format!(
                 "{} or its -wal was deleted meanwhile: it is opened again",
                 self.path.display()
             )),
-            Ok(left) => left.fate(&request.body),
+            Ok(left) => left.fate(&first.body),
             Err(NotTaken::Refused(reason)) => Fate::refused(reason),
             Err(NotTaken::Failed(fault) | NotTaken::Fault(fault)) => {
                 self.close_after(&fault);
@@ -290,20 +289,9 @@ impl Writer {
         }
     }
 
-    /// Whether it has all of them. What is wrong else each one by itself says.
-    fn take_together(&mut self, all: &[Forwarded]) -> bool {
-        let Some(first) = all.first() else { return true };
-        let owners = self.owners.of(first);
-        let taken = self.store().map_err(NotTaken::from).and_then(|store| store.take_together(all, owners));
-        if let Err(NotTaken::Fault(fault)) = &taken {
-            self.close_after(fault);
-        }
-        taken.is_ok_and(|is_taken| is_taken) && self.is(FileState::Intact)
-    }
-
     /// Where the file is opened anew meanwhile nothing is known of what was asked for: it may be asked for again.
     fn settle(&mut self, who: &str, deed: &Deed) -> Told {
-        match self.store().and_then(|store| Ok(store.settle(who, deed)?)) {
+        match self.store().and_then(|store| store.settle(who, deed)) {
             Ok(_) if !self.is(FileState::Intact) => {
                 Told::Later(format!("{} or its -wal was deleted meanwhile", self.path.display()))
             }

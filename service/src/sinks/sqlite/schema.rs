@@ -1,13 +1,16 @@
 //! The file's schema: one version of it, which a new file gets.
 
 use super::fault::Fault;
+use crate::sinks::sql::about;
 use rusqlite::{Connection, TransactionBehavior};
 
 /// Says, in the file's head, that it is one of ours: `totx`.
 const APPLICATION: i64 = 0x746f_7478;
 
-/// The version that this program reads and writes. Files of 1 to 5 have other tables.
-pub(super) const KNOWN: i64 = 12;
+/// The version that this program reads and writes.
+pub(super) const KNOWN: i64 = 1;
+
+const SCHEMA: &str = include_str!("schema.sql");
 
 /// Makes the tables and views of an empty file.
 pub(super) fn make(connection: &mut Connection) -> Result<(), Fault> {
@@ -15,10 +18,26 @@ pub(super) fn make(connection: &mut Connection) -> Result<(), Fault> {
     let transaction = connection.transaction_with_behavior(TransactionBehavior::Immediate)?;
     if !check(&transaction)? {
         transaction.execute_batch(&schema())?;
+        explain(&transaction)?;
         transaction.pragma_update(None, "application_id", APPLICATION)?;
         transaction.pragma_update(None, "user_version", KNOWN)?;
     }
     Ok(transaction.commit()?)
+}
+
+/// Writes down what its tables, views and columns are.
+fn explain(connection: &Connection) -> rusqlite::Result<()> {
+    let all = "select of.name, one.name from sqlite_schema of join pragma_table_info(of.name) one
+        where of.type in ('table', 'view')";
+    let columns: Vec<(String, String)> = connection
+        .prepare(all)?
+        .query_map([], |row| Ok((row.get(0)?, row.get(1)?)))?
+        .collect::<Result<_, _>>()?;
+    let mut insert = connection.prepare("insert into about values (?1, ?2, ?3)")?;
+    for one in about(SCHEMA, &columns) {
+        insert.execute([one.of, one.column, one.what])?;
+    }
+    Ok(())
 }
 
 /// A total is two integers, `high * 1000000000000 + low`; it is shown as an integer, or as a text where no integer of SQLite
@@ -32,13 +51,18 @@ fn exact(high: &str, low: &str) -> String {
     )
 }
 
+/// The total and the count of a row.
+pub(super) fn totals() -> (String, String) {
+    (exact("total_high", "total_low"), exact("count_high", "count_low"))
+}
+
 /// The statements that make it, with the columns of views that the file names alone.
 fn schema() -> String {
-    let (total, count) = (exact("total_high", "total_low"), exact("count_high", "count_low"));
+    let (total, count) = totals();
     let low = "((total_low + corrections) % 1000000000000 + 1000000000000) % 1000000000000";
     let high = format!("(total_high + (total_low + corrections - {low}) / 1000000000000)");
     let corrected = exact(&high, low);
-    include_str!("schema.sql")
+    SCHEMA
         .replace(
             "COUNT_OF(metric.kind)",
             &format!("case when metric.kind = 'histogram' then {count} end as count"),

@@ -8,10 +8,9 @@ use super::series_row::SeriesIds;
 use super::writing::Writing;
 use crate::otlp::series::Digest;
 use crate::sinks::left_out::LeftOut;
-use crate::sinks::owners::OwnersOfSlot;
 use crate::sinks::periods::{Deed, Told};
 use crate::sinks::sql::{self, Content, Request, Sent};
-use crate::sinks::Forwarded;
+use crate::sinks::{Forwarded, KnowsOwners};
 use rusqlite::{Connection, OpenFlags, TransactionBehavior};
 use std::collections::HashMap;
 use std::fs::OpenOptions;
@@ -19,6 +18,7 @@ use std::future::Future;
 use std::os::unix::fs::{MetadataExt, OpenOptionsExt, PermissionsExt};
 use std::path::{Path, PathBuf};
 use std::pin::pin;
+use std::sync::Arc;
 use std::task::{Context, Poll, Waker};
 use std::time::Duration;
 
@@ -96,47 +96,32 @@ impl Store {
         copy_log(&self.connection)
     }
 
-    /// Takes a request that is not taken yet, but for points that begin too early: these are left.
+    /// Takes one request, but for points that begin too early, which are left; or several whole.
     pub(super) fn take(
         &mut self,
-        request: &Forwarded,
+        all: &[Forwarded],
         sent: Sent,
-        owners: OwnersOfSlot,
+        owners: Option<Arc<dyn KnowsOwners>>,
     ) -> Result<LeftOut, NotTaken> {
-        let request = Request::with(request, sent, Content::read(&request.body)?);
+        let read = |one| Ok(Request::with(one, sent, Content::read(&one.body)?));
+        let requests = all.iter().map(read).collect::<Result<_, NotTaken>>()?;
         let mut writing = self.begin(owners)?;
-        let outcome = at_once(sql::take(&mut writing, request))?;
+        let outcome = at_once(sql::take(&mut writing, requests))?;
         let new = writing.commit()?;
         self.series.extend(new);
         outcome.left()
     }
 
-    /// Takes all of these whole, in one transaction, where none is taken yet and nothing of them is left; whether it did.
-    pub(super) fn take_together(
-        &mut self,
-        all: &[Forwarded],
-        owners: OwnersOfSlot,
-    ) -> Result<bool, NotTaken> {
-        let read = |one| Ok(Request::with(one, Sent::InOrder, Content::read(&one.body)?));
-        let requests = all.iter().map(read).collect::<Result<_, NotTaken>>()?;
-        let mut writing = self.begin(owners)?;
-        let is_taken = at_once(sql::take_together(&mut writing, requests))?;
-        if is_taken {
-            let new = writing.commit()?;
-            self.series.extend(new);
-        }
-        Ok(is_taken)
-    }
-
     /// Closes or opens a period, or corrects.
-    pub(super) fn settle(&mut self, who: &str, deed: &Deed) -> rusqlite::Result<Told> {
+    pub(super) fn settle(&mut self, who: &str, deed: &Deed) -> Result<Told, Fault> {
         let transaction = self.connection.transaction_with_behavior(TransactionBehavior::Immediate)?;
         let mut periods = Periods(transaction);
         let told = at_once(sql::settle(&mut periods, who, deed))?;
-        periods.0.commit().map(|()| told)
+        periods.0.commit()?;
+        Ok(told)
     }
 
-    fn begin(&mut self, owners: OwnersOfSlot) -> Result<Writing<'_>, NotTaken> {
+    fn begin(&mut self, owners: Option<Arc<dyn KnowsOwners>>) -> Result<Writing<'_>, NotTaken> {
         let transaction = self.connection.transaction_with_behavior(TransactionBehavior::Immediate)?;
         let version: i64 = cached::one(&transaction, "pragma data_version", [], |row| row.get(0))?;
         if version != self.data_version || self.series.len() > CACHED {

@@ -1,8 +1,7 @@
 //! The row of what a series has counted.
 
 use super::cached;
-use super::totals::{json, list};
-use super::wide_integers::{of_parts, parts_of, Unsigned};
+use super::wide_integers::{list, numbers, of_parts, parts_of, Unsigned};
 use crate::otlp::series::ForwardedPoint;
 use crate::sinks::sql::{Ends, Sums};
 use rusqlite::{params, Row, Transaction};
@@ -29,10 +28,10 @@ impl Total {
             ends: Ends { life: row.get(9)?, floor: time(10)?, last: time(2)? },
             sums: Sums {
                 points: row.get(0)?,
-                total: of_parts(row.get(3)?, row.get(4)?).0,
-                count: of_parts(row.get(5)?, row.get(6)?).0,
+                total: of_parts(row.get(3)?, row.get(4)?),
+                count: of_parts(row.get(5)?, row.get(6)?),
                 without_sum: row.get(7)?,
-                buckets: json(row, 8)?,
+                buckets: numbers(row, 8)?,
             },
         })
     }

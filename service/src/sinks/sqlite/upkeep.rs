@@ -2,7 +2,6 @@
 //! kill behind any of them leaves a file that the next start goes on with.
 
 use super::cached;
-use super::horizon::Horizon;
 use super::wide_integers::Unsigned;
 use crate::sinks::utc::{after_month, day_of, hour_of, month_of, HOUR_NS};
 use crate::sinks::Retention;
@@ -43,7 +42,6 @@ impl Upkeep {
     }
 
     fn of(&mut self, transaction: &Transaction, now: u64) -> rusqlite::Result<bool> {
-        let mut horizon = Horizon::read(transaction)?;
         let ago = |time: Duration| now.saturating_sub(u64::try_from(time.as_nanos()).unwrap_or(u64::MAX));
         if let Some(time) = self.retention.intervals {
             if intervals(transaction, ago(time), self.step)? {
@@ -52,8 +50,8 @@ impl Upkeep {
         }
         match self.retention.hours {
             Some(time) => {
-                come_back(transaction, &mut horizon, now)?;
-                hours(transaction, horizon, ago(time), self.step)
+                come_back(transaction, now)?;
+                hours(transaction, ago(time), self.step)
             }
             None => Ok(false),
         }
@@ -91,21 +89,21 @@ const BY_TIME: [&str; 5] = [
 
 /// Deletes hours, days and months that ended by then: at first from the views, then their rows. The last hour stays: what
 /// ends before the horizon is left out, and by a clock that was ahead once all that comes would be.
-fn hours(transaction: &Transaction, mut horizon: Horizon, until: u64, step: usize) -> rusqlite::Result<bool> {
+fn hours(transaction: &Transaction, until: u64, step: usize) -> rusqlite::Result<bool> {
+    let so_far = hours_from(transaction)?;
     let last: Option<i64> = transaction.query_row("select max(hour) from hour", [], |row| row.get(0))?;
     let mut from = last.map_or(0, |last| last.min((until / HOUR_NS) as i64));
-    if from > horizon.hours_from {
+    if from > so_far {
         from = from.min(last_hour_of_intervals(transaction)?);
     }
-    if from > horizon.hours_from {
-        horizon.hours_from = from;
-        horizon.write(transaction)?;
+    if from > so_far {
+        set_hours_from(transaction, from)?;
         let (day, month) = (day_of(from), month_of(day_of(from)));
         transaction.execute("delete from utc_hour where hour < ?1", [from])?;
         transaction.execute("delete from utc_day where day < ?1", [day])?;
         transaction.execute("delete from utc_month where month < ?1", [month])?;
     }
-    let from = horizon.hours_from;
+    let from = from.max(so_far);
     let (day, month) = (day_of(from), month_of(day_of(from)));
     for (delete, before) in BY_TIME.into_iter().zip([from, from, day, month, from]) {
         let few = params![before, step as i64];
@@ -118,13 +116,21 @@ fn hours(transaction: &Transaction, mut horizon: Horizon, until: u64, step: usiz
 
 /// By a clock that was ahead once the horizon is in the time to come, and the views would have nothing that is right until
 /// then. The next month is whole: nothing of it came, but by such a clock.
-fn come_back(transaction: &Transaction, horizon: &mut Horizon, now: u64) -> rusqlite::Result<()> {
+fn come_back(transaction: &Transaction, now: u64) -> rusqlite::Result<()> {
     let next = after_month((now / HOUR_NS) as i64);
-    if horizon.hours_from <= next {
-        return Ok(());
+    match hours_from(transaction)? <= next {
+        true => Ok(()),
+        false => set_hours_from(transaction, next),
     }
-    horizon.hours_from = next;
-    horizon.write(transaction)
+}
+
+/// Hours, days and months that ended by this hour are deleted.
+pub(super) fn hours_from(transaction: &Transaction) -> rusqlite::Result<i64> {
+    cached::one(transaction, "select hours_from from horizon", [], |row| row.get(0))
+}
+
+fn set_hours_from(transaction: &Transaction, hour: i64) -> rusqlite::Result<()> {
+    cached::run(transaction, "update horizon set hours_from = ?1", [hour]).map(drop)
 }
 
 /// What came late, and corrections, count in an hour by the clock, so that one says nothing about it.

@@ -1,8 +1,9 @@
-//! Whole numbers past SQLite's own: 64 bits without sign, and totals of 128 bits.
+//! Whole numbers past SQLite's own: 64 bits without sign, and totals of 128 bits; and lists of numbers.
 
-use crate::sinks::sql::exact::Exact;
 use crate::sinks::sql::Sums;
-use rusqlite::types::{FromSql, FromSqlError, FromSqlResult, ToSql, ToSqlOutput, ValueRef};
+use rusqlite::types::{FromSql, FromSqlError, FromSqlResult, ToSql, ToSqlOutput, Type, ValueRef};
+use rusqlite::Row;
+use serde::Serialize;
 
 /// A number of 64 bits without sign. From 2^63 on it is a text of 20 digits: SQLite sorts texts behind integers, so
 /// the order of such a column is that of the numbers.
@@ -40,13 +41,25 @@ pub(super) fn parts(total: i128) -> Option<(i64, i64)> {
     Some((high, low))
 }
 
-pub(super) fn of_parts(high: i64, low: i64) -> Exact {
-    Exact(i128::from(high) * BASE + i128::from(low))
+pub(super) fn of_parts(high: i64, low: i64) -> i128 {
+    i128::from(high) * BASE + i128::from(low)
 }
 
 /// Of total and count; none where one of them is too great for two integers.
 pub(super) fn parts_of(sums: &Sums) -> Option<[(i64, i64); 2]> {
     Some([parts(sums.total)?, parts(sums.count)?])
+}
+
+/// A list of numbers, a JSON array; none where it is null.
+pub(super) fn numbers(row: &Row, column: usize) -> rusqlite::Result<Option<Vec<i128>>> {
+    let text: Option<String> = row.get(column)?;
+    let odd = |error| rusqlite::Error::FromSqlConversionFailure(column, Type::Text, Box::new(error));
+    text.map(|text| serde_json::from_str(&text)).transpose().map_err(odd)
+}
+
+/// Numbers as a JSON array.
+pub(super) fn list(numbers: &[impl Serialize]) -> String {
+    serde_json::to_string(numbers).unwrap_or_default() // numbers are always written
 }
 
 #[cfg(test)]
@@ -88,7 +101,7 @@ mod tests {
             [i128::from(i64::MIN), i128::from(u64::MAX) * 1_000_000, -12_345_678_901_234_567_890_123_456_789]
         {
             let (high, low) = parts(total).expect("it fits");
-            assert_eq!(of_parts(high, low), Exact(total));
+            assert_eq!(of_parts(high, low), total);
         }
         assert_eq!(parts(i128::MAX), None);
     }

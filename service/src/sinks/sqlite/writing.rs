@@ -2,28 +2,27 @@
 
 use super::cached;
 use super::fault::Fault;
-use super::horizon::Horizon;
 use super::hours::Hours;
 use super::periods;
-use super::series_row::{SeriesIds, SeriesRow};
+use super::series_row::{self, SeriesIds};
 use super::total::Total;
-use super::totals::list;
-use super::wide_integers::Unsigned;
+use super::upkeep;
+use super::wide_integers::{list, Unsigned};
 use crate::otlp::series::{Digest, ForwardedPoint, Value};
 use crate::sinks::left_out::shown;
-use crate::sinks::owners::OwnersOfSlot;
 use crate::sinks::periods::Closed;
 use crate::sinks::sql::totals::SeriesTotal;
 use crate::sinks::sql::{self, Adding, Late, OfSeries, Place, Request, Stored, Taken};
-use crate::sinks::{Forwarded, Rewind};
+use crate::sinks::{Forwarded, KnowsOwners, Rewind};
 use rusqlite::{params, Transaction};
 use std::collections::{BTreeMap, BTreeSet, HashMap};
+use std::sync::Arc;
 
 type NotTaken = sql::NotTaken<Fault>;
 
 pub(super) struct Writing<'a> {
     pub(super) transaction: Transaction<'a>,
-    pub(super) owners: OwnersOfSlot,
+    pub(super) owners: Option<Arc<dyn KnowsOwners>>,
     pub(super) known: &'a HashMap<Digest, SeriesIds>,
     /// Of no use to others until it is committed.
     pub(super) new: HashMap<Digest, SeriesIds>,
@@ -71,7 +70,7 @@ impl sql::Transaction for Writing<'_> {
 
     async fn series(&mut self, all: &[OfSeries]) -> Result<(Vec<Stored<Row>>, Closed), NotTaken> {
         let stored = all.iter().map(|of| self.stored(of)).collect::<Result<_, _>>()?;
-        Ok((stored, periods::read(&self.transaction)?))
+        Ok((stored, periods::closed(&self.transaction)?))
     }
 
     async fn late(&mut self, of: &Forwarded, all: &[OfSeries]) -> Result<Option<Late>, NotTaken> {
@@ -92,7 +91,7 @@ impl sql::Transaction for Writing<'_> {
     }
 
     async fn add(&mut self, place: &Place, all: &[Adding<'_, Row>]) -> Result<(), NotTaken> {
-        let hours_from = Horizon::read(&self.transaction)?.hours_from;
+        let hours_from = upkeep::hours_from(&self.transaction)?;
         self.intervals(place, all)?;
         for adding in all {
             let Row { ids, total } = &adding.stored.row;
@@ -117,9 +116,10 @@ impl sql::Transaction for Writing<'_> {
         for key in rewind.keys() {
             let note = "insert into rewind (slot, epoch, digest, number) values (?1, ?2, ?3, ?4)
                 on conflict do update set number = max(number, excluded.number)";
-            let row = params![of.slot, of.epoch, key.digest(), Unsigned(of.number)];
+            let digest = key.digest();
+            let row = params![of.slot, of.epoch, digest, Unsigned(of.number)];
             cached::run(&self.transaction, note, row)?;
-            let series = SeriesRow::of(&SeriesTotal::of_none(&key)?).find(&self.transaction)?;
+            let series = series_row::find(&self.transaction, &digest)?;
             let total = series.map(|series| Total::read(&self.transaction, series)).transpose()?.flatten();
             if let (Some(series), Some(total)) = (series, total) {
                 total.rewound(life, rewind.to).write(&self.transaction, series)?;
@@ -179,8 +179,8 @@ impl Writing<'_> {
         }
         let series = SeriesTotal::of_none(&of.key)?;
         let buckets = series.histogram.as_ref().map(|histogram| histogram.bounds.len() + 1);
-        let sender = self.owners.owner(&of.digest);
-        let (ids, is_new) = SeriesRow::of(&series).known(&self.transaction, sender.as_deref())?;
+        let sender = self.owners.as_ref().and_then(|owners| owners.owner(&of.digest));
+        let (ids, is_new) = series_row::known(&self.transaction, &of.key, &series, sender.as_deref())?;
         let total = match is_new {
             true => None,
             false => Total::read(&self.transaction, ids.series)?,

@@ -7,7 +7,7 @@ use crate::otlp::{posts_of_test, requests_of_test, taken_of_test, Choice, Clock,
 use crate::slot::posted::{Posted, RequestReader};
 use std::collections::HashSet;
 
-mod plain;
+mod proved;
 
 struct Both {
     slow: Arc<Core>,
@@ -305,7 +305,7 @@ fn numbers_begin_anew_and_posts_under_way_keep_theirs() {
     for (number, body) in posts_of_test(8, 2_000).into_iter().enumerate() {
         let under_way = both.numbers.read(&both.fast, &first, &both.reading);
         both.post(["A", "B"][number / 7 % 2], body);
-        let now = both.numbers.now(&both.fast, &both.reading).unwrap();
+        let now = both.numbers.now(&both.fast).unwrap();
         generations.insert(files::Names::generation(&*now.names));
         let points = under_way.and_then(|by| read(&both.fast, &both.numbers, "C", by.into()).ok());
         let wanted = read(&both.slow, &both.numbers, "C", both.text(&first).unwrap()).unwrap();

@@ -51,11 +51,12 @@ async fn a_long_post_of_who_has_all_of_its_share_is_looked_at_beside_others() {
     let shared = Shared::of_test();
     let (other, done) = std::sync::mpsc::channel();
     shared.shares.begin(Rules {
-        most_series: 10,
+        max_series: 10,
         of_each: Share { series: Some(1), points: None }.into(),
         tokens: None,
         profile: Profile::Deltas,
         owned: Box::new(Slow(Mutex::new(done))),
+        flush_interval: Duration::ZERO,
     });
     let slot = Slot::in_memory(&shared);
     let long = point(10) + &" ".repeat(Readers::SHORT);
@@ -87,11 +88,12 @@ impl Owned for Nothing {
 async fn no_sender_comes_over_its_share_of_series_by_one_post() {
     let shared = Shared::of_test();
     shared.shares.begin(Rules {
-        most_series: 10,
+        max_series: 10,
         of_each: Share { series: Some(3), points: None }.into(),
         tokens: None,
         profile: Profile::Deltas,
         owned: Box::new(Nothing),
+        flush_interval: Duration::ZERO,
     });
     let slot = Slot::in_memory(&shared);
     let status = async |start: u64, metrics: &[&str]| {

@@ -311,11 +311,10 @@ async fn slots_come_and_go_while_posts_go_on() {
 /// A folder's one is asked whatever a request has.
 #[tokio::test]
 async fn one_slot_gets_all_requests_as_they_come() {
-    let one = Slots::one(Arc::new(5));
+    let one = Slots::one(Some(Arc::new(5)));
     for body in [&b"{}"[..], b"\xff", b""] {
         let way = one.way(Encoding::Json, &Bytes::from_static(body));
         assert!(matches!(way, Way::Here(taker) if *taker == 5));
     }
-    one.set(0, None);
     assert!(one.here(0).is_some() && one.here(1).is_none());
 }

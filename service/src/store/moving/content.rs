@@ -1,32 +1,20 @@
 //! What a folder has to be moved.
 
 use super::MoveFault;
-use crate::core::Core;
 use crate::files::{Beginning, Folder, Journal, Outbox, Series};
-use crate::keeper;
-use crate::metrics::Metrics;
 use crate::otlp::series::SeriesKey;
 use crate::otlp::slot_of_series;
-use crate::slot::Slot;
 use std::collections::HashMap;
-use std::sync::Arc;
 
 pub struct Content {
-    pub journal: Arc<Journal>,
-    pub outbox: Arc<Outbox>,
+    pub journal: Journal,
+    pub outbox: Outbox,
     pub series: HashMap<SeriesKey, Series>,
 }
 
 impl Content {
-    /// The files as a start would leave them: the owner of each series is known.
     pub fn of_folder(folder: &Folder) -> Result<Content, MoveFault> {
         let (journal, outbox) = folder.slot()?;
-        let no_book = |why| MoveFault(format!("there is no book: {why}"));
-        let core = Core::new(1).map_err(no_book)?;
-        let metrics = Metrics::new().map_err(|why| MoveFault(format!("there are no metrics: {why}")))?;
-        let slot = Slot::new(0, journal, Arc::new(outbox), Arc::new(metrics), core);
-        keeper::settle(&slot)?;
-        let (journal, outbox) = (slot.journal.clone(), slot.outbox.clone());
         Ok(Content { series: outbox.series(), journal, outbox })
     }
 

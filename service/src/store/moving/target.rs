@@ -12,6 +12,7 @@ const PIECE: u64 = 8 << 20;
 
 pub struct To {
     pub number: u16,
+    pub term: u64,
     journal: Journal,
     pub outbox: Outbox,
     dead: Dead,
@@ -20,12 +21,13 @@ pub struct To {
 }
 
 impl To {
-    /// A slot of a store, under a term: what an earlier try has left there is deleted.
-    pub fn slot(store: &PostgresStore, number: u16, term: u64) -> Result<To, MoveFault> {
+    /// A slot of a store: what an earlier try has left there is deleted.
+    pub fn slot(store: &PostgresStore, number: u16, id: &str) -> Result<To, MoveFault> {
+        let term = store.take_to_move(number, id)?;
         let drive = store.drive(number, term).map_err(Fault::from)?;
         wipe(&drive)?;
         let (journal, outbox, dead) = drive.open_files(&store.cluster.epoch)?;
-        Ok(To { number, journal, outbox, dead, written: 0 })
+        Ok(To { number, term, journal, outbox, dead, written: 0 })
     }
 
     pub fn put(&mut self, post: &Post, names: &dyn Names) -> Result<(), Fault> {

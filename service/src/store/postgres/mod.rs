@@ -4,6 +4,7 @@
 //! clock, no lease, no lock of a session. What is read is believed only behind a committed write of one's own, since a
 //! server shows, after a restart, what its standby does not have.
 
+mod connection;
 mod copies;
 mod counts;
 mod doubt;
@@ -13,7 +14,6 @@ mod member;
 mod restored;
 mod schema;
 mod session;
-mod shared;
 mod state;
 mod terms;
 
@@ -25,14 +25,14 @@ pub use drive::PostgresDrive;
 pub use fault::StoreFault;
 pub use member::Member;
 pub use schema::{Cluster, MOST_SLOTS};
-pub use state::{Standing, State};
+pub use state::Standing;
 
 use crate::files::drive::Lost;
 use crate::postgres::identity;
 use crate::work::locked;
-use drive::{on_this_thread, open, Connections, GroupCommitter};
+use connection::{Connection, Connections};
+use drive::{on_this_thread, open, GroupCommitter};
 use session::{within, Owned, SILENT};
-use shared::Shared;
 use std::collections::BTreeMap;
 use std::future::Future;
 use std::sync::{Arc, Mutex};
@@ -51,13 +51,12 @@ pub struct PostgresStore {
     pub cluster: Cluster,
     /// Which database it is in, by its own word.
     identity: Option<String>,
-    counts: Arc<Counts>,
     /// For bytes, which may be long.
-    reader: Arc<Shared>,
+    reader: Arc<Connection>,
     /// For slots that are taken or given away, which may wait for who has the row.
-    taker: Arc<Shared>,
+    taker: Connection,
     /// For beats, and for what is seen behind them: nothing else keeps them waiting.
-    beater: Arc<Shared>,
+    beater: Connection,
     /// For writes of slots.
     committer: Arc<GroupCommitter>,
     threads: Arc<Threads>,
@@ -79,18 +78,10 @@ impl Threads {
         Ok(Threads { handle: runtime.handle().clone(), runtime: Some(runtime) })
     }
 
-    /// Waits, whatever thread this is. Connections that it makes live on the store's threads.
+    /// Waits, whatever thread this is.
     fn wait<T>(&self, work: impl Future<Output = T>) -> T {
         let _entered = self.handle.enter();
         on_this_thread(work)
-    }
-
-    async fn run<T: Send + 'static>(
-        &self,
-        work: impl Future<Output = Result<T, Doubt>> + Send + 'static,
-    ) -> Result<T, Doubt> {
-        let done = self.handle.spawn(work).await;
-        done.unwrap_or_else(|error| Err(Doubt::NotConnected(error.to_string())))
     }
 }
 
@@ -138,23 +129,20 @@ impl PostgresStore {
     pub fn look_into(server: &Server, copies: Copies) -> Result<PostgresStore, StoreFault> {
         let threads = Arc::new(Threads::start()?);
         let checking = async {
-            let (client, _driver) = session::connect(server).await?;
+            let (client, _driver) = connection::connect(server).await?;
             let cluster = schema::check(&client, server).await?;
             copies::check(&client, server, copies).await?;
             Ok::<_, StoreFault>((cluster, within(SILENT, identity(&client)).await?))
         };
         let (cluster, identity) = threads.wait(checking)?;
-        let counts = Arc::default();
-        let connections = Connections::to(server, copies, &counts);
-        let shared = || Arc::new(Shared::new(&connections));
+        let connections = Connections::to(server, copies, &Arc::default(), &threads.handle);
         Ok(PostgresStore {
             cluster,
             identity,
-            reader: shared(),
-            taker: shared(),
-            beater: shared(),
-            committer: Arc::new(GroupCommitter::start(&connections, &threads.handle)),
-            counts,
+            reader: Arc::new(Connection::of(&connections)),
+            taker: Connection::of(&connections),
+            beater: Connection::of(&connections),
+            committer: Arc::new(GroupCommitter::start(&connections)),
             threads,
             taken: Mutex::default(),
         })
@@ -162,7 +150,7 @@ impl PostgresStore {
 
     /// Asks again, for a while, where the server that was there when the store was opened has gone away: it comes back, or
     /// another takes its place. What it asks for may be done again.
-    fn waited<T>(&self, work: impl AsyncFn() -> Result<T, Doubt>) -> Result<T, StoreFault> {
+    pub(super) fn waited<T>(&self, work: impl AsyncFn() -> Result<T, Doubt>) -> Result<T, StoreFault> {
         let begun = Instant::now();
         loop {
             match self.threads.wait(work()) {
@@ -187,24 +175,19 @@ impl PostgresStore {
         self.told(schema::SET_SINK, &[&before, &now])
     }
 
-    /// How often each instance has beaten.
-    pub fn beats(&self) -> Result<BTreeMap<String, u64>, StoreFault> {
-        let (instances, _) = self.waited(async || self.beater.clone().instances().await)?;
-        Ok(instances.into_iter().map(|one| (one.name, one.beat)).collect())
-    }
-
     /// Which database it is in, if that says so.
     pub fn identity(&self) -> Option<String> {
         self.identity.clone()
     }
 
     pub fn counts(&self) -> &Arc<Counts> {
-        &self.counts
+        &self.reader.all.counts
     }
 
     /// The slot was taken here under this term, and this epoch: another of the same term is another's.
-    fn note_taken(&self, slot: u16, term: u64, epoch: String) {
+    fn note_taken(&self, slot: u16, term: u64, epoch: String) -> u64 {
         locked(&self.taken).insert(slot, (term, epoch));
+        term
     }
 
     /// The files of a slot that was taken here under this term; none where another has it since. It asks until it knows.
@@ -212,7 +195,7 @@ impl PostgresStore {
         let taken = locked(&self.taken).get(&slot).cloned();
         let (_, epoch) = taken.filter(|(taken, _)| *taken == term).ok_or(Lost)?;
         let of = Owned { slot: slot.into(), term: term as i64, epoch: &epoch };
-        let opened = self.threads.wait(open(&self.reader, &of, &self.counts))?;
+        let opened = self.threads.wait(open(&self.reader, &of))?;
         Ok(Arc::new(PostgresDrive::new(opened, &self.committer, &self.reader, &self.threads)))
     }
 

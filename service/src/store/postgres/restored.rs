@@ -1,12 +1,12 @@
 //! What an operator says of a store that was put back from a backup, or that has lost rows for good: it goes on with what there is.
 
+use super::connection::connect;
 use super::fault::StoreFault;
-use super::session::{connect, within, SILENT};
+use super::session::{within, SILENT};
+use super::state::FENCE;
 use super::PostgresStore;
 use tokio_postgres::{Client, Error};
 
-/// Whoever had a slot writes no more, and delivers no more into a sink in this database.
-const FENCE: &str = "update totxegun_store.slot set term = term + 1, link = 0, owner = '', epoch = ''";
 /// What the sink has said belongs to files that may be gone. Of what is sent again it knows the keys.
 const DELIVERED: &str = "delete from totxegun_store.delivered";
 const PIECES: &str = "delete from totxegun_store.piece where slot = any($1)";
@@ -16,7 +16,7 @@ const ANEW: &str = "update totxegun_store.slot set begun = false
 
 async fn go_on(client: &mut Client, anew: &[i32]) -> Result<Vec<u16>, Error> {
     let transaction = client.transaction().await?;
-    transaction.execute(FENCE, &[]).await?;
+    transaction.execute(FENCE, &[&""]).await?;
     transaction.execute(DELIVERED, &[]).await?;
     for deletion in [PIECES, FILES] {
         transaction.execute(deletion, &[&anew]).await?;
@@ -35,12 +35,9 @@ impl PostgresStore {
         if let Some(none) = anew.iter().find(|slot| **slot >= self.cluster.slots) {
             return Err(StoreFault::NoSlot { given: *none, slots: self.cluster.slots });
         }
-        let running = self.running()?;
-        if !running.is_empty() {
-            return Err(StoreFault::Running(running.join(" and ")));
-        }
+        self.check_idle()?;
         let anew: Vec<i32> = anew.iter().map(|slot| i32::from(*slot)).collect();
-        self.tried(async || {
+        self.waited(async || {
             let (mut client, _driver) = connect(&self.reader.all.server).await?;
             within(SILENT, go_on(&mut client, &anew)).await
         })

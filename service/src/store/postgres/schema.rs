@@ -1,15 +1,16 @@
 //! A store's tables, and what it says of itself.
 
+use super::connection::connect;
 use super::doubt::Doubt;
 use super::fault::StoreFault;
-use super::session::{connect, within, SILENT};
+use super::session::{within, SILENT};
 use crate::postgres::Server;
 use std::fs::File;
 use std::io::{self, Read};
 use tokio_postgres::{Client, Error};
 
-/// The version of the tables that this program knows. 1 to 3 stood for other forms.
-pub(super) const KNOWN: i32 = 4;
+/// The version of the tables that this program knows.
+pub(super) const KNOWN: i32 = 1;
 const TABLES: &str = include_str!("schema.sql");
 /// Where it is no PostgreSQL, though it speaks as one, its tables are left as they are.
 const TUNING: &str = include_str!("tuning.sql");

@@ -1,9 +1,9 @@
 create schema if not exists totxegun_store;
--- One row: what the store is. `state` is `counts`, or `filling` while what a folder has is on its way here: `move` is
--- that folder's epoch. `sink` is where all goes, as the file `version` of a folder has it.
+-- One row: what the store is. `filling` while what a folder has is on its way here: `move` is that folder's epoch. `sink` is
+-- where all goes, as the file `version` of a folder has it.
 create table totxegun_store.cluster (
     id text primary key, version int not null, slots int not null, epoch text not null, reading text not null,
-    secret text not null, state text not null default 'counts', move text not null default '',
+    secret text not null, filling boolean not null default false, move text not null default '',
     folder text not null default '', sink text not null default '');
 create table totxegun_store.instance (
     -- Other instances bring posts to the one address, operators of other machines ask at the other; empty if they can't.

@@ -1,21 +1,21 @@
 //! A connection with its statements, to the server that writes.
 
+mod put;
+
+use super::connection::{connect, Connections, Stored, CONNECT};
 use super::copies::{self, Copies};
 use super::doubt::{Doubt, Next};
-use super::drive::{Connections, PackedPiece, Write};
-use super::shared::Stored;
-use crate::postgres::{self, Driver, Server};
-use std::collections::BTreeSet;
+use super::drive::Write;
+use crate::postgres::Driver;
+use std::collections::{BTreeMap, BTreeSet};
 use std::future::Future;
-use std::sync::atomic::{AtomicUsize, Ordering::Relaxed};
+use std::sync::Arc;
 use std::time::{Duration, Instant};
 use tokio::sync::Mutex;
 use tokio::time::timeout;
 use tokio_postgres::types::ToSql;
-use tokio_postgres::{Client, Config, Error, Row, Statement};
+use tokio_postgres::{Client, Error, Row, Statement};
 
-/// How long a host may take to be connected to, and to prepare the statements.
-const CONNECT: Duration = Duration::from_secs(5);
 /// How long a connection may be silent: it is left then, and never cancelled. The server ends what waits for a lock
 /// before, so that one backend a slot is left behind at most: the one that has the lock, and waits for its standby.
 pub(super) const SILENT: Duration = Duration::from_secs(30);
@@ -23,19 +23,6 @@ pub(super) const SILENT: Duration = Duration::from_secs(30);
 /// So long a connection is kept on which the slot's row is locked. Who has the lock may wait for ever, if this server is no primary
 /// any more.
 const LOCKED: Duration = Duration::from_secs(5);
-
-/// What is said to be done is on the server's disk, and where there are synchronous standbys on theirs. A warning is heard
-/// whatever the role's own settings are.
-const SETTINGS: &str =
-    "set client_min_messages = 'warning'; set default_transaction_isolation = 'read committed';
-    set statement_timeout = '20s'; set lock_timeout = '10s'; set idle_in_transaction_session_timeout = '10s';
-    select set_config('synchronous_commit', 'on', false)
-    where current_setting('synchronous_commit') not in ('on', 'remote_apply')";
-
-/// Rows of a slot are looked up by their keys, also while the tables are small.
-const PLANS: &str =
-    "set jit = off; set enable_seqscan = off; set enable_hashjoin = off; set enable_mergejoin = off;
-    set plan_cache_mode = 'force_generic_plan'";
 
 /// The fence of each write, by slots, terms, links and epochs: those that are as these say, but for those that are locked, as by a
 /// write that waits for its standby. Another has the slots that are not there, or another link is their owner's.
@@ -90,9 +77,6 @@ const PUT: &str = concat!(
     "on conflict do nothing) select slot from mine"
 );
 
-/// What a statement has at most, and a piece.
-const MOST: usize = 16 << 20;
-
 /// None where another has the slot, or its row is locked.
 const RAISE: &str = "with mine as (
         select slot from totxegun_store.slot where slot = $1 and term = $2 and epoch = $3
@@ -141,7 +125,13 @@ pub(super) struct Session {
 }
 
 impl Session {
-    pub async fn open(all: &Connections) -> Result<Session, Doubt> {
+    pub async fn open(all: &Arc<Connections>) -> Result<Arc<Session>, Doubt> {
+        let of = all.clone();
+        let opened = all.threads.spawn(async move { Session::made(&of).await.map(Arc::new) });
+        opened.await.unwrap_or_else(|error| Err(Doubt::NotConnected(error.to_string())))
+    }
+
+    async fn made(all: &Connections) -> Result<Session, Doubt> {
         let number = all.draw();
         let (client, driver) = connect(&all.server).await?;
         let of = |text| client.prepare(text);
@@ -158,13 +148,8 @@ impl Session {
         let copies = all.copies;
         let session =
             Session { client, number, copies, append, put, pieces, settings, driver, made, writing };
-        session.enough_copies().await?;
+        enough(within(CONNECT, session.settings()).await?)?;
         Ok(session)
-    }
-
-    /// Passes if what was done before is on as many servers as was asked for.
-    async fn enough_copies(&self) -> Result<(), Doubt> {
-        enough(within(CONNECT, self.settings()).await?)
     }
 
     /// As they are once all is done that was asked for before; none if they don't matter.
@@ -198,24 +183,23 @@ impl Session {
 
     /// What a write answered, where no doubt came with it, and it is on as many servers as was asked for.
     pub async fn written<T>(&self, write: impl Future<Output = Result<T, Error>>) -> Result<T, Doubt> {
-        let answer = self.unwarned(SILENT, write).await?;
-        self.enough_copies().await?;
-        Ok(answer)
+        self.sure(SILENT, async { Ok((write.await?, self.settings().await?)) }).await
     }
 
-    /// What it answered, where no warning came with it.
-    async fn unwarned<T>(
+    /// The same of a write with the settings behind it. No other write is between the two: that may wait for a lock.
+    async fn sure<T>(
         &self,
         limit: Duration,
-        write: impl Future<Output = Result<T, Error>>,
+        write: impl Future<Output = Result<(T, Option<copies::Settings>), Error>>,
     ) -> Result<T, Doubt> {
         let _one = self.writing.lock().await;
         self.driver.warnings.take(); // of before
-        let answer = within(limit, write).await?;
-        match self.driver.warnings.take() {
-            None => Ok(answer),
-            Some(warning) => Err(Doubt::Warned(warning)),
+        let (answer, settings) = within(limit, write).await?;
+        if let Some(warning) = self.driver.warnings.take() {
+            return Err(Doubt::Warned(warning));
         }
+        enough(settings)?;
+        Ok(answer)
     }
 
     /// Raises a slot's link: its row then, and all that is read from here on is behind a committed write under the term. None
@@ -235,107 +219,20 @@ impl Session {
     /// The slots of these writes of which the server has the last piece that it said is durable, or that are another's by now, as the
     /// write itself finds: that is asked of each connection before it is believed. A server that another had to stand in for may not have got all.
     pub async fn whole(&self, writes: &[&Write]) -> Result<BTreeSet<i32>, Doubt> {
-        let last = |write: &&&Write| {
+        let last = |write: &&Write| {
             let last = write.owner.fence().last.filter(|(file, _)| !write.packed.gone.contains(file));
-            last.map(|(_, number)| (write.owner.slot, number, write.owner.term))
+            last.map(|(_, number)| (write.owner.slot, (number, write.owner.term)))
         };
-        let (asked, whole): (Vec<&&Write>, Vec<&&Write>) =
-            writes.iter().partition(|write| last(write).is_some());
-        let mut whole: BTreeSet<i32> = whole.iter().map(|write| write.owner.slot).collect();
-        let asked: Vec<(i32, i64, i64)> = asked.iter().filter_map(last).collect();
+        let asked: BTreeMap<i32, (i64, i64)> = writes.iter().filter_map(last).collect();
+        let slots = writes.iter().map(|write| write.owner.slot);
+        let mut whole: BTreeSet<i32> = slots.filter(|slot| !asked.contains_key(slot)).collect();
         if !asked.is_empty() {
-            let slots: Vec<i32> = asked.iter().map(|(slot, _, _)| *slot).collect();
-            let numbers: Vec<i64> = asked.iter().map(|(_, number, _)| *number).collect();
-            let terms: Vec<i64> = asked.iter().map(|(_, _, term)| *term).collect();
+            let slots: Vec<i32> = asked.keys().copied().collect();
+            let (numbers, terms): (Vec<i64>, Vec<i64>) = asked.into_values().unzip();
             let found = within(SILENT, self.client.query(ARE_THERE, &[&slots, &numbers, &terms])).await?;
             whole.extend(found.iter().map(|row| row.get::<_, i32>(0)));
         }
         Ok(whole)
-    }
-
-    /// Does writes of slots, each once, in one transaction: which of the slots were their owners'. Each of its statements may take as
-    /// long as one alone.
-    pub async fn put(&self, writes: &[&Write]) -> Result<BTreeSet<i32>, Doubt> {
-        let parts = parts_of(writes);
-        match &parts[..] {
-            [only] => {
-                // Sent one behind the other, so the second answer comes right after the commit.
-                let both = async {
-                    let (done, settings) = tokio::join!(self.put_part(writes, only, true), self.settings());
-                    Ok((done?, settings?))
-                };
-                let (done, settings) = self.unwarned(SILENT, both).await?;
-                enough(settings)?;
-                Ok(done)
-            }
-            _ => {
-                let limit = SILENT * parts.len() as u32;
-                let done = self.unwarned(limit, self.put_parts(writes, &parts)).await?;
-                self.enough_copies().await?;
-                Ok(done)
-            }
-        }
-    }
-
-    /// All of it, or nothing.
-    async fn put_parts(&self, writes: &[&Write], parts: &[Vec<OfSlot<'_>>]) -> Result<BTreeSet<i32>, Error> {
-        self.client.batch_execute("begin").await?;
-        let done = self.put_each(writes, parts).await;
-        let is_whole = done.as_ref().is_ok_and(|done| done.len() == writes.len());
-        self.client.batch_execute(if is_whole { "commit" } else { "rollback" }).await?;
-        done.map(|done| if is_whole { done } else { BTreeSet::new() })
-    }
-
-    /// Which of the slots were their owners' in each of these.
-    async fn put_each(&self, writes: &[&Write], parts: &[Vec<OfSlot<'_>>]) -> Result<BTreeSet<i32>, Error> {
-        let mut done = BTreeSet::new();
-        for (number, part) in parts.iter().enumerate() {
-            done = self.put_part(writes, part, number == 0).await?;
-            if done.len() < writes.len() {
-                break;
-            }
-        }
-        Ok(done)
-    }
-
-    async fn put_part(
-        &self,
-        writes: &[&Write],
-        pieces: &[OfSlot<'_>],
-        is_first: bool,
-    ) -> Result<BTreeSet<i32>, Error> {
-        let slots: Vec<i32> = writes.iter().map(|write| write.owner.slot).collect();
-        let terms: Vec<i64> = writes.iter().map(|write| write.owner.term).collect();
-        let links: Vec<i64> = writes.iter().map(|write| write.owner.fence().link).collect();
-        let epochs: Vec<&str> = writes.iter().map(|write| &*write.owner.epoch).collect();
-        let column =
-            |of: fn(&PackedPiece) -> i64| -> Vec<i64> { pieces.iter().map(|(_, piece)| of(piece)).collect() };
-        let of_slots: Vec<i32> = pieces.iter().map(|(slot, _)| *slot).collect();
-        let (files, numbers, places) =
-            (column(|piece| piece.file), column(|piece| piece.number), column(|piece| piece.place));
-        let lengths: Vec<i32> = pieces.iter().map(|(_, piece)| piece.length).collect();
-        let bytes: Vec<&[u8]> = pieces.iter().map(|(_, piece)| &piece.bytes[..]).collect();
-        let mut values: Vec<&(dyn ToSql + Sync)> =
-            vec![&slots, &terms, &links, &epochs, &of_slots, &files, &numbers, &places, &lengths, &bytes];
-        let is_append = writes.iter().all(|write| !write.is_repeat && write.packed.only_appends());
-        let named = || writes.iter().filter(|_| is_first);
-        let gone = named().flat_map(|write| write.packed.gone.iter().map(|file| (write.owner.slot, *file)));
-        let (gone_slots, gone): (Vec<i32>, Vec<i64>) = gone.unzip();
-        let names =
-            || named().flat_map(|write| write.packed.named.iter().map(|named| (write.owner.slot, named)));
-        let (named_slots, named): (Vec<i32>, Vec<i64>) =
-            names().map(|(slot, (file, _))| (slot, *file)).unzip();
-        let names: Vec<&str> = names().map(|(_, (_, name))| name.as_str()).collect();
-        let others: [&(dyn ToSql + Sync); 5] = [&gone_slots, &gone, &named_slots, &named, &names];
-        let statement = match is_append {
-            true => &self.append,
-            false => {
-                values.extend(others);
-                &self.put
-            }
-        };
-        let done = self.client.query(statement, &values).await?;
-        Ok(done.iter().map(|row| row.get(0)).collect())
     }
 }
 
@@ -346,29 +243,6 @@ fn enough(settings: Option<copies::Settings>) -> Result<(), Doubt> {
     }
 }
 
-/// A piece with its slot.
-type OfSlot<'w> = (i32, &'w PackedPiece);
-
-/// The pieces of writes by statements: one at least.
-fn parts_of<'w>(writes: &[&'w Write]) -> Vec<Vec<OfSlot<'w>>> {
-    let (mut parts, mut size) = (vec![Vec::new()], 0);
-    let of_write = |write: &&'w Write| {
-        let (slot, pieces) = (write.owner.slot, &write.packed.pieces);
-        pieces.iter().map(move |piece| (slot, piece))
-    };
-    for (slot, piece) in writes.iter().flat_map(of_write) {
-        size += piece.bytes.len();
-        if size > MOST {
-            parts.push(Vec::new());
-            size = piece.bytes.len();
-        }
-        if let Some(part) = parts.last_mut() {
-            part.push((slot, piece));
-        }
-    }
-    parts
-}
-
 pub(super) async fn within<T>(
     limit: Duration,
     work: impl Future<Output = Result<T, Error>>,
@@ -377,37 +251,4 @@ pub(super) async fn within<T>(
         Ok(done) => Ok(done?),
         Err(_) => Err(Doubt::Silent(limit)),
     }
-}
-
-/// Each time another host is asked first: one that takes writes, and never ends them, is not come to for ever.
-static FIRST: AtomicUsize = AtomicUsize::new(0);
-
-/// A connection with our settings to a host that writes.
-pub(super) async fn connect(server: &Server) -> Result<(Client, Driver), Doubt> {
-    let (mut told, mut may_pass) = (Vec::new(), true);
-    let mut hosts = server.each_host();
-    let first = FIRST.fetch_add(1, Relaxed) % hosts.len().max(1);
-    hosts.rotate_left(first);
-    for host in hosts {
-        match connect_to(server, &host).await {
-            Ok(connected) => return Ok(connected),
-            Err(doubt) => {
-                may_pass &= doubt.may_pass();
-                told.push(doubt.to_string());
-            }
-        }
-    }
-    told.dedup();
-    let told = format!("{server}: {}", told.join("; "));
-    Err(match may_pass {
-        true => Doubt::NotConnected(told),
-        false => Doubt::Refused(told),
-    })
-}
-
-async fn connect_to(server: &Server, host: &Config) -> Result<(Client, Driver), Doubt> {
-    let (client, driver) = postgres::connect(server, host, SETTINGS, CONNECT).await?;
-    // Another engine may not know them.
-    let _ = within(CONNECT, client.batch_execute(PLANS)).await;
-    Ok((client, driver))
 }

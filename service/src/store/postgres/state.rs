@@ -1,78 +1,61 @@
 //! Whether what is in a store counts: not while a folder's content is on its way here.
 
-use super::doubt::{Backoff, Doubt};
+use super::connection::{connect, Connection};
+use super::doubt::Doubt;
 use super::fault::StoreFault;
 use super::schema::draw_epoch;
-use super::session::{connect, within, SILENT};
-use super::shared::Shared;
+use super::session::{within, SILENT};
 use super::terms::RELEASE;
 use super::PostgresStore;
 use std::time::Duration;
 use tokio_postgres::types::ToSql;
 use tokio_postgres::{Client, Error};
 
-/// How often a step is tried: who moves can be called again, wherever it ended.
-const TRIES: u32 = 12;
 /// So long a beat has to stand still: more than six of them.
 const STILL: Duration = Duration::from_millis(3500);
 
-#[derive(Clone, Copy, Debug, PartialEq, Eq)]
-pub enum State {
-    Counts,
-    /// A folder does, whose content is on its way here.
-    Filling,
-}
-
-const STATES: [(State, &str); 2] = [(State::Counts, "counts"), (State::Filling, "filling")];
-
 #[derive(Clone, Debug, PartialEq, Eq)]
 pub struct Standing {
-    pub state: State,
+    /// The folder counts, whose content is on its way here: the store does not yet.
+    pub is_filling: bool,
     /// The epoch of the folder that is moved, or was, and where it is.
     pub id: String,
     pub folder: String,
 }
 
 /// A write, so that what it reads is there for good.
-const STANDING: &str = "update totxegun_store.cluster set id = id returning state, move, folder";
-const CHANGE: &str = "update totxegun_store.cluster set state = $1, move = $2, folder = $3
-    where state = $4 and move = $5";
-/// Whoever had a slot writes no more.
-const FENCE: &str = "update totxegun_store.slot set term = term + 1, link = 0, owner = $1, epoch = ''";
+const STANDING: &str = "update totxegun_store.cluster set id = id returning filling, move, folder";
+const CHANGE: &str = "update totxegun_store.cluster set filling = $1, move = $2, folder = $3
+    where filling = $4 and move = $5";
+/// Whoever had a slot writes no more, and delivers no more into a sink in this database.
+pub(super) const FENCE: &str =
+    "update totxegun_store.slot set term = term + 1, link = 0, owner = $1, epoch = ''";
 const FILES: &str = "select count(*) from totxegun_store.file";
 /// What an earlier try has brought there is deleted.
 const TAKE: &str =
     "update totxegun_store.slot set term = term + 1, link = 0, owner = $3, epoch = $5, begun = false
     where slot = $1 and term = $2
-    and exists (select from totxegun_store.cluster where move = $4 and state = 'filling')";
+    and exists (select from totxegun_store.cluster where move = $4 and filling)";
 /// Who takes a slot to move it.
 const MOVER: &str = "store move";
-
-impl State {
-    fn name(self) -> &'static &'static str {
-        let found = STATES.iter().find(|(known, _)| *known == self);
-        found.map_or(&"", |(_, name)| name)
-    }
-}
 
 impl Standing {
     /// Why no service starts on the store; none where one may.
     pub fn refusal(&self) -> Option<String> {
         let folder = &self.folder;
-        match self.state {
-            State::Counts => None,
-            State::Filling => Some(format!(
+        self.is_filling.then(|| {
+            format!(
                 "what the folder {folder} has is on its way into this store, and it counts once all is there: call `totxegun store \
                  move --from {folder} ADDRESS` again; for another folder `drop schema totxegun_store cascade`, and `totxegun store \
                  init`"
-            )),
-        }
+            )
+        })
     }
 }
 
 /// For `CHANGE`.
 fn values_of<'a>(seen: &'a Standing, to: &'a Standing) -> [&'a (dyn ToSql + Sync); 5] {
-    [to.state.name(), &to.id, &to.folder, seen.state.name(), &seen.id]
+    [&to.is_filling, &to.id, &to.folder, &seen.is_filling, &seen.id]
 }
 
 async fn begin_filling(client: &mut Client, seen: &Standing, to: &Standing) -> Result<bool, Error> {
@@ -88,56 +71,16 @@ async fn begin_filling(client: &mut Client, seen: &Standing, to: &Standing) -> R
     Ok(is_unused)
 }
 
-impl Shared {
+impl Connection {
     async fn standing(&self) -> Result<Standing, Doubt> {
         let row = self.told(STANDING, &[]).await?;
-        let name: &str = row.get(0);
-        let state = STATES.iter().find(|(_, known)| *known == name);
-        Ok(Standing {
-            // What is not known here must not be served.
-            state: state.map_or(State::Filling, |(state, _)| *state),
-            id: row.get(1),
-            folder: row.get(2),
-        })
-    }
-
-    async fn change(&self, seen: &Standing, to: &Standing) -> Result<(), Doubt> {
-        self.write(CHANGE, &values_of(seen, to)).await.map(drop)
-    }
-
-    /// Fills a store from now on, where it is as it was seen: false if a slot has something. One transaction looks, behind which no
-    /// owner writes any more: so nothing is taken between the look and the change.
-    async fn begin_filling(&self, seen: &Standing, to: &Standing) -> Result<bool, Doubt> {
-        let (mut client, _driver) = connect(&self.all.server).await?;
-        within(SILENT, begin_filling(&mut client, seen, to)).await
-    }
-
-    async fn has_files(&self) -> Result<bool, Doubt> {
-        let session = self.session().await?;
-        let row = self.heard(&session, within(SILENT, session.client.query_one(FILES, &[]))).await?;
-        Ok(row.get::<_, i64>(0) > 0)
+        Ok(Standing { is_filling: row.get(0), id: row.get(1), folder: row.get(2) })
     }
 }
 
 impl PostgresStore {
-    /// Tries until there is an answer, but not for ever.
-    pub(super) fn tried<T>(&self, step: impl AsyncFn() -> Result<T, Doubt>) -> Result<T, StoreFault> {
-        self.threads.wait(async {
-            let mut backoff = Backoff::default();
-            let mut last = Doubt::NotConnected(String::new());
-            for _ in 0..TRIES {
-                match step().await {
-                    Ok(done) => return Ok(done),
-                    Err(doubt) => last = doubt,
-                }
-                backoff.wait().await;
-            }
-            Err(StoreFault::Doubt(last))
-        })
-    }
-
     pub fn standing(&self) -> Result<Standing, StoreFault> {
-        self.tried(async || self.taker.standing().await)
+        self.waited(async || self.taker.standing().await)
     }
 
     /// Passes where the store counts.
@@ -150,35 +93,42 @@ impl PostgresStore {
 
     /// Changes the state, where it is as it was seen: the one that there is then.
     pub fn change(&self, seen: &Standing, to: &Standing) -> Result<Standing, StoreFault> {
-        self.tried(async || {
-            self.taker.change(seen, to).await?;
+        self.waited(async || {
+            self.taker.write(CHANGE, &values_of(seen, to)).await?;
             self.taker.standing().await
         })
     }
 
     /// Has the store filled from now on, where it is as it was seen: what it is then. None if a slot has something. Whoever had a slot
-    /// has it no more.
+    /// has it no more. One transaction looks, behind which no owner writes any more: so nothing is taken between the look and the
+    /// change.
     pub fn begin_filling(&self, seen: &Standing, to: &Standing) -> Result<Option<Standing>, StoreFault> {
-        self.tried(async || match self.taker.begin_filling(seen, to).await? {
-            true => self.taker.standing().await.map(Some),
-            false => Ok(None),
+        self.waited(async || {
+            let (mut client, _driver) = connect(&self.taker.all.server).await?;
+            match within(SILENT, begin_filling(&mut client, seen, to)).await? {
+                true => self.taker.standing().await.map(Some),
+                false => Ok(None),
+            }
         })
     }
 
-    /// Whether no slot ever had anything.
-    pub fn is_empty(&self) -> Result<bool, StoreFault> {
-        self.tried(async || Ok(!self.taker.has_files().await?))
+    /// Passes where no instance runs.
+    pub fn check_idle(&self) -> Result<(), StoreFault> {
+        match &self.running(STILL)?[..] {
+            [] => Ok(()),
+            running => Err(StoreFault::Running(running.join(" and "))),
+        }
     }
 
-    /// Instances whose beats go on. It takes some seconds where there were any.
-    pub fn running(&self) -> Result<Vec<String>, StoreFault> {
-        self.tried(async || {
-            let (before, _) = self.taker.clone().instances().await?;
+    /// Instances whose beats go on. It takes so long where there were any.
+    pub fn running(&self, within: Duration) -> Result<Vec<String>, StoreFault> {
+        self.waited(async || {
+            let (before, _) = self.taker.instances().await?;
             if before.is_empty() {
                 return Ok(Vec::new());
             }
-            tokio::time::sleep(STILL).await;
-            let (after, _) = self.taker.clone().instances().await?;
+            tokio::time::sleep(within).await;
+            let (after, _) = self.taker.instances().await?;
             let goes_on = after.into_iter().filter(|one| !before.contains(one));
             Ok(goes_on.map(|one| one.name).collect())
         })
@@ -186,23 +136,21 @@ impl PostgresStore {
 
     /// Takes a slot to move what it has. Nobody else can take it meanwhile.
     pub fn take_to_move(&self, slot: u16, id: &str) -> Result<u64, StoreFault> {
-        let taken = self.tried(async || {
-            let rows = self.taker.clone().slots().await?;
+        let taken = self.waited(async || {
+            let rows = self.taker.slots().await?;
             let seen = rows.iter().find(|row| row.slot == slot).map_or(0, |row| row.term);
             let epoch = draw_epoch()?;
-            let taken =
-                self.taker.write(TAKE, &[&i32::from(slot), &(seen as i64), &MOVER, &id, &epoch]).await?;
-            Ok((taken == 1).then_some((seen + 1, epoch)))
+            let values: [&(dyn ToSql + Sync); 5] = [&i32::from(slot), &(seen as i64), &MOVER, &id, &epoch];
+            let taken = self.taker.write(TAKE, &values).await?;
+            Ok((taken == 1).then(|| self.note_taken(slot, seen + 1, epoch)))
         });
-        let (term, epoch) = taken?.ok_or(StoreFault::Meanwhile)?;
-        self.note_taken(slot, term, epoch);
-        Ok(term)
+        taken?.ok_or(StoreFault::Meanwhile)
     }
 
     /// Gives back a slot that was taken so.
     pub fn release_moved(&self, slot: u16, term: u64) -> Result<(), StoreFault> {
         let release = async || self.taker.write(RELEASE, &[&i32::from(slot), &(term as i64), &MOVER]).await;
-        match self.tried(release)? {
+        match self.waited(release)? {
             1 => Ok(()),
             _ => Err(StoreFault::Meanwhile),
         }

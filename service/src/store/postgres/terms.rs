@@ -1,12 +1,11 @@
 //! The rows of instances and slots: who beats, and who has which slot under which term.
 
+use super::connection::Connection;
 use super::doubt::Doubt;
 use super::schema::draw_epoch;
 use super::session::within;
-use super::shared::Shared;
 use super::{copies, PostgresStore};
 use crate::cluster::terms::{Instance, Row, Told};
-use std::sync::Arc;
 use std::time::{Duration, SystemTime, UNIX_EPOCH};
 use tokio_postgres::types::ToSql;
 use tokio_postgres::Row as DatabaseRow;
@@ -18,7 +17,7 @@ const BEAT: &str =
     "insert into totxegun_store.instance as i (name, address, operate, version, beat, life, earlier, told)
     values ($1, $2, $3, $4, 1, greatest($6::bigint, 1), 0, $5)
     on conflict (name) do update set beat = i.beat + 1, address = excluded.address, operate = excluded.operate,
-    version = excluded.version, told = excluded.told, life = i.life + case $6 when 0 then 1 else 0 end,
+    version = excluded.version, told = excluded.told, life = greatest(i.life, $6) + case $6 when 0 then 1 else 0 end,
     earlier = i.earlier + case when $6 > 0 and $6 < i.life then 1 else 0 end
     returning life";
 /// With the server's time, in microseconds since 1970.
@@ -29,7 +28,7 @@ const SLOTS: &str = "select slot, term, owner from totxegun_store.slot order by 
 /// Not while a folder is moved into the store.
 const TAKE: &str =
     "update totxegun_store.slot set term = term + 1, link = 0, owner = $3, epoch = $4 where slot = $1 and term = $2
-    and exists (select from totxegun_store.cluster where state = 'counts')";
+    and exists (select from totxegun_store.cluster where not filling)";
 /// After a store has lost a take another may have the same term.
 pub(super) const RELEASE: &str =
     "update totxegun_store.slot set owner = '' where slot = $1 and term = $2 and owner = $3";
@@ -37,7 +36,7 @@ const LEAVE: &str = "delete from totxegun_store.instance where name = $1";
 /// One that has beaten meanwhile stays.
 const FORGET: &str = "delete from totxegun_store.instance where name = $1 and beat = $2";
 
-impl Shared {
+impl Connection {
     /// A write that is done without a doubt, or an error: then it may be done, or be done later.
     pub(super) async fn write(&self, text: &str, values: &[&(dyn ToSql + Sync)]) -> Result<u64, Doubt> {
         let session = self.session().await?;
@@ -61,7 +60,7 @@ impl Shared {
     }
 
     /// All that there are, and how far this machine's clock is ahead of the server's, if there is one.
-    pub(super) async fn instances(self: Arc<Self>) -> Result<(Vec<Instance>, Option<i64>), Doubt> {
+    pub(super) async fn instances(&self) -> Result<(Vec<Instance>, Option<i64>), Doubt> {
         let instance = |row: &DatabaseRow| {
             let one = Instance {
                 name: row.get(0),
@@ -82,7 +81,7 @@ impl Shared {
         Ok((all, times.first().map(|there| ahead(before, *there, after))))
     }
 
-    pub(super) async fn slots(self: Arc<Self>) -> Result<Vec<Row>, Doubt> {
+    pub(super) async fn slots(&self) -> Result<Vec<Row>, Doubt> {
         let owned = |row: &DatabaseRow| Row {
             slot: row.get::<_, i32>(0) as u16,
             term: row.get::<_, i64>(1) as u64,
@@ -107,7 +106,6 @@ fn ahead(before: i64, there: i64, after: i64) -> i64 {
     }
 }
 
-/// Each goes on where nobody waits for it any more.
 impl PostgresStore {
     /// Adds one to an instance's beat, which is committed when this is `Ok`. `life` is the number of this process among those of its
     /// name, and 0 of one that begins: the last number that there is.
@@ -119,71 +117,53 @@ impl PostgresStore {
         told: Told,
         life: u64,
     ) -> Result<u64, Doubt> {
-        let (beater, name) = (self.beater.clone(), name.to_string());
-        let (address, operate) = (address.to_string(), operate.to_string());
-        let beat = async move {
-            let told = serde_json::to_string(&told).unwrap_or_default(); // numbers and texts are always written
-            let version = env!("CARGO_PKG_VERSION");
-            let values: [&(dyn ToSql + Sync); 6] =
-                [&name, &address, &operate, &version, &told, &(life as i64)];
-            Ok(beater.told(BEAT, &values).await?.get::<_, i64>(0) as u64)
-        };
-        self.threads.run(beat).await
+        let told = serde_json::to_string(&told).unwrap_or_default(); // numbers and texts are always written
+        let (version, life) = (env!("CARGO_PKG_VERSION"), life as i64);
+        let values: [&(dyn ToSql + Sync); 6] = [&name, &address, &operate, &version, &told, &life];
+        Ok(self.beater.told(BEAT, &values).await?.get::<_, i64>(0) as u64)
     }
 
     /// All that there are, and how far this machine's clock is ahead of the server's, if there is one.
     pub async fn instances(&self) -> Result<(Vec<Instance>, Option<i64>), Doubt> {
-        self.threads.run(self.beater.clone().instances()).await
+        self.beater.instances().await
     }
 
     pub async fn slots(&self) -> Result<Vec<Row>, Doubt> {
-        self.threads.run(self.beater.clone().slots()).await
+        self.beater.slots().await
     }
 
     /// Writes the term behind the one that was seen, and a new epoch: the new term, or none where another was first. After a
     /// doubt nothing was taken: the next try sees which term there is, and what comes late finds another.
     pub async fn take(&self, slot: u16, seen: u64, owner: &str) -> Result<Option<u64>, Doubt> {
-        let (taker, owner) = (self.taker.clone(), owner.to_string());
-        let take = async move {
-            let epoch = draw_epoch()?;
-            let rows = taker.write(TAKE, &[&i32::from(slot), &(seen as i64), &owner, &epoch]).await?;
-            Ok((rows == 1).then_some((seen + 1, epoch)))
-        };
-        let taken = self.threads.run(take).await?;
-        Ok(taken.map(|(term, epoch)| {
-            self.note_taken(slot, term, epoch);
-            term
-        }))
+        let epoch = draw_epoch()?;
+        let rows = self.taker.write(TAKE, &[&i32::from(slot), &(seen as i64), &owner, &epoch]).await?;
+        Ok((rows == 1).then(|| self.note_taken(slot, seen + 1, epoch)))
     }
 
     /// Says that nobody has the slot, where it has this term and owner. The one who had it writes no more.
     pub async fn release(&self, slot: u16, term: u64, owner: &str) -> Result<(), Doubt> {
-        let (taker, owner) = (self.taker.clone(), owner.to_string());
-        let release = async move { taker.write(RELEASE, &[&i32::from(slot), &(term as i64), &owner]).await };
-        self.threads.run(release).await.map(drop)
+        self.taker.write(RELEASE, &[&i32::from(slot), &(term as i64), &owner]).await.map(drop)
     }
 
     /// Where the database is silent its row stays, and is that of one that is gone.
     pub async fn leave(&self, name: &str) -> Result<(), Doubt> {
-        let (beater, name) = (self.beater.clone(), name.to_string());
-        self.threads.run(async move { beater.write(LEAVE, &[&name]).await }).await.map(drop)
+        self.beater.write(LEAVE, &[&name]).await.map(drop)
     }
 
     /// Takes the row of an instance away that has not come back, where its beat is still this. Whether it was.
     pub async fn forget(&self, name: &str, beat: u64) -> Result<bool, Doubt> {
-        let (taker, name) = (self.taker.clone(), name.to_string());
-        let forget = async move { taker.write(FORGET, &[&name, &(beat as i64)]).await };
-        Ok(self.threads.run(forget).await? == 1)
+        Ok(self.taker.write(FORGET, &[&name, &(beat as i64)]).await? == 1)
     }
 
-    /// On how many servers what is committed is now; none where this role may not look. Writes may wait meanwhile.
+    /// On how many servers what is committed is now; none where this role may not look. Long bytes may be ahead of it, or a write
+    /// that waits for a standby, so its silence says nothing of other connections.
     pub async fn copies(&self) -> Result<Option<u64>, Doubt> {
-        let reader = self.reader.clone();
-        let counting = async move {
-            let session = reader.session().await?;
-            reader.heard(&session, within(READ, copies::count(&session.client))).await
-        };
-        self.threads.run(counting).await
+        let session = self.reader.session().await?;
+        let answer = within(READ, copies::count(&session.client)).await;
+        if let Err(doubt) = &answer {
+            self.reader.leave_after(&session, doubt).await;
+        }
+        answer
     }
 }
 

@@ -3,12 +3,8 @@
 use super::*;
 use crate::cluster::terms::{Instance, Seen, Told};
 
-/// Else each post would find out by itself, for ten seconds.
-#[tokio::test]
-async fn who_is_not_reached_is_left_after_two_looks_and_then_asked_nothing_until_it_is() {
-    let ((stalls, count), peer) = (strange(b"", true).await, Peer::here().await);
-    let forward = receiver(there(&stalls), secret("of all"));
-    let other = |name: &str, address: &str| Instance {
+fn other(name: &str, address: &str) -> Instance {
+    Instance {
         name: name.into(),
         address: address.into(),
         operate: String::new(),
@@ -17,10 +13,17 @@ async fn who_is_not_reached_is_left_after_two_looks_and_then_asked_nothing_until
         life: 1,
         earlier: 0,
         told: Told::default(),
-    };
+    }
+}
+
+/// Else each post would find out by itself, for ten seconds.
+#[tokio::test]
+async fn who_is_not_reached_is_left_after_two_looks_and_then_asked_nothing_until_it_is() {
+    let ((stalls, count), peer) = (strange(b"", true).await, Peer::here().await);
+    let forward = receiver(there(&stalls), secret("of all"));
     let instances = vec![other("stalls", &stalls), other("peer", &peer.address)];
     forward.cluster.has_seen(Seen { instances, ..Seen::default() });
-    tokio::spawn(forward.clone().look_at_others());
+    tokio::spawn(forward.clone().look_at_others(peer.address.clone()));
     let began = Instant::now();
     assert_eq!(posted(&forward, "{}").await, Reason::OwnerSilent.into());
     assert!((Duration::from_millis(1800)..LOOKED_FOR).contains(&began.elapsed()), "{:?}", began.elapsed());
@@ -37,4 +40,19 @@ async fn who_is_not_reached_is_left_after_two_looks_and_then_asked_nothing_until
     let (_, told) = forward.cluster.owners().told();
     let both = ["peer".to_string(), "stalls".to_string()];
     assert_eq!(told.reached, Some(both.into()), "slots don't move so soon");
+}
+
+/// Else of two that are too busy to answer each other the one with the first name would get the slots of the other, too.
+#[tokio::test]
+async fn who_is_too_busy_to_answer_itself_says_nothing_of_the_others() {
+    let ((stalls, _), peer) = (strange(b"", true).await, Peer::here().await);
+    for (own, says) in [(&stalls, None), (&peer.address, Some(["peer".to_string()].into()))] {
+        let forward = receiver(there(&peer.address), secret("of all"));
+        let instances = vec![other("peer", &peer.address)];
+        forward.cluster.has_seen(Seen { instances, ..Seen::default() });
+        let looking = tokio::spawn(forward.clone().look_at_others(own.clone()));
+        sleep(Duration::from_millis(2500)).await;
+        assert_eq!(forward.cluster.owners().told().1.reached, says);
+        looking.abort();
+    }
 }

@@ -156,7 +156,7 @@ impl World {
         let is_lost = self.is_rough && self.random.once_in(20);
         let reached = self.reached(node);
         let one = &mut self.nodes[node];
-        one.owners.has_reached(reached);
+        one.owners.has_reached(Some(reached));
         if self.stalls_for > 0 {
             return one.owners.unanswered();
         }

@@ -82,12 +82,12 @@ fn another_version_and_a_missing_segment_are_refused_by_name() {
     std::fs::remove_file(&path).unwrap();
     let fault = open_on(&Disk::default(), folder.path(), Durability::Process).err().unwrap().to_string();
     assert!(fault.contains("000000000002.seg") && fault.contains("missing"), "{fault}");
-    for version in [0u16, 1, 2, 3, 4, 6] {
+    for version in [0u16, 2, 5] {
         let mut other = Vec::new();
         records::put(&mut other, records::HEADER, &[b"totxegun", &version.to_le_bytes(), b"what comes"]);
         std::fs::write(&path, &other).unwrap();
         let fault = open_on(&Disk::default(), folder.path(), Durability::Process).err().unwrap().to_string();
-        let wanted = format!("is of format version {version}, and this totxegun reads 5 alone");
+        let wanted = format!("is of format version {version}, and this totxegun reads 1 alone");
         assert!(fault.contains(&wanted) && fault.contains("another --data"), "{fault}");
     }
     std::fs::write(&path, &sound).unwrap();

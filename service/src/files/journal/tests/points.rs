@@ -70,7 +70,7 @@ fn a_segment_says_a_name_once_ahead_of_its_first_points_and_by_the_same_write() 
     assert!(!is_alone.load(SeqCst));
     assert_eq!(kinds(&segment::path(folder.path(), 1)), [NAME, NAME, NAME, POINTS, POINTS, NAME, POINTS]);
     assert_eq!(kinds(&segment::path(folder.path(), 2)), [NAME, NAME, POINTS, POINTS]);
-    assert_eq!(records_of(&segment::path(folder.path(), 1))[0].1, [128 + 97, 32, b'a']);
+    assert_eq!(records_of(&segment::path(folder.path(), 1))[0].1, [128 + 97, 32, 32, 32, 32 + 1, b'a']);
 }
 
 #[test]
@@ -134,7 +134,7 @@ fn a_segment_and_a_file_of_a_sender_go_on_behind_these_bytes() {
     let header = |which: u8, number: u64| {
         let mut header = Vec::new();
         let number = number.to_le_bytes();
-        records::put(&mut header, 1, &[b"totxegun", &[5, 0, which], &number]);
+        records::put(&mut header, 1, &[b"totxegun", &[1, 0, which], &number]);
         header
     };
     let record = |kind: u8, sender: &str, text: &[u8]| {

@@ -32,8 +32,7 @@ async fn an_outbox_that_goes_on_from_another_has_its_requests_and_what_it_knows(
         let place = tempfile::tempdir().unwrap();
         let (one, other) = (place.path().join("one"), place.path().join("other"));
         let from = open_on(&Disk::default(), &one, "e", longest).unwrap();
-        from.commit(&[body(&[("a", 3)], "1"), body(&[("b", 4)], "2")], 2).unwrap();
-        from.own([(key_of("a").digest(), "s".to_string())].into()).unwrap();
+        commit_owned(&from, &[body(&[("a", 3)], "1"), body(&[("b", 4)], "2")], 2, &[("a", "s")]);
         from.quarantine("q").unwrap();
         from.put_beside(&[unit_of("m", "ms")]).unwrap();
         take(&from).await;

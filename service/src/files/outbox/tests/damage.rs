@@ -39,12 +39,12 @@ fn a_last_segment_of_another_version_stays_as_it_is() {
     kill(open(folder.path()));
     let path = last_segment(folder.path());
     let mut other = Vec::new();
-    records::put(&mut other, records::HEADER, &[b"totxegun", &1u16.to_le_bytes(), b"what comes"]);
+    records::put(&mut other, records::HEADER, &[b"totxegun", &2u16.to_le_bytes(), b"what comes"]);
     std::fs::write(&path, &other).unwrap();
     let before = std::time::UNIX_EPOCH + Duration::from_secs(1000);
     std::fs::File::options().write(true).open(&path).unwrap().set_modified(before).unwrap();
     let fault = open_on(&Disk::default(), folder.path(), "e", SEGMENT).err().unwrap().to_string();
-    assert!(fault.contains("is of format version 1, and this totxegun reads 5 alone"), "{fault}");
+    assert!(fault.contains("is of format version 2, and this totxegun reads 1 alone"), "{fault}");
     assert_eq!(std::fs::metadata(&path).unwrap().modified().unwrap(), before);
 }
 
@@ -96,8 +96,7 @@ async fn a_changed_byte_is_named_at_the_start_or_at_the_delivery_and_nothing_is_
     let folder = crate::files::power::place();
     let outbox = open(folder.path());
     let first = body(&[("a", 1)], "first");
-    outbox.commit(std::slice::from_ref(&first), 2).unwrap();
-    outbox.own(HashMap::from([(key_of("a").digest(), "me".into())])).unwrap();
+    commit_owned(&outbox, std::slice::from_ref(&first), 2, &[("a", "me")]);
     outbox.quarantine("me").unwrap();
     outbox.put_beside(&[unit_of("m", "ms")]).unwrap();
     let end = std::fs::metadata(last_segment(folder.path())).unwrap().len() as usize - MARK_LENGTHS[0];

@@ -14,7 +14,10 @@ fn wanted(ends: &[(u64, u64)]) -> HashMap<SeriesKey, u64> {
 fn commit(outbox: &Outbox, ends: &[(u64, u64)], journal: u64) {
     let all = wanted(ends);
     let all: Vec<(&str, u64)> = all.iter().map(|(key, end)| (&*key.0, *end)).collect();
-    outbox.commit(&[body(&all, "")], journal).unwrap();
+    let owners: Vec<String> = all.iter().map(|(key, _)| format!("s{}", key.len())).collect();
+    let owners: Vec<(&str, &str)> =
+        all.iter().zip(&owners).map(|((key, _), owner)| (*key, &**owner)).collect();
+    commit_owned(outbox, &[body(&all, "")], journal, &owners);
 }
 
 fn found(outbox: &Outbox) -> HashMap<SeriesKey, u64> {
@@ -35,13 +38,6 @@ fn many_series_come_back_with_their_keys() {
     {
         let outbox = open(folder.path());
         commit(&outbox, &all, 2);
-        assert_eq!(outbox.without_owner().len(), MANY as usize);
-        let owner = |series: Digest| {
-            let owner = format!("s{}", outbox.key(&series).unwrap().0.len());
-            (series, owner)
-        };
-        outbox.own(outbox.without_owner().into_iter().map(owner).collect()).unwrap();
-        assert_eq!(outbox.without_owner(), HashSet::new());
         assert_eq!(outbox.series_by_owner()["s6"], 10);
         assert_eq!(outbox.ahead_of(MANY - 1), (1, Some(key_of(&format!("[\"s{}\"]", MANY - 1)))));
         kill(outbox);
@@ -69,7 +65,7 @@ fn many_series_come_back_with_their_keys() {
 /// All programs of a format write and read the same.
 #[test]
 fn a_snapshot_has_one_form() {
-    let text = r#"{"epoch":"e","next":4,"acknowledged":3,"journal":7,"quarantined":["q"],"series":[["a",5,6,null],["[\"b\"]",9,8,"me"]],"since":{"made":1,"forgotten":2},"runs":[[1,3,4,[5,6],2,[1,2]]],"beside":[["m","ms"]],"forgotten":[[1,2,3,4,5],[1,2,3,5,4]],"recent":[[1,281474976710655,7]],"epochs":[["r",0],["e",1]]}"#;
+    let text = r#"{"facts":{"next":4,"acknowledged":3,"journal":7,"quarantined":["q"],"beside":[["m","ms"]],"since":{"made":1,"forgotten":2},"forgotten":[[1,2,3,4,5],[1,2,3,5,4]],"epochs":[["r",0],["e",1]]},"runs":[[1,3,4,[5,6],2,[1,2]]],"recent":[[1,281474976710655,7]],"series":[["a",5,6,null],["[\"b\"]",9,8,"me"]]}"#;
     let mut state = snapshot::Snapshot::read(&rows::deflated(text.as_bytes())).unwrap();
     let b = &state.series.get(&key_of("[\"b\"]").digest()).unwrap().series;
     assert_eq!((b.frontier, b.seen, b.owner.as_deref()), (9, 8, Some("me")));
@@ -87,10 +83,6 @@ fn a_snapshot_has_one_form() {
     }
     let written = rows::inflated(&packed).unwrap();
     assert_eq!(String::from_utf8(written).unwrap(), text);
-    // One of an earlier version does not have it.
-    let (before, _) = text.split_once(",\"recent\"").unwrap();
-    let state = snapshot::Snapshot::read(&rows::deflated(format!("{before}}}").as_bytes())).unwrap();
-    assert!(state.series.get(&key_of("[\"b\"]").digest()).unwrap().series.recent.is_none());
 }
 
 /// Else it was written, and no start could read it.

@@ -18,16 +18,10 @@ impl Model {
         let key = format!("key {}", numbers.below(30));
         let sender = format!("s{}", numbers.below(4));
         match numbers.below(10) {
-            0..=2 => self.commit(outbox, numbers),
+            0..=2 | 5 => self.commit(outbox, &sender, numbers),
             3 | 4 => {
                 if let Some((number, _)) = self.waiting.pop_front() {
                     outbox.acknowledge(number).unwrap();
-                }
-            }
-            5 => {
-                outbox.own(HashMap::from([(key_of(&key).digest(), sender.clone())])).unwrap();
-                if let Some(known) = self.series.get_mut(&key) {
-                    known.1 = Some(sender);
                 }
             }
             6 if numbers.below(2) == 0 => {
@@ -58,24 +52,30 @@ impl Model {
             _ => {
                 let keep = HashSet::from([key_of(&key).digest()]);
                 let count = self.series.len();
-                self.series.retain(|one, known| known.1.is_none() || *one == key);
+                self.series.retain(|one, _| *one == key);
                 let forgotten = outbox.forget_of(AT_ONCE, &keep).unwrap();
                 assert_eq!(forgotten.len(), count - self.series.len());
             }
         }
     }
 
-    fn commit(&mut self, outbox: &Outbox, numbers: &mut TestRandom) {
-        let mut bodies = Vec::new();
+    fn commit(&mut self, outbox: &Outbox, sender: &str, numbers: &mut TestRandom) {
+        let (mut bodies, mut keys) = (Vec::new(), Vec::new());
         self.journal += 1;
         for _ in 0..numbers.below(4) {
             let (key, end) = (format!("key {}", numbers.below(30)), self.journal);
             bodies.push(body(&[(&key, end)], &"x".repeat(numbers.below(3000) as usize)));
             self.next += 1;
             self.waiting.push_back((self.next, bodies[bodies.len() - 1].clone()));
-            self.series.entry(key).or_default().0 = end;
+            let owner = (numbers.below(4) > 0).then(|| sender.to_string());
+            let known = self.series.entry(key.clone()).or_insert((0, owner));
+            known.0 = end;
+            if known.1.is_some() {
+                keys.push(key);
+            }
         }
-        outbox.commit(&bodies, self.journal).unwrap();
+        let owners: Vec<(&str, &str)> = keys.iter().map(|key| (&**key, sender)).collect();
+        commit_owned(outbox, &bodies, self.journal, &owners);
     }
 
     async fn check(&self, outbox: &Outbox, about: &str) {

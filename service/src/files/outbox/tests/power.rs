@@ -6,7 +6,6 @@ use std::collections::BTreeMap;
 
 enum Step {
     Commit(Vec<Vec<u8>>),
-    Own,
     Hold(bool),
     PutBack(u64),
     Beside(UnitOfMetric),
@@ -25,8 +24,7 @@ fn steps(chance: &mut TestRandom) -> Vec<Step> {
     };
     let unit = |chance: &mut TestRandom| unit_of("m", ["ms", "us"][chance.below(2) as usize]);
     let mut step = |chance: &mut TestRandom| match chance.below(12) {
-        0..=3 => Step::Commit((0..chance.below(4)).map(|_| request(chance)).collect()),
-        4 => Step::Own,
+        0..=4 => Step::Commit((0..chance.below(4)).map(|_| request(chance)).collect()),
         5 => Step::Hold(chance.below(2) == 0),
         6 => Step::PutBack(chance.below(6)),
         7 => Step::Beside(unit(chance)),
@@ -39,9 +37,9 @@ fn steps(chance: &mut TestRandom) -> Vec<Step> {
 /// Whether all is durable then.
 fn make(outbox: &Outbox, step: &Step) -> Result<bool, Fault> {
     match step {
-        Step::Commit(bodies) => outbox.commit(bodies, outbox.journal() + 1)?,
-        Step::Own => {
-            outbox.own(outbox.series().into_keys().map(|key| (key.digest(), "me".into())).collect())?
+        Step::Commit(bodies) => {
+            let owners = owned(&[("a", "me"), ("b", "me"), ("c", "you")]);
+            outbox.commit_with(bodies, outbox.journal() + 1, Runs::new(), &owners).map(drop)?
         }
         Step::Hold(true) => outbox.quarantine("me")?,
         Step::Hold(false) => outbox.lift("me")?,

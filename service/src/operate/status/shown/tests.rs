@@ -63,14 +63,14 @@ fn what_is_not_there_is_not_spoken_of() {
     let titles: Vec<_> = Shown::of(&status(&[])).sections.iter().map(|section| section.title).collect();
     assert_eq!(titles, ["What waits", "Limits"]);
     let limits = section(&status(&[]), "Limits");
-    assert_eq!(limits.rows[0], ["series", "25,000", "100,000", "25 %", "--most-series"]);
-    assert_eq!(limits.rows[1], ["memory of the book", "1.0 MiB", "1.0 GiB", "0 %", "--book-memory"]);
+    assert_eq!(limits.rows[0], ["series", "25,000", "100,000", "25 %", "--max-series"]);
+    assert_eq!(limits.rows[1], ["memory of the book", "1.0 MiB", "1.0 GiB", "0 %", "--max-memory"]);
 }
 
 /// As over a store, in which a sender has all slots.
 #[test]
 fn who_is_quarantined_in_several_slots_is_shown_once() {
-    let told = |senders: &str| format!("quarantined: {senders}; `totxegun lift NAME` once it is repaired");
+    let told = |senders: &str| format!("quarantined: {senders}; `totxegun release NAME` once it is repaired");
     assert_eq!(notes(&status(&["-"])), [told("1 sender: - (who names none)")]);
     let mut both = status(&["A", "B"]);
     let held = Held { senders: 1, posts: 3, bytes: 2048 };
@@ -106,16 +106,18 @@ fn why_nothing_is_delivered_is_said() {
 #[test]
 fn requests_that_the_sink_refused_for_good_are_counted_with_what_to_do() {
     let dead = section(&Status { dead: 1, ..status(&[]) }, "Dead requests");
-    assert!(dead.notes[0].starts_with("1 request that the sink refused for good: `totxegun dead list`"));
+    assert!(
+        dead.notes[0].starts_with("1 request that the sink refused for good: `totxegun dead-letters list`")
+    );
     assert_eq!(Shown::of(&Status { dead: 1, ..status(&[]) }).tiles[4].class, "bad");
 }
 
 #[test]
 fn senders_are_shown_beside_their_shares() {
-    let used = |sender: &str, most_series, most_points| Used {
+    let used = |sender: &str, max_series, most_points| Used {
         sender: sender.into(),
         series: 9,
-        most_series,
+        max_series,
         points: 3_000,
         most_points,
     };

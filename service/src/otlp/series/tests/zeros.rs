@@ -2,7 +2,6 @@
 
 use super::*;
 use crate::otlp::tests::Posted;
-use crate::otlp::{prepare, Encoding, Reading};
 
 /// Values of attributes, as keys have them.
 pub const VALUES: [&str; 9] = [
@@ -20,9 +19,8 @@ pub const VALUES: [&str; 9] = [
 pub const KINDS: [&str; 4] = [r#""sum""#, r#""monotonic""#, "[]", "[-9007199254740992,0,9007199254740992]"];
 
 /// What a body has points of.
-fn found(body: &[u8]) -> Posted {
-    let prepared = prepare(Encoding::Protobuf, body.to_vec().into(), &Reading::default()).unwrap();
-    posted(&prepared.body).unwrap()
+fn found(body: &str) -> Posted {
+    posted(body.as_bytes()).unwrap()
 }
 
 #[test]
@@ -45,7 +43,8 @@ fn zeros_say_once_what_a_series_shares_with_the_one_before() {
     let body = zeros(series.clone()).unwrap().pop().unwrap();
     let all = found(&body);
     assert_eq!((all.foreign, &all.series), (0, &series.iter().cloned().collect()));
-    let request = ExportMetricsServiceRequest::decode(&*body).unwrap();
+    let request = protobuf_of_forwarded(body.as_bytes()).unwrap();
+    let request = ExportMetricsServiceRequest::decode(&*request).unwrap();
     let scopes = || request.resource_metrics.iter().flat_map(|resource| &resource.scope_metrics);
     let metrics = || scopes().flat_map(|scope| &scope.metrics);
     let points = metrics().map(|metric| match &metric.data {
@@ -110,10 +109,10 @@ fn zeros_are_points_of_each_series_at_its_frontier() {
         all.extend(body.series);
     }
     assert_eq!(all, series.iter().cloned().collect());
-    assert_eq!(zeros([]).unwrap(), Vec::<Vec<u8>>::new());
+    assert_eq!(zeros([]).unwrap(), Vec::<String>::new());
     series.sort_unstable();
     let sorted = zeros(series.clone()).unwrap();
-    let length = |bodies: &[Vec<u8>]| bodies.iter().map(Vec::len).sum::<usize>();
+    let length = |bodies: &[String]| bodies.iter().map(String::len).sum::<usize>();
     assert!(length(&sorted) <= length(&bodies));
     let in_order = sorted.iter().flat_map(|body| found(body).series);
     assert_eq!(in_order.collect::<HashMap<_, _>>(), all);

@@ -117,7 +117,7 @@ async fn a_refused_post_decides_no_unit() {
         service.ask("POST", "/quarantine/A").await;
         let refused = post_of(&service, 1, &of("m", "s")).await;
         assert_eq!(refused.status(), 403, "{refused:?}");
-        service.ask("POST", "/lift/A").await;
+        service.ask("POST", "/release/A").await;
         assert_eq!(post(&service, 1, "s", DOUBLE).await, Outcome::taken(0));
         assert!(service.units.hand_over(1).await.unwrap(), "in time");
     }

@@ -126,6 +126,7 @@ fn seen() -> Seen {
     Seen {
         instances: vec![instance("a"), instance("b")],
         slots: [(0, "a"), (1, "b"), (2, "a")].map(row).into(),
+        life: 1,
         ..Seen::default()
     }
 }
@@ -181,7 +182,7 @@ async fn an_order_is_carried_out_in_all_slots_and_each_instance_writes_down_who_
     assert_eq!(both.post(20).await, [403, 403]);
     let again = both.b.ask("POST", "/quarantine/A").await;
     assert_eq!(again.0, 400, "all had it: {}", again.1);
-    assert_eq!(both.b.ask("POST", "/lift/A").await.0, 200);
+    assert_eq!(both.b.ask("POST", "/release/A").await.0, 200);
     assert_eq!(both.post(20).await, [200, 200]);
     let at_a = acts(&both.a);
     assert_eq!(at_a[0], ("operator".into(), "quarantine".into(), None));
@@ -189,7 +190,7 @@ async fn an_order_is_carried_out_in_all_slots_and_each_instance_writes_down_who_
     let at_b = acts(&both.b);
     assert_eq!(at_b[0], ("operator (at a)".into(), "quarantine".into(), None));
     assert_eq!(at_b[1].2.as_deref(), Some("done in slot 1"));
-    assert!(at_a.iter().any(|(who, act, _)| who == "operator (at b)" && act == "lift"), "{at_a:?}");
+    assert!(at_a.iter().any(|(who, act, _)| who == "operator (at b)" && act == "release"), "{at_a:?}");
 }
 
 /// Else a sender would be taken by one slot that another refuses, and nobody would know.
@@ -211,10 +212,10 @@ async fn where_an_instance_is_silent_it_is_said_by_slot_what_was_done_and_asked_
     assert_eq!(both.a.ask("POST", "/quarantine/A").await.0, 200);
     assert_eq!(both.post(20).await, [403, 403]);
     both.net.mood("b", Mood::LosesAnswers);
-    let (status, why) = both.a.ask("POST", "/lift/A").await;
+    let (status, why) = both.a.ask("POST", "/release/A").await;
     assert!(status == 503 && why.contains("give the order again"), "{status} {why}");
     both.net.mood("b", Mood::Well);
-    let (status, why) = both.a.ask("POST", "/lift/A").await;
+    let (status, why) = both.a.ask("POST", "/release/A").await;
     assert!(status == 200 && why.contains("it is not quarantined"), "it was done: {status} {why}");
     assert_eq!(both.post(20).await, [200, 200]);
     for (service, slots) in [(&both.a, 2), (&both.b, 1)] {
@@ -316,17 +317,17 @@ async fn series_are_found_in_all_slots_and_forgotten_by_the_instances_that_have_
     let both = Both::new().await;
     assert_eq!(both.post(10).await, [200, 200]);
     let (status, why) = both.b.ask("POST", "/forget?series=m").await;
-    assert!(status == 409 && why.contains("give --anyway"), "{why}");
-    let (status, why) = both.b.ask("POST", "/forget?series=m&anyway").await;
+    assert!(status == 409 && why.contains("give --force"), "{why}");
+    let (status, why) = both.b.ask("POST", "/forget?series=m&force").await;
     assert!(status == 409 && why.contains("3 series are named so"), "{status} {why}");
-    let (status, why) = both.b.ask("POST", "/forget?series=x&anyway").await;
+    let (status, why) = both.b.ask("POST", "/forget?series=x&force").await;
     assert!(
         status == 200 && why.contains("no series is named x: nothing of it is known yet"),
         "{status} {why}"
     );
     let process: Json = serde_json::from_str(&attributes(2)).unwrap();
     let process = process[0]["value"]["stringValue"].as_str().unwrap();
-    let one = format!("/forget?series=m%7Bservice.instance.id%3D{process}%7D&anyway");
+    let one = format!("/forget?series=m%7Bservice.instance.id%3D{process}%7D&force");
     let (status, location, why) = redirected(&both.b, "POST", &one).await;
     assert_eq!((status, location), (307, format!("http://a.example:4319{one}")), "{why}");
     assert_eq!(both.a.post(&[2], 5).await.status(), 400, "it is known as yet");
@@ -338,7 +339,7 @@ async fn series_are_found_in_all_slots_and_forgotten_by_the_instances_that_have_
     assert_eq!(both.a.post(&[2], 10).await.status(), 200, "as a new one");
     assert_eq!(both.a.post(&[0], 5).await.status(), 400, "it is known");
     // Of several each instance does its own, and says where the others are.
-    let all = "/forget?series=m&all&anyway";
+    let all = "/forget?series=m&all&force";
     let (status, location, told) = redirected(&both.a, "POST", all).await;
     assert_eq!((status, location), (307, format!("http://b.example:4319{all}")));
     let others = "others are elsewhere: slot 1 is at instance b";
@@ -354,7 +355,7 @@ async fn series_are_found_in_all_slots_and_forgotten_by_the_instances_that_have_
         let last: Json = serde_json::from_str(text.lines().next_back().unwrap()).unwrap();
         assert_eq!(
             (&last["act"], &last["given"].to_string()[..]),
-            (&"forget".into(), r#"["--all","--anyway"]"#)
+            (&"forget".into(), r#"["--all","--force"]"#)
         );
     }
     both.net.mood("b", Mood::Refuses);

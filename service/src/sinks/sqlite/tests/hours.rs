@@ -276,3 +276,30 @@ fn each_table_view_and_column_says_what_it_is() {
     assert_eq!(trial.ask(&format!("{unsaid} except {said}")), "");
     assert_eq!(trial.ask(&format!("{said} except {unsaid}")), "");
 }
+
+/// Of series that differ in the type of an attribute; one has more than 64 bits hold.
+#[test]
+fn the_hours_of_one_series_are_read() {
+    const HOUR: u64 = 3_600_000_000_000;
+    let mut trial = Trial::new();
+    let text = |start, end| {
+        sum("m", start, end, i64::MAX).replace(r#"{"intValue":"200"}"#, r#"{"stringValue":"200"}"#)
+    };
+    trial.taken(1, sum("m", 4 * HOUR, 5 * HOUR, 6));
+    trial.taken(2, sum("m", 5 * HOUR, 6 * HOUR, 5));
+    trial.taken(3, text(5 * HOUR, 5 * HOUR + 1));
+    trial.taken(4, text(5 * HOUR + 1, 6 * HOUR));
+    trial.taken(5, histogram("h", 5 * HOUR, 6 * HOUR, Some(3), [1, 2, 1]));
+    let sink = Address::Sqlite(trial.path());
+    let hours = |series, from| {
+        let found = reading::hours(&sink, &series, from).expect("hours")?.into_iter();
+        Some(found.map(|it| (it.hour, it.total.0, it.count.map(|count| count.0))).collect::<Vec<_>>())
+    };
+    let found = |series: &SeriesTotal| hours(series.digest, 5).expect("it is there");
+    let all = read(&trial.path()).expect("rows");
+    let mut found: Vec<_> = all.iter().map(found).collect();
+    found.sort();
+    assert_eq!(found, [vec![(5, 3, Some(4))], vec![(5, 5, None)], vec![(5, 2 * i128::from(i64::MAX), None)]]);
+    assert_eq!(all.iter().filter_map(|one| hours(one.digest, 0)).map(|hours| hours.len()).max(), Some(2));
+    assert_eq!(hours([0; 32], 0), None, "a series that the file does not have");
+}

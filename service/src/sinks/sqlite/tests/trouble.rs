@@ -192,20 +192,19 @@ fn another_schema_is_refused_by_name_and_left_alone() {
     let mut trial = Trial::new();
     trial.taken(1, sum("a", 10, 20, 1));
     trial.writer.store = None;
-    // 1 to 5 had other tables, by the repository's history.
-    for another in [1, 5, 10, 11, 13] {
+    for another in [2, 12] {
         trial.ask(&format!("pragma user_version = {another}"));
         let error = SqliteSink::open(&trial.path(), Retention::default(), Arc::new(()))
             .err()
             .expect("it is another")
             .to_string();
-        let known = format!("schema {another}; this one knows 12): use that version, or another file");
+        let known = format!("schema {another}; this one knows 1): use that version, or another file");
         let all = ["totals.db was written by another version", &known];
         assert!(all.iter().all(|part| error.contains(part)), "{error}");
         trial.again(2, sum("a", 20, 30, 2), "another version");
-        assert!(read(&trial.path(), &Filter::default()).is_err());
+        assert!(read(&trial.path()).is_err());
     }
-    trial.ask("pragma user_version = 12");
+    trial.ask("pragma user_version = 1");
     trial.taken(2, sum("a", 20, 30, 2));
 }
 
@@ -254,7 +253,7 @@ fn a_file_in_a_folder_that_hands_its_group_on_is_for_the_group_to_read() {
         std::fs::create_dir(&folder).expect("a folder");
         std::fs::set_permissions(&folder, std::fs::Permissions::from_mode(mode)).expect("its rights");
         let mut writer = writer(&folder.join("totals.db"));
-        assert_eq!(writer.take(&forwarded(1, sum("a", 10, 20, 1)), Sent::ByHand), Fate::Taken);
+        assert_eq!(writer.take(&[forwarded(1, sum("a", 10, 20, 1))], Sent::ByHand), Fate::Taken);
         for name in ["totals.db", "totals.db-wal", "totals.db-shm"] {
             let found = std::fs::metadata(folder.join(name)).expect(name);
             assert_eq!(found.permissions().mode() & 0o777, wanted, "{name} in {mode:o}");

@@ -1,6 +1,5 @@
 //! What is deleted, and what of it may come again.
 
-use super::super::export;
 use super::hours::view;
 use super::*;
 use crate::sinks::sql::export::What;
@@ -130,7 +129,7 @@ fn a_month_or_a_day_that_is_deleted_is_not_exported_as_one_without_points() {
     trial.keep_up(NOVEMBER + 2 * DAY + 5 * HOUR);
     let exported = |text: &str| {
         let (what, mut points) = (What::Of(text.parse().expect(text)), 0);
-        let read = export::read(&trial.path(), &what, &mut |line| {
+        let read = reading::read(&Address::Sqlite(trial.path()), &what, &mut |line| {
             points += line.points;
             Ok(())
         });

@@ -9,11 +9,11 @@
 //! so nobody waits for a slot of others. Where it is not known whether a write was done, or it was passed over, it is repeated on
 //! a long lane, by itself, behind a higher link: so what comes late of a broken connection finds another link and does nothing.
 
-use super::connection::{Connection, Connections};
 use super::files::Batch;
 use super::linger::{Arrivals, Linger};
 use super::owned_slot::OwnedSlot;
 use super::packed::Packed;
+use crate::store::postgres::connection::{Connection, Connections};
 use crate::store::postgres::doubt::{Backoff, Doubt};
 use crate::store::postgres::session::Session;
 use crate::work::blocking;
@@ -21,7 +21,6 @@ use std::cmp::Reverse;
 use std::collections::BTreeSet;
 use std::sync::atomic::Ordering::Relaxed;
 use std::sync::Arc;
-use tokio::runtime::Handle;
 use tokio::sync::mpsc::{unbounded_channel, UnboundedReceiver, UnboundedSender};
 use tokio::task::{JoinError, JoinSet};
 
@@ -105,7 +104,8 @@ struct Lane<T> {
 }
 
 impl GroupCommitter {
-    pub fn start(connections: &Arc<Connections>, runtime: &Handle) -> GroupCommitter {
+    pub fn start(connections: &Arc<Connections>) -> GroupCommitter {
+        let runtime = &connections.threads;
         let arrivals = Arc::<Arrivals>::default();
         let (short, short_asked) = unbounded_channel();
         let (long, long_asked): (Vec<_>, Vec<_>) = (0..LONG_LANES).map(|_| unbounded_channel()).unzip();
@@ -174,7 +174,7 @@ impl<T> Lane<T> {
 
     /// All that is asked for once there is a connection.
     async fn all(&mut self, first: T) -> Vec<T> {
-        self.connection.make_ready().await;
+        self.connection.ready().await;
         let mut all = vec![first];
         while let Ok(next) = self.asked.try_recv() {
             all.push(next);
@@ -206,17 +206,16 @@ impl<T> Lane<T> {
     }
 
     async fn commit(&mut self, writes: Vec<Write>) {
-        let session = self.connection.take().await;
-        let done = self.connection.watched(self.try_commit(&session, &writes)).await;
-        self.connection.put_back(session, &done);
+        let session = self.connection.ready().await;
+        let done = self.connection.heard(&session, self.try_commit(&session, &writes)).await;
         let done = done.unwrap_or_else(|doubt| {
             let slots: Vec<String> = writes.iter().map(|write| write.owner.slot.to_string()).collect();
-            self.connection.doubts(&format!("slots {}", slots.join(", ")), &doubt);
+            self.connection.all.tell(&format!("slots {}", slots.join(", ")), &doubt);
             BTreeSet::new()
         });
         for write in writes {
             match done.contains(&write.owner.slot) {
-                true => self.done(write),
+                true => self.done(write, &session),
                 false => self.lanes.pass_on(Write { is_repeat: true, ..write }),
             }
         }
@@ -224,7 +223,7 @@ impl<T> Lane<T> {
 
     /// The slots whose writes are there.
     async fn try_commit(&self, session: &Session, writes: &[Write]) -> Result<BTreeSet<i32>, Doubt> {
-        let is_new = |write: &&Write| write.owner.fence().connection != self.connection.number;
+        let is_new = |write: &&Write| write.owner.fence().connection != session.number;
         let (unknown, known): (Vec<&Write>, Vec<&Write>) = writes.iter().partition(is_new);
         // The others are told of it by the repeat, which looks too.
         let whole = session.whole(&unknown).await?;
@@ -238,18 +237,15 @@ impl<T> Lane<T> {
         if write.owner.is_lost() {
             return;
         }
-        let session = self.connection.take().await;
-        let done = self.connection.watched(self.try_again(&session, &write)).await;
-        self.connection.put_back(session, &done);
-        match done {
-            Ok(Again::Done) => self.done(write),
+        let session = self.connection.ready().await;
+        match self.connection.heard(&session, self.try_again(&session, &write)).await {
+            Ok(Again::Done) => self.done(write, &session),
             Ok(Again::Fenced) => self.lose(&write.owner),
             Ok(Again::Vanished) => {
-                self.connection.all.tell_vanished(write.owner.slot);
-                write.owner.lose();
+                self.vanished(&write.owner);
             }
             Err(doubt) => {
-                self.connection.doubts(&format!("slot {}", write.owner.slot), &doubt);
+                self.connection.all.tell(&format!("slot {}", write.owner.slot), &doubt);
                 let lanes = self.lanes.clone();
                 tokio::spawn(async move {
                     write.backoff.wait().await;
@@ -280,10 +276,21 @@ impl<T> Lane<T> {
         owner.lose();
     }
 
-    fn done(&self, write: Write) {
+    fn vanished(&self, owner: &OwnedSlot) {
+        let Connections { counts, server, .. } = &*self.connection.all;
+        counts.vanished.fetch_add(1, Relaxed);
+        let slot = owner.slot;
+        tracing::error!(
+            "slot {slot}: {server} has lost what it said is durable: it went over to a standby that had not got all, or was put \
+             back from a copy"
+        );
+        owner.lose();
+    }
+
+    fn done(&self, write: Write, session: &Session) {
         self.connection.all.counts.commits.fetch_add(1, Relaxed);
         let owner = write.owner.clone();
-        if owner.is_durable(write, self.connection.number) {
+        if owner.is_durable(write, session.number) {
             self.lanes.ask(owner);
         }
     }

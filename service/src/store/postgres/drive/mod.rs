@@ -7,7 +7,6 @@
 
 mod cache;
 mod committer;
-mod connection;
 mod extents;
 mod files;
 mod here;
@@ -20,13 +19,12 @@ mod rounds;
 mod tests;
 
 pub(super) use committer::{GroupCommitter, Write};
-pub(super) use connection::Connections;
 pub(super) use here::on_this_thread;
-pub(super) use open::{open, Found};
+pub(super) use open::open;
 pub(super) use owned_slot::OwnedSlot;
 pub(super) use packed::PackedPiece;
 
-use super::shared::{Shared, Stored};
+use super::connection::{Connection, Stored};
 use super::Threads;
 use crate::files::drive::{lost, open as open_files, Drive, Lost};
 use crate::files::{Dead, Fault, Journal, Outbox};
@@ -41,10 +39,8 @@ use std::time::Duration;
 
 pub struct PostgresDrive {
     owner: Arc<OwnedSlot>,
-    delivered: u64,
-    begun: bool,
     committer: Arc<GroupCommitter>,
-    reader: Arc<Shared>,
+    reader: Arc<Connection>,
     /// They go on while there is a drive, whoever has ended the store.
     threads: Arc<Threads>,
 }
@@ -52,13 +48,13 @@ pub struct PostgresDrive {
 impl PostgresDrive {
     /// Of a slot that was opened just now.
     pub(super) fn new(
-        Found { owner, delivered, begun }: Found,
+        owner: Arc<OwnedSlot>,
         committer: &Arc<GroupCommitter>,
-        reader: &Arc<Shared>,
+        reader: &Arc<Connection>,
         threads: &Arc<Threads>,
     ) -> PostgresDrive {
         let (committer, reader, threads) = (committer.clone(), reader.clone(), threads.clone());
-        PostgresDrive { owner, delivered, begun, committer, reader, threads }
+        PostgresDrive { owner, committer, reader, threads }
     }
 
     pub fn slot(&self) -> u16 {
@@ -91,14 +87,21 @@ impl PostgresDrive {
     /// Waits for the server where it is not there: for as long as the slot is this owner's. Those that are not found are
     /// asked of the server that takes the writes: the other may have been left behind.
     fn fetch(&self, file: u64, wanted: Vec<u64>) -> io::Result<HashMap<u64, Bytes>> {
-        let owner = &self.owner;
+        let (owner, reader) = (&self.owner, &self.reader);
+        let (whose, of) = (format!("slot {}", owner.slot), owner.owned());
         let reading = async {
-            let rows = self.reader.pieces(self.slot(), file, &wanted).await;
+            let ask = || reader.pieces(owner.slot, file, &wanted);
+            let rows = reader.all.until_known(&whose, ask).await;
             if rows.len() == wanted.len() {
                 return Ok(rows);
             }
-            let (owned, raised) = (owner.owned(), |link| owner.is_linked(link));
-            self.reader.confirmed_pieces(&owned, file, &wanted, raised).await.ok_or(Lost)
+            let ask = || {
+                reader.behind_a_write(&of, async |session, row| {
+                    owner.is_linked(row.link);
+                    session.pieces(owner.slot, file, &wanted).await
+                })
+            };
+            reader.all.until_known(&whose, ask).await.ok_or(Lost)
         };
         let rows = self.threads.wait(async {
             tokio::select! {
@@ -202,10 +205,10 @@ impl Drive for PostgresDrive {
     }
 
     fn delivered(&self) -> u64 {
-        self.delivered
+        self.owner.delivered
     }
 
     fn had_files(&self) -> bool {
-        self.begun
+        self.owner.begun
     }
 }

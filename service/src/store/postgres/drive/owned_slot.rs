@@ -5,7 +5,7 @@ use super::committer::Write;
 use super::files::{Batch, Files};
 use super::rounds::SyncRounds;
 use crate::latch::Latch;
-use crate::store::postgres::session::Owned;
+use crate::store::postgres::session::{Owned, SlotRow};
 use crate::work::locked;
 use std::sync::{Arc, Mutex, MutexGuard};
 use tokio::sync::watch;
@@ -15,6 +15,10 @@ pub struct OwnedSlot {
     pub term: i64,
     /// Drawn when it was taken.
     pub epoch: Arc<str>,
+    /// Up to which request the sink had all then, by what is noted beside.
+    pub delivered: u64,
+    /// It had had files.
+    pub begun: bool,
     pub files: Mutex<Files>,
     pub cache: Mutex<Cache>,
     pub rounds: SyncRounds,
@@ -34,15 +38,17 @@ pub struct Fence {
 }
 
 impl OwnedSlot {
-    pub fn new(slot: i32, term: i64, epoch: String, link: i64, files: Files) -> Arc<OwnedSlot> {
+    pub fn new(of: &Owned<'_>, row: &SlotRow, delivered: u64, files: Files) -> Arc<OwnedSlot> {
         Arc::new(OwnedSlot {
-            slot,
-            term,
-            epoch: epoch.into(),
+            slot: of.slot,
+            term: of.term,
+            epoch: of.epoch.into(),
+            delivered,
+            begun: row.begun,
             files: Mutex::new(files),
             cache: Mutex::default(),
             rounds: SyncRounds::default(),
-            fence: Mutex::new(Fence { link, ..Fence::default() }),
+            fence: Mutex::new(Fence { link: row.link, ..Fence::default() }),
             is_lost: watch::channel(false).0,
         })
     }

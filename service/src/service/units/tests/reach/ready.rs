@@ -17,6 +17,10 @@ async fn an_instance_is_ready_while_it_takes_posts_of_any_slot() {
     let (status, why) = ready().await;
     assert!(status == 503 && why.contains("stopping"), "{status} {why}");
     assert_eq!(both.a.ask("GET", "/startupz").await, (200, "started\n".into()), "an end is no start");
+    let taken_over = unit(&folder(), 1, async { Ok(()) });
+    both.a.desk.units.put(taken_over.of_desk.clone());
+    assert_eq!(both.a.ask("GET", "/startupz").await.0, 200, "nor is a takeover");
+    both.a.desk.units.remove(1);
     both.b.units.hand_over(1).await.unwrap();
     both.a.open(1).await;
     of_a.knows(&[(0, here.clone()), (1, here.clone()), (2, here)]);

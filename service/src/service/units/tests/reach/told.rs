@@ -33,7 +33,7 @@ async fn a_quarantined_sender_is_counted_once_whoever_has_which_slot() {
 async fn the_page_waits_for_no_instance_that_stands_still() {
     let both = Both::new().await;
     both.a.desk.units.get(0).unwrap().dead.keep("0-abc-7", "no", b"{}").unwrap();
-    let dead = "1 request that the sink refused for good: `totxegun dead list` has the reasons";
+    let dead = "1 request that the sink refused for good: `totxegun dead-letters list` has the reasons";
     assert!(both.a.ask("GET", "/").await.1.contains(dead));
     both.net.mood("b", Mood::StandsStill);
     let page = tokio::time::timeout(Duration::from_secs(20), both.a.ask("GET", "/")).await;

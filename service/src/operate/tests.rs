@@ -1,0 +1,82 @@
+//! Which paths there are, who may ask for each over TCP, and how they are decoded.
+
+use super::*;
+
+/// Orders, and what shows bodies, are taken at the socket, or with a token.
+#[test]
+fn each_path_has_one_method() {
+    let (read, order, local) = (OverTcp::All, OverTcp::Operators, OverTcp::Nobody);
+    for (path, method, over_tcp) in [
+        ("/flush", Method::POST, order),
+        ("/quarantine/A", Method::POST, order),
+        ("/release/A", Method::POST, order),
+        ("/report", Method::GET, local),
+        ("/metrics", Method::GET, read),
+        ("/totals", Method::GET, read),
+        ("/healthz", Method::GET, read),
+        ("/readyz", Method::GET, read),
+        ("/startupz", Method::GET, read),
+        ("/status", Method::GET, read),
+        ("/dead", Method::GET, order),
+        ("/late", Method::GET, order),
+        ("/late/2026-11", Method::GET, order),
+        ("/dead/0-a-1", Method::GET, order),
+        ("/dead/0-a-1/resend", Method::POST, order),
+        ("/dead/0-a-1/drop", Method::POST, order),
+        ("/close/2026-11", Method::POST, order),
+        ("/reopen/2026-11", Method::POST, order),
+        (ADJUSTMENTS, Method::POST, order),
+        ("/rewind/2026-11-05T13", Method::POST, order),
+        ("/forget", Method::POST, order),
+        ("/", Method::GET, read),
+        ("/series", Method::GET, read),
+        ("/page.css", Method::GET, read),
+        ("/page.js", Method::GET, read),
+    ] {
+        let found = Route::of(path).map(|(method, route)| (method, route.over_tcp()));
+        assert_eq!(found, Some((method, over_tcp)), "{path}");
+    }
+}
+
+#[test]
+fn a_path_may_be_percent_encoded() {
+    let part = |path| match Route::of(path).unwrap().1 {
+        Route::Close(part) | Route::Open(part) | Route::Amend(Some(part)) | Route::Letter(_, part) => part,
+        Route::Order(Command::Quarantine(part) | Command::Release(part)) => part,
+        _ => String::new(),
+    };
+    assert_eq!(part("/rewind/2026-11-05T13%3A30%3A15"), "2026-11-05T13:30:15");
+    assert_eq!(part("/close/2026-11-05%2013:00"), "2026-11-05 13:00");
+    for path in [
+        "/quarantine/shop%2D1",
+        "/release/shop%2d1",
+        "/dead/shop%2D1",
+        "/dead/shop%2D1/resend",
+        "/dead/shop%2D1/drop",
+    ] {
+        assert_eq!(part(path), "shop-1", "{path}");
+    }
+}
+
+#[test]
+fn nothing_else_is_a_path() {
+    for path in [
+        "",
+        "//",
+        "/v1/metrics",
+        "/flush/",
+        "/checkpoint",
+        "/health",
+        "/ready",
+        "/renew",
+        "/quarantine",
+        "/close",
+        "/close/2026-11/05",
+        "/rewind",
+        "/quarantine/A/B",
+        "/dead/0-a-1/send",
+        "flush",
+    ] {
+        assert!(Route::of(path).is_none(), "{path}");
+    }
+}

@@ -1,0 +1,108 @@
+//! Reads a database, also while services write it: by a connection of its own, so that a delivery that waits holds nothing up here.
+
+use super::fault::Fault;
+use super::{schema, session, Server, PATIENCE};
+use crate::postgres::Driver;
+use crate::sinks::periods::Period;
+use crate::sinks::sql::{self, Row};
+use anyhow::Context;
+use std::time::Duration;
+use tokio::runtime::{Builder, Runtime};
+use tokio_postgres::{Client, SimpleQueryMessage};
+
+pub(in crate::sinks) struct Reader {
+    server: Server,
+    /// How long the server may take for an answer.
+    patience: Duration,
+    /// None once it ends.
+    client: Option<Client>,
+    driver: Driver,
+    runtime: Runtime,
+}
+
+/// How long the end of a reader may take.
+const END: Duration = Duration::from_secs(1);
+
+/// None where no service has written yet.
+pub(in crate::sinks) fn open(server: &Server, patience: Duration) -> anyhow::Result<Option<Reader>> {
+    let runtime = Builder::new_current_thread().enable_all().build()?;
+    let connecting = async {
+        let (client, driver) = session::connect(server).await?;
+        if !schema::check(&client).await? {
+            return Ok(None);
+        }
+        let wait = patience.as_secs();
+        // A cursor is planned for all of its rows.
+        let settings = format!(
+            "set statement_timeout = '{wait}s'; set idle_in_transaction_session_timeout = '{wait}s';
+            set cursor_tuple_fraction = 1; begin isolation level repeatable read, read only"
+        );
+        client.batch_execute(&settings).await?;
+        Ok(Some((client, driver)))
+    };
+    let found =
+        runtime.block_on(session::within(PATIENCE, connecting)).map_err(|fault: Fault| fault.at(server))?;
+    let reader =
+        |(client, driver)| Reader { server: server.clone(), patience, client: Some(client), driver, runtime };
+    Ok(found.map(reader))
+}
+
+impl Reader {
+    fn ask(&self, query: &str) -> anyhow::Result<Vec<Row>> {
+        let client = self.client.as_ref().context("a reader that has ended is asked")?;
+        let asked = async { Ok::<_, Fault>(client.simple_query(query).await?) };
+        let answer = self.runtime.block_on(session::within(self.patience, asked));
+        let row = |message| match message {
+            SimpleQueryMessage::Row(row) => {
+                Some(Row((0..row.len()).map(|place| row.get(place).map(String::from)).collect()))
+            }
+            _ => None,
+        };
+        Ok(answer.map_err(|fault| fault.at(&self.server))?.into_iter().filter_map(row).collect())
+    }
+}
+
+impl Drop for Reader {
+    /// A transaction that its client leaves open is a line in the server's log, as of one that crashed.
+    fn drop(&mut self) {
+        let (client, driver) = (self.client.take(), &mut self.driver);
+        let ending = async {
+            if let Some(client) = client {
+                client.batch_execute("rollback").await?;
+            }
+            driver.ended().await;
+            Ok::<_, Fault>(())
+        };
+        let _ = self.runtime.block_on(session::within(END, ending));
+    }
+}
+
+impl sql::Reader for Reader {
+    fn each(&mut self, query: &str, each: &mut dyn FnMut(Row) -> anyhow::Result<()>) -> anyhow::Result<()> {
+        self.ask(&format!("declare lines no scroll cursor for {query}"))?;
+        loop {
+            let rows = self.ask("fetch 1000 from lines")?;
+            if rows.is_empty() {
+                return self.ask("close lines").map(drop);
+            }
+            rows.into_iter().try_for_each(&mut *each)?;
+        }
+    }
+
+    fn totals(&self) -> String {
+        "select identity, points, first_start_ns, last_end_ns, total, count, without_sum, buckets
+        from series_total join series on series.id = series_total.series where points > 0
+        order by name, cast(attributes as text), cast(resource as text), series.id"
+            .into()
+    }
+
+    fn bytes(&self, bytes: &[u8]) -> String {
+        let digits: String = bytes.iter().map(|byte| format!("{byte:02x}")).collect();
+        format!("decode('{digits}', 'hex')")
+    }
+
+    /// The views leave a period out once one of its hours may be gone.
+    fn has(&self, period: &Period, hours_from: i64) -> bool {
+        period.from >= hours_from
+    }
+}

@@ -1,0 +1,240 @@
+//! What a database has, for whoever reads it beside a service that writes: by the same queries, as of one moment.
+
+use super::exact::Exact;
+use super::export::{Each, Line, Times, What};
+use super::settle::{closed_of, CLOSED, NO_HORIZON};
+use super::totals::{Histogram, Hour, SeriesTotal};
+use crate::otlp::series::{Digest, SeriesKey};
+use crate::sinks::periods::{deleted, hour_shown, seconds_of, Closed, Period};
+use crate::sinks::{postgres, sqlite, Address};
+use anyhow::{anyhow, bail, Context, Result};
+use serde_json::value::{to_raw_value, RawValue};
+use std::collections::HashSet;
+use std::str::FromStr;
+use std::time::Duration;
+
+/// How long a page of the service waits for the database, at each step.
+const PATIENCE: Duration = Duration::from_secs(20);
+/// How long an export does.
+const LONG: Duration = Duration::from_secs(3600);
+
+/// A database that is read. Each of its queries is as of the moment at which it was opened.
+pub(in crate::sinks) trait Reader {
+    /// Hands each row of a query on.
+    fn each(&mut self, query: &str, each: &mut dyn FnMut(Row) -> Result<()>) -> Result<()>;
+
+    /// The query of all totals, by name and attributes.
+    fn totals(&self) -> String;
+
+    /// Bytes, as they are written in a query.
+    fn bytes(&self, bytes: &[u8]) -> String;
+
+    /// Whether the views have all of a period still, where hours before this one were deleted.
+    fn has(&self, period: &Period, hours_from: i64) -> bool;
+}
+
+/// A value of a statement.
+#[derive(Clone, Copy, Debug)]
+pub(in crate::sinks) enum Cell<'a> {
+    Number(i64),
+    Text(&'a str),
+    Bytes(&'a [u8]),
+}
+
+/// Values as text, by their places; none where they are null.
+#[derive(Debug)]
+pub(in crate::sinks) struct Row(pub(in crate::sinks) Vec<Option<String>>);
+
+impl Row {
+    pub(super) fn text(&self, place: usize) -> Result<&str> {
+        self.some(place).with_context(|| format!("column {place} of a row of the sink is null"))
+    }
+
+    pub(super) fn some(&self, place: usize) -> Option<&str> {
+        self.0.get(place)?.as_deref()
+    }
+
+    pub(super) fn number<T: FromStr>(&self, place: usize) -> Result<T> {
+        let text = self.text(place)?;
+        text.parse().map_err(|_| anyhow!("column {place} of a row of the sink is no whole number: {text}"))
+    }
+
+    /// A list of numbers as JSON, which PostgreSQL has in braces.
+    fn list(&self, place: usize) -> Option<String> {
+        self.some(place).map(|list| list.replace('{', "[").replace('}', "]"))
+    }
+
+    /// A time in seconds since 1970, or as `2026-11-27 13:00:00`.
+    pub(super) fn time(&self, place: usize) -> Result<i64> {
+        let text = self.text(place)?;
+        let seconds = || seconds_of(text.get(..19).unwrap_or(text)).map(u64::cast_signed);
+        text.parse().ok().or_else(seconds).with_context(|| format!("a row of the sink has no time: {text}"))
+    }
+}
+
+/// A database that is open.
+struct Opened {
+    /// The file, or the server.
+    place: String,
+    reader: Box<dyn Reader>,
+}
+
+impl Opened {
+    /// None where nothing was written yet.
+    fn of(sink: &Address, patience: Duration) -> Result<Option<Opened>> {
+        let (place, reader): (String, Option<Box<dyn Reader>>) = match sink {
+            Address::Sqlite(path) => {
+                let reader = sqlite::reading::open(path)?;
+                (path.display().to_string(), reader.map(|reader| Box::new(reader) as _))
+            }
+            Address::Postgres(server) => {
+                let reader = postgres::reading::open(server, patience)?;
+                (server.to_string(), reader.map(|reader| Box::new(reader) as _))
+            }
+            Address::Otlp { .. } => {
+                bail!("only a SQLite or PostgreSQL sink can be read: ask the sink itself")
+            }
+        };
+        Ok(reader.map(|reader| Opened { place, reader }))
+    }
+
+    /// Hands on what is made of each row of a query.
+    fn each<T>(
+        &mut self,
+        query: &str,
+        made: impl Fn(Row) -> Result<T>,
+        mut each: impl FnMut(T) -> Result<()>,
+    ) -> Result<()> {
+        let place = &self.place;
+        self.reader.each(query, &mut |row| each(of_place(place, made(row))?))
+    }
+
+    fn all<T>(&mut self, query: &str, made: impl Fn(Row) -> Result<T>) -> Result<Vec<T>> {
+        let mut all = Vec::new();
+        self.each(query, made, |one| {
+            all.push(one);
+            Ok(())
+        })?;
+        Ok(all)
+    }
+}
+
+/// What is odd in a database says in which.
+fn of_place<T>(place: &str, made: Result<T>) -> Result<T> {
+    made.map_err(|odd| anyhow!("{place}: {odd:#}"))
+}
+
+/// The totals of a database, by name and attributes.
+pub fn totals(sink: &Address) -> Result<Vec<SeriesTotal>> {
+    let Some(mut opened) = Opened::of(sink, PATIENCE)? else { return Ok(Vec::new()) };
+    let query = opened.reader.totals();
+    opened.all(&query, |row| total(&row))
+}
+
+fn total(row: &Row) -> Result<SeriesTotal> {
+    let mut series = series(row, 0)?;
+    (series.points, series.start_ns, series.end_ns) = (row.number(1)?, row.number(2)?, row.number(3)?);
+    series.total = Exact(row.number(4)?);
+    if let Some(histogram) = &mut series.histogram {
+        let buckets: Vec<i128> = serde_json::from_str(&row.list(7).unwrap_or_default())?;
+        *histogram = Histogram {
+            count: Exact(row.number(5)?),
+            points_without_sum: row.number(6)?,
+            buckets: buckets.into_iter().map(Exact).collect(),
+            bounds: std::mem::take(&mut histogram.bounds),
+        };
+    }
+    Ok(series)
+}
+
+/// As its identity says, without what came of it: that is exact where other columns are not.
+fn series(row: &Row, place: usize) -> Result<SeriesTotal> {
+    let of = SeriesTotal::of_none(&SeriesKey(row.text(place)?.into()));
+    of.context("a row of the table `series` is not as it was written")
+}
+
+/// The hours of a series from this one on (since 1970), in order; none where the database has not this series.
+pub fn hours(sink: &Address, series: &Digest, from: u64) -> Result<Option<Vec<Hour>>> {
+    let Some(mut opened) = Opened::of(sink, PATIENCE)? else { return Ok(None) };
+    let query = format!("select id from series where digest = {}", opened.reader.bytes(series));
+    let Some(id) = opened.all(&query, |row| row.number::<i64>(0))?.pop() else { return Ok(None) };
+    let from = hour_shown(from.cast_signed());
+    let query = format!(
+        "select hour, total, count from by_hour where series = {id} and hour >= '{from}' order by hour"
+    );
+    opened.all(&query, |row| hour(&row)).map(Some)
+}
+
+fn hour(row: &Row) -> Result<Hour> {
+    let seconds = seconds_of(row.text(0)?.get(..16).unwrap_or_default()).context("an hour is none")?;
+    let count = row.some(2).map(|_| row.number(2)).transpose()?;
+    Ok(Hour { hour: seconds / 3600, total: Exact(row.number(1)?), count: count.map(Exact) })
+}
+
+/// The keys of late data that is booked; none while there is no file.
+pub fn booked(sink: &Address) -> Result<HashSet<String>> {
+    if matches!(sink, Address::Sqlite(path) if !path.exists()) {
+        return Ok(HashSet::new());
+    }
+    let Some(mut opened) = Opened::of(sink, PATIENCE)? else { return Ok(HashSet::new()) };
+    let query = "select late_key from corrections where late_key <> ''";
+    Ok(opened.all(query, |row| row.text(0).map(String::from))?.into_iter().collect())
+}
+
+/// Each line, in one order, so that the same rows are the same bytes; and what is closed.
+pub fn read(sink: &Address, what: &What, each: Each<'_>) -> Result<Closed> {
+    let Some(mut opened) = Opened::of(sink, LONG)? else { return Ok(Closed::default()) };
+    if let What::Of(period) = what {
+        let found = opened.all("select hours_from from horizon", |row| row.number(0))?.pop();
+        let hours_from = of_place(&opened.place, found.context(NO_HORIZON))?;
+        if !opened.reader.has(period, hours_from) {
+            bail!("{}: {}", opened.place, deleted(period, hours_from));
+        }
+    }
+    let (times, view, order) = match what {
+        What::Totals => {
+            let order = "order by of.name, cast(of.attributes as text), cast(of.resource as text), of.series";
+            ("since, until", "totals", order.to_string())
+        }
+        What::Of(period) => {
+            let (view, time, at) = match period.is_month() {
+                true => ("by_month", "month", format!("{period}-01")),
+                false => ("by_day", "day", period.to_string()),
+            };
+            ("null, null", view, format!("where {time} = '{at}' order by of.name, of.series"))
+        }
+    };
+    let query = format!(
+        "select of.series, identity, points, total, corrections, billed, count, of.buckets, {times}
+        from {view} as of join series on series.id = of.series {order}"
+    );
+    opened.each(&query, |row| line(&row), each)?;
+    let rows = opened.all(CLOSED, Ok)?;
+    of_place(&opened.place, closed_of(&rows))
+}
+
+fn line(row: &Row) -> Result<Line> {
+    let of = series(row, 1)?;
+    let number = |place| row.number::<i128>(place).map(|number| number.to_string());
+    let time =
+        |place| row.some(place).and_then(|time| time.get(..19)).map(|time| time.replace(' ', "T") + "Z");
+    Ok(Line {
+        series: row.number(0)?,
+        name: of.name,
+        kind: of.kind,
+        unit: of.unit,
+        attributes: to_raw_value(&of.attributes)?,
+        resource: to_raw_value(&of.resource)?,
+        scope_name: of.scope_name,
+        scope_version: of.scope_version,
+        scope_attributes: to_raw_value(&of.scope_attributes)?,
+        points: row.number(2)?,
+        total: number(3)?,
+        corrections: number(4)?,
+        billed: number(5)?,
+        count: row.some(6).map(|_| number(6)).transpose()?,
+        bounds: of.histogram.map(|histogram| to_raw_value(&histogram.bounds)).transpose()?,
+        buckets: row.list(7).map(RawValue::from_string).transpose()?,
+        times: time(8).zip(time(9)).map(|(since, until)| Times { since, until }),
+    })
+}

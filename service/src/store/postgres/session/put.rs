@@ -1,0 +1,112 @@
+//! Writes of slots, in one transaction: by one statement, or by several where they are long.
+
+use super::{Session, SILENT};
+use crate::store::postgres::doubt::Doubt;
+use crate::store::postgres::drive::{PackedPiece, Write};
+use std::collections::BTreeSet;
+use tokio_postgres::types::ToSql;
+use tokio_postgres::Error;
+
+/// What a statement has at most, and a piece.
+const MOST: usize = 16 << 20;
+
+impl Session {
+    /// Does writes of slots, each once, in one transaction: which of the slots were their owners'. Each of its statements may take as
+    /// long as one alone.
+    pub async fn put(&self, writes: &[&Write]) -> Result<BTreeSet<i32>, Doubt> {
+        let parts = parts_of(writes);
+        match &parts[..] {
+            [only] => {
+                // Sent one behind the other, so the second answer comes right after the commit.
+                let both = async {
+                    let (done, settings) = tokio::join!(self.put_part(writes, only, true), self.settings());
+                    Ok((done?, settings?))
+                };
+                self.sure(SILENT, both).await
+            }
+            _ => {
+                let limit = SILENT * parts.len() as u32;
+                let both = async { Ok((self.put_parts(writes, &parts).await?, self.settings().await?)) };
+                self.sure(limit, both).await
+            }
+        }
+    }
+
+    /// All of it, or nothing.
+    async fn put_parts(&self, writes: &[&Write], parts: &[Vec<OfSlot<'_>>]) -> Result<BTreeSet<i32>, Error> {
+        self.client.batch_execute("begin").await?;
+        let (mut done, mut is_whole) = (Ok(BTreeSet::new()), true);
+        for (number, part) in parts.iter().enumerate() {
+            done = self.put_part(writes, part, number == 0).await;
+            is_whole = done.as_ref().is_ok_and(|done| done.len() == writes.len());
+            if !is_whole {
+                break;
+            }
+        }
+        self.client.batch_execute(if is_whole { "commit" } else { "rollback" }).await?;
+        done.map(|done| if is_whole { done } else { BTreeSet::new() })
+    }
+
+    async fn put_part(
+        &self,
+        writes: &[&Write],
+        pieces: &[OfSlot<'_>],
+        is_first: bool,
+    ) -> Result<BTreeSet<i32>, Error> {
+        let slots: Vec<i32> = writes.iter().map(|write| write.owner.slot).collect();
+        let terms: Vec<i64> = writes.iter().map(|write| write.owner.term).collect();
+        let links: Vec<i64> = writes.iter().map(|write| write.owner.fence().link).collect();
+        let epochs: Vec<&str> = writes.iter().map(|write| &*write.owner.epoch).collect();
+        let column =
+            |of: fn(&PackedPiece) -> i64| -> Vec<i64> { pieces.iter().map(|(_, piece)| of(piece)).collect() };
+        let of_slots: Vec<i32> = pieces.iter().map(|(slot, _)| *slot).collect();
+        let (files, numbers, places) =
+            (column(|piece| piece.file), column(|piece| piece.number), column(|piece| piece.place));
+        let lengths: Vec<i32> = pieces.iter().map(|(_, piece)| piece.length).collect();
+        let bytes: Vec<&[u8]> = pieces.iter().map(|(_, piece)| &piece.bytes[..]).collect();
+        let mut values: Vec<&(dyn ToSql + Sync)> =
+            vec![&slots, &terms, &links, &epochs, &of_slots, &files, &numbers, &places, &lengths, &bytes];
+        let is_append = writes.iter().all(|write| !write.is_repeat && write.packed.only_appends());
+        let named = || writes.iter().filter(|_| is_first);
+        let gone = named().flat_map(|write| write.packed.gone.iter().map(|file| (write.owner.slot, *file)));
+        let (gone_slots, gone): (Vec<i32>, Vec<i64>) = gone.unzip();
+        let names =
+            || named().flat_map(|write| write.packed.named.iter().map(|named| (write.owner.slot, named)));
+        let (named_slots, named): (Vec<i32>, Vec<i64>) =
+            names().map(|(slot, (file, _))| (slot, *file)).unzip();
+        let names: Vec<&str> = names().map(|(_, (_, name))| name.as_str()).collect();
+        let others: [&(dyn ToSql + Sync); 5] = [&gone_slots, &gone, &named_slots, &named, &names];
+        let statement = match is_append {
+            true => &self.append,
+            false => {
+                values.extend(others);
+                &self.put
+            }
+        };
+        let done = self.client.query(statement, &values).await?;
+        Ok(done.iter().map(|row| row.get(0)).collect())
+    }
+}
+
+/// A piece with its slot.
+type OfSlot<'w> = (i32, &'w PackedPiece);
+
+/// The pieces of writes by statements: one at least.
+fn parts_of<'w>(writes: &[&'w Write]) -> Vec<Vec<OfSlot<'w>>> {
+    let (mut parts, mut size) = (vec![Vec::new()], 0);
+    let of_write = |write: &&'w Write| {
+        let (slot, pieces) = (write.owner.slot, &write.packed.pieces);
+        pieces.iter().map(move |piece| (slot, piece))
+    };
+    for (slot, piece) in writes.iter().flat_map(of_write) {
+        size += piece.bytes.len();
+        if size > MOST {
+            parts.push(Vec::new());
+            size = piece.bytes.len();
+        }
+        if let Some(part) = parts.last_mut() {
+            part.push((slot, piece));
+        }
+    }
+    parts
+}
