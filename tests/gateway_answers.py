@@ -16,7 +16,6 @@ import json
 import socket
 import subprocess
 import sys
-import threading
 from collections.abc import Sequence
 
 from testing.checks import Checks
@@ -120,31 +119,6 @@ def refusal(status: bytes, message: str, allow: bytes = b"") -> bytes:
     return response(status, JSON, f'{{"message":"{message}"}}'.encode(), allow and b"Allow: " + allow + b"\r\n")
 
 
-def in_pieces(gateway: Gateway, *pieces: bytes) -> bytes | str:
-    """Sends these, each in a packet of its own, and gives what is answered before the sender ends its side."""
-    connection = gateway.connect()
-    if connection is None:
-        return "no connection"
-    with connection:
-        connection.setsockopt(socket.IPPROTO_TCP, socket.TCP_NODELAY, 1)
-        sender = threading.Thread(target=send_each, args=(connection, pieces))
-        sender.start()
-        try:
-            return read_all(connection)
-        except OSError as error:
-            return f"{type(error).__name__} {error}"
-        finally:
-            sender.join(SECONDS)
-
-
-def send_each(connection: socket.socket, pieces: Sequence[bytes]) -> None:
-    try:
-        for piece in pieces:
-            connection.sendall(piece)
-    except OSError:
-        pass  # The gateway has answered, and is done with it.
-
-
 def byte_by_byte(request: bytes) -> list[bytes]:
     return [request[at:at + 1] for at in range(len(request))]
 
@@ -166,8 +140,8 @@ def empty_book(checks: Checks, program: str) -> None:
     gateway = Gateway(program, NOBODY, 2 * len(asked) + len(EMPTY) + 2)
     for what, request, wanted in asked:
         checks.same(what, wanted, gateway.ask(request))
-        checks.same(f"{what}, a byte at a time", wanted, in_pieces(gateway, *byte_by_byte(request)))
-    others = [cut for cut in range(1, len(EMPTY)) if in_pieces(gateway, EMPTY[:cut], EMPTY[cut:]) != DONE]
+        checks.same(f"{what}, a byte at a time", wanted, gateway.ask(*byte_by_byte(request)))
+    others = [cut for cut in range(1, len(EMPTY)) if gateway.ask(EMPTY[:cut], EMPTY[cut:]) != DONE]
     checks.same("chunks in two pieces, cut at every place", [], others)
     nothing = gateway.connect()
     if nothing:

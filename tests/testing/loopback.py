@@ -82,13 +82,15 @@ class Gateway:
                 time.sleep(0.002)
         return None
 
-    def ask(self, request: bytes) -> bytes | str:
-        """Sends the request, and gives what is read meanwhile up to the end, or what went wrong."""
+    def ask(self, *pieces: bytes) -> bytes | str:
+        """Sends a request, each piece of it in a packet of its own, and returns what is read meanwhile up to the end, or what went
+        wrong."""
         connection = self.connect()
         if connection is None:
             return "no connection"
         with connection:
-            sender = threading.Thread(target=send, args=(connection, request))
+            connection.setsockopt(socket.IPPROTO_TCP, socket.TCP_NODELAY, 1)
+            sender = threading.Thread(target=send, args=(connection, pieces))
             sender.start()
             try:
                 return read_all(connection)
@@ -108,9 +110,10 @@ class Gateway:
             return "no end", out, err
 
 
-def send(connection: socket.socket, request: bytes) -> None:
+def send(connection: socket.socket, pieces: Sequence[bytes]) -> None:
     try:
-        connection.sendall(request)
+        for piece in pieces:
+            connection.sendall(piece)
     except OSError:
         pass  # The gateway may be done with it; the answer is what counts.
 
