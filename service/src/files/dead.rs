@@ -1,7 +1,9 @@
-//! `dead/`: requests that the sink refused for good, kept as bytes until an operator says what becomes of them.
+//! `dead/`, the dead letters: requests that the sink refused for good, kept until an operator decides what to do with
+//! them.
 //!
-//! One file a letter, `KEY.json`: its head as JSON on the first line, then the body as it was sent. Another request that
-//! comes under the key of one is kept beside it, as `KEY_2.json`.
+//! Each dead letter is a file `KEY.json`: a first line of JSON, then the body as it was sent. If another request comes
+//! under the same key, it gets a file of its own, `KEY_2.json`. `sinks/delivery` adds letters, and `operate/letters`
+//! lists, resends and drops them. No letter ever replaces another one.
 
 mod gone;
 
@@ -17,13 +19,13 @@ use std::sync::atomic::{AtomicU64, Ordering::Relaxed};
 use std::sync::{Arc, Mutex, MutexGuard};
 use std::time::{SystemTime, UNIX_EPOCH};
 
-/// A request that was refused for good.
+/// A dead letter.
 #[derive(Clone, Debug, PartialEq, Eq, serde::Serialize, serde::Deserialize)]
 pub struct Letter {
     pub key: String,
-    /// In seconds since 1970.
+    /// When it was kept, in seconds since 1970.
     pub since: u64,
-    /// The sink's status or fault.
+    /// The sink's status or error.
     pub reason: String,
     pub bytes: u64,
 }
@@ -32,30 +34,30 @@ pub struct Dead {
     disk: Disk,
     folder: PathBuf,
     free_space: Arc<FreeSpace>,
-    /// Locked by each call that changes the folder.
+    /// Held by each call that changes the folder.
     known: Mutex<Known>,
     count: AtomicU64,
 }
 
-/// The letters that are there.
+/// The dead letters in the folder.
 #[derive(Default)]
 struct Known {
     names: BTreeSet<String>,
-    /// When the folder was written last; none of a drive, where nobody changes anything by hand.
+    /// When the folder was last written; none in a shard store, where nobody changes files by hand.
     written: Option<SystemTime>,
 }
 
-/// The most bytes of a reason that are kept.
+/// The most characters of a reason that are kept.
 const REASON: usize = 4096;
 const LONGEST_HEAD: u64 = 64 << 10;
 
-/// A key that can be a file's name, and no way out of the folder.
+/// Whether a key is safe as a file name, and can't lead out of the folder.
 fn is_key(key: &str) -> bool {
     let sound = |byte: u8| byte.is_ascii_alphanumeric() || byte == b'-' || byte == b'_';
     (1..=128).contains(&key.len()) && key.bytes().all(sound)
 }
 
-/// The key under which a letter was sent: its own, without the number that it has beside another one.
+/// The key under which the request was sent: the name without the number of a second letter.
 pub fn sent_as(name: &str) -> &str {
     match name.rsplit_once('_') {
         Some((key, number)) if number.parse().is_ok_and(|number: u64| number > 1) => key,
@@ -77,8 +79,8 @@ impl Dead {
         self.folder.join(format!("{key}.json"))
     }
 
-    /// Locks what is known, once it is what is there. The folder is listed only after somebody else has changed it: an operator
-    /// moves letters out of it, and back, by hand.
+    /// Locks the list after making sure that it is up to date. The folder is listed again only after someone else
+    /// changed it: operators move letters out of it, and back, by hand.
     fn known(&self) -> Result<MutexGuard<'_, Known>, Fault> {
         let mut known = locked(&self.known);
         if known.written != self.disk.written(&self.folder) {
@@ -96,13 +98,14 @@ impl Dead {
         Ok(())
     }
 
-    /// This call has changed the folder, and nobody else.
+    /// Only this call has changed the folder.
     fn note(&self, known: &mut Known) {
         known.written = self.disk.written(&self.folder);
         self.count.store(known.names.len() as u64, Relaxed);
     }
 
-    /// Keeps a request: durable when this returns, and once however often it is called for one key and body.
+    /// Keeps a request. It is durable when this returns, and is kept once, however often this is called with the same
+    /// key and body.
     pub fn keep(&self, key: &str, reason: &str, body: &[u8]) -> Result<(), Fault> {
         if !is_key(key) {
             let what = format!("{key:?} is no key of a request");
@@ -111,7 +114,7 @@ impl Dead {
         }
         let mut known = self.known()?;
         if known.of(key).any(|name| self.has(name, body)) {
-            // An earlier run may have ended before its name was durable.
+            // An earlier run may have ended before the name was durable.
             return self.disk.sync_folder(&self.folder);
         }
         let (mut name, mut number) = (key.to_string(), 1);
@@ -125,7 +128,7 @@ impl Dead {
         Ok(())
     }
 
-    /// The same where the disk has room for it. Whether it has.
+    /// Keeps the request if the disk has room for it; returns whether it has.
     pub fn keep_in_room(&self, key: &str, reason: &str, body: &[u8]) -> Result<bool, Fault> {
         let Some(_reserved) = self.free_space.reserve_for_letter(body.len()) else {
             return Ok(false);
@@ -148,12 +151,12 @@ impl Dead {
         self.disk.put_file(&path, &bytes)
     }
 
-    /// One that can't be read has no body: it is left as it is, and the next one is kept beside it.
+    /// A letter that can't be read counts as another one: it stays as it is, and the new one gets its own file.
     fn has(&self, name: &str, body: &[u8]) -> bool {
         self.body(name).is_ok_and(|found| found.as_deref() == Some(body))
     }
 
-    /// The sink has this body, which may have been kept under this key. That of another request stays.
+    /// Removes the letter with this key and body, since the sink has the request now. Letters with other bodies stay.
     pub fn let_go(&self, key: &str, body: &[u8]) -> Result<(), Fault> {
         if self.count() == 0 {
             return Ok(());
@@ -163,7 +166,7 @@ impl Dead {
         taken.iter().try_for_each(|name| self.remove(&mut known, name, Became::Taken))
     }
 
-    /// By age, the oldest first. The reason of one that can't be read says that.
+    /// All letters, oldest first. A letter that can't be read has the error as its reason.
     pub fn list(&self) -> Result<Vec<Letter>, Fault> {
         let mut letters = Vec::new();
         for key in self.names()? {
@@ -176,14 +179,14 @@ impl Dead {
         Ok(letters)
     }
 
-    /// Looked at anew: who asks may have moved some by hand just now.
+    /// Lists the folder again: the caller may have just moved letters by hand.
     fn names(&self) -> Result<BTreeSet<String>, Fault> {
         let mut known = locked(&self.known);
         self.look(&mut known)?;
         Ok(known.names.clone())
     }
 
-    /// What is told of a letter by its file alone.
+    /// What is known of a letter without reading its content.
     fn unreadable(&self, key: String, fault: &Fault) -> Letter {
         let path = self.path(&key);
         let written = self.disk.written(&path);
@@ -209,7 +212,7 @@ impl Dead {
         Ok(Some(body))
     }
 
-    /// A letter's head, and the file behind it.
+    /// The head of a letter, and the file positioned after it.
     fn read(&self, key: &str) -> Result<Option<(Letter, BufReader<Cursor>)>, Fault> {
         if !is_key(key) {
             return Ok(None);
@@ -228,7 +231,7 @@ impl Dead {
         Ok(Some((letter, file)))
     }
 
-    /// Removes it, of which this has become. Whether there was one.
+    /// Removes a letter and records what became of it; false if there is none.
     pub fn end(&self, key: &str, became: Became) -> Result<bool, Fault> {
         let mut known = self.known()?;
         if !is_key(key) || !self.disk.has(&self.path(key))? {
@@ -247,7 +250,7 @@ impl Dead {
         Ok(())
     }
 
-    /// Gives each letter as its file has it, also one that can't be read.
+    /// Passes each letter to `each` as its file has it, even if it can't be parsed.
     pub fn each(&self, mut each: impl FnMut(&str, Vec<u8>) -> Result<(), Fault>) -> Result<(), Fault> {
         for key in self.names()? {
             let path = self.path(&key);
@@ -257,7 +260,7 @@ impl Dead {
         Ok(())
     }
 
-    /// Puts a letter as another's file has it. Durable when this returns.
+    /// Copies a letter from another folder. Durable when this returns.
     pub fn put(&self, key: &str, bytes: &[u8]) -> Result<(), Fault> {
         let mut known = self.known()?;
         self.disk.put_file(&self.path(key), bytes)?;
@@ -272,7 +275,7 @@ impl Dead {
 }
 
 impl Known {
-    /// The names of the letters that came under a key.
+    /// The names of the letters with this key.
     fn of<'a>(&'a self, key: &'a str) -> impl Iterator<Item = &'a String> {
         let beside = format!("{key}_");
         let others = self.names.range(beside.clone()..).take_while(move |name| name.starts_with(&beside));

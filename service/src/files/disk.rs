@@ -1,8 +1,8 @@
-//! The one door to files: those of a folder, or those of a slot whose files are kept by a drive. A test may let each call
-//! that changes the disk fail.
+//! All access to files: those of a folder, or those of a shard in a shard store.
 //!
-//! A drive keeps the order of all that is done, and what it has is never torn. So where a folder is synced before the next
-//! step (`order`), nothing is waited for there; and what has to be durable now (`sync`) is so by one call for all files.
+//! The journal, the outbox and the dead letters use files only through it, and a test can let each changing call fail.
+//! A shard store keeps changes in order and never tears a file. So `order`, the barrier between two steps, syncs only
+//! in a folder; and one `sync` of a shard store makes all of its files durable.
 
 mod file;
 mod owned;
@@ -37,19 +37,19 @@ pub enum Call {
 type Hook = dyn Fn(Call, &Path) -> io::Result<()> + Send + Sync;
 type End = dyn Fn(&Fault) + Send + Sync;
 
-/// The disk as it is, or as a test wants it to fail.
+/// The disk, with a test's hooks if there are any.
 #[derive(Clone, Default)]
 pub struct Disk {
-    /// Where files are kept; none where they are in folders.
+    /// The shard store; none if the files are in a folder.
     drive: Option<Arc<Owned>>,
-    /// What locks a folder is held as long as anything can be written there.
+    /// Keeps the folder locked as long as anything may still write to it.
     _locks: Option<Arc<super::folder::Locks>>,
     hook: Option<Arc<Hook>>,
     end: Option<Arc<End>>,
     under_way: Arc<UnderWay>,
 }
 
-/// The exit status of a process that ends by its disk.
+/// Exit status after a disk fault.
 pub const FAILED: i32 = 70;
 
 pub fn io_fault(path: &Path) -> impl FnOnce(io::Error) -> Fault + '_ {
@@ -60,23 +60,23 @@ pub fn io_fault(path: &Path) -> impl FnOnce(io::Error) -> Fault + '_ {
 }
 
 impl Disk {
-    /// The files of a slot whose drive was taken just now.
+    /// The files of a shard that was just taken.
     pub fn of_drive(drive: Arc<dyn Drive>) -> Disk {
         Disk { drive: Some(Arc::new(Owned::new(drive))), ..Disk::default() }
     }
 
-    /// A folder that is locked so.
+    /// The same disk, holding the locks of its folder.
     pub fn locked(&self, locks: &Arc<super::folder::Locks>) -> Disk {
         Disk { _locks: Some(locks.clone()), ..self.clone() }
     }
 
-    /// Asks `hook` before each call.
+    /// Calls `hook` before each changing call.
     #[cfg(test)]
     pub fn failing(hook: impl Fn(Call, &Path) -> io::Result<()> + Send + Sync + 'static) -> Disk {
         Disk { hook: Some(Arc::new(hook)), ..Disk::default() }
     }
 
-    /// Each sync waits until `open` is true.
+    /// Blocks each sync until `open` is true.
     #[cfg(test)]
     pub fn held(open: Arc<std::sync::atomic::AtomicBool>) -> Disk {
         Disk::failing(move |call, _| {
@@ -87,40 +87,40 @@ impl Disk {
         })
     }
 
-    /// Tells `end` of the fault that would have ended the process; who met it never goes on.
+    /// Passes the fault that would have ended the process to `end`; the thread that met the fault stays blocked.
     #[cfg(test)]
     pub fn ending(mut self, end: impl Fn(&Fault) + Send + Sync + 'static) -> Disk {
         self.end = Some(Arc::new(end));
         self
     }
 
-    /// The same disk for who has its calls looked at beside those of others.
+    /// The same disk, with calls that `under_way` measures apart from the others'.
     pub fn of_its_own(&self) -> Disk {
         Disk { under_way: Arc::default(), ..self.clone() }
     }
 
-    /// How long the call that began first has been under way; zero where none is.
+    /// How long the oldest running call has taken; zero if none is running.
     pub fn under_way(&self) -> Duration {
         let of_drive = self.drive.as_ref().map_or(Duration::ZERO, |owned| owned.under_way());
         self.under_way.longest().max(of_drive)
     }
 
-    /// Whether what is done is done in order, without a sync between, and is never torn.
+    /// Whether changes take effect in order without a sync between them, and are never torn: true of a shard store.
     pub fn keeps_order(&self) -> bool {
         self.drive.is_some()
     }
 
-    /// Whether something was changed that is not durable, and that no caller may wait for.
+    /// Whether there are changes that are not durable, even if no caller waits for them.
     pub fn is_behind(&self) -> bool {
         self.drive.as_ref().is_some_and(|owned| owned.is_behind())
     }
 
-    /// How long ago the slot was certainly this instance's. A folder is until the process ends.
+    /// How long ago a sync last proved that we own the shard. Zero for a folder, which is ours until the process ends.
     pub fn ours_before(&self) -> Duration {
         self.drive.as_ref().map_or(Duration::ZERO, |owned| owned.ours_before())
     }
 
-    /// Under which the slot is this instance's.
+    /// The term under which we own the shard.
     pub fn term(&self) -> Option<u64> {
         self.drive.as_ref()?.term()
     }
@@ -129,7 +129,7 @@ impl Disk {
         self.drive.as_ref().is_some_and(|owned| owned.is_lost())
     }
 
-    /// Returns once the slot is lost. A folder never is.
+    /// Returns after the shard was fenced; never for a folder.
     pub async fn lost(&self) -> Lost {
         match &self.drive {
             None => std::future::pending().await,
@@ -137,7 +137,7 @@ impl Disk {
         }
     }
 
-    /// Ends the process, but of a drive the slot alone.
+    /// Reacts to a fault: ends only the shard if a shard store keeps the files, and otherwise the process.
     pub fn fail(&self, fault: Fault) -> Lost {
         match fault {
             Fault::Lost(lost) => lost,
@@ -146,7 +146,8 @@ impl Disk {
         }
     }
 
-    /// Nothing of a drive is changed any more: its slot ends, for this reason. False of a folder, which is the process's.
+    /// Ends the shard for this reason: no call changes its files any more. Returns false for a folder, and does
+    /// nothing.
     pub fn close(&self, why: &str) -> bool {
         if let Some(owned) = &self.drive {
             owned.close(why);
@@ -154,12 +155,12 @@ impl Disk {
         self.drive.is_some()
     }
 
-    /// Why it was closed.
+    /// Why the shard was closed.
     pub fn failure(&self) -> Option<&str> {
         self.drive.as_ref()?.failure()
     }
 
-    /// Ends the process: what is on disk is not known then, and only a start reads just that.
+    /// Ends the process: nobody knows what is on disk after a fault, and a start reads it afresh.
     pub fn end(&self, fault: &Fault) -> ! {
         match &self.end {
             None => {
@@ -176,7 +177,7 @@ impl Disk {
     }
 }
 
-/// What is changed.
+/// Calls that change the disk.
 impl Disk {
     fn call<T>(&self, call: Call, path: &Path, does: impl FnOnce() -> io::Result<T>) -> Result<T, Fault> {
         let _noted = self.under_way.note();
@@ -184,7 +185,7 @@ impl Disk {
         asked.and_then(|()| does()).map_err(io_fault(path))
     }
 
-    /// A drive needs none.
+    /// Does nothing in a shard store, which has no folders.
     pub fn make_folder(&self, path: &Path) -> Result<(), Fault> {
         if self.drive.is_some() {
             return Ok(());
@@ -193,7 +194,7 @@ impl Disk {
             let is_new = !path.exists();
             DirBuilder::new().recursive(true).mode(0o700).create(path)?;
             if is_new {
-                // Who has the folder above may have put a link in its place.
+                // The owner of the parent folder may have put a link here.
                 let itself = (OFlag::O_NOFOLLOW | OFlag::O_DIRECTORY).bits();
                 let made = OpenOptions::new().read(true).custom_flags(itself).open(path)?;
                 give_to_owner(&made, path);
@@ -202,13 +203,13 @@ impl Disk {
         })
     }
 
-    /// The same, with a name that is durable, as those of the folders above.
+    /// Makes the folder and syncs its parents, so that its name is durable.
     pub fn make_lasting_folder(&self, path: &Path) -> Result<(), Fault> {
         let made = path.ancestors().take_while(|folder| !folder.exists()).count();
         self.make_folder(path)?;
         for (number, folder) in path.ancestors().skip(1).enumerate() {
             let synced = self.sync_folder(folder);
-            // An earlier start may have ended after making it. Of a folder that others made it may not be allowed.
+            // An earlier start may have ended before it synced them. Folders that others made may be unreadable to us.
             if number < made {
                 synced?;
             }
@@ -216,7 +217,7 @@ impl Disk {
         Ok(())
     }
 
-    /// Makes a file that is not there yet.
+    /// Makes a file; fails if there is one.
     pub fn create(&self, path: &Path) -> Result<File, Fault> {
         let mut how = OpenOptions::new();
         how.read(true).write(true).create_new(true).mode(0o600);
@@ -233,7 +234,7 @@ impl Disk {
         })
     }
 
-    /// The same in the place of what an earlier start may have left.
+    /// Makes a file, and replaces one that an earlier start may have left.
     pub fn create_anew(&self, path: &Path) -> Result<File, Fault> {
         if self.has(path)? {
             self.remove(path)?;
@@ -241,7 +242,7 @@ impl Disk {
         self.create(path)
     }
 
-    /// Writes bytes, as a rule by one call.
+    /// Writes the bytes, normally by one call.
     pub fn write_at(&self, file: &File, path: &Path, bytes: &[u8], at: u64) -> Result<(), Fault> {
         self.call(Call::Write, path, || match file {
             File::OfFolder(file) => file.write_all_at(bytes, at),
@@ -249,7 +250,7 @@ impl Disk {
         })
     }
 
-    /// Takes blocks for what will be written there, and leaves the file's length. Where there are none, the writes say so.
+    /// Allocates blocks ahead of writes and leaves the file's length. A failure is ignored: the writes will report it.
     pub fn take_blocks(&self, file: &File, at: u64, length: u64) {
         if let File::OfFolder(file) = file {
             let _noted = self.under_way.note();
@@ -258,7 +259,7 @@ impl Disk {
         }
     }
 
-    /// Makes a file durable; of a drive all that was done.
+    /// Makes the file durable; in a shard store, all changes.
     pub fn sync(&self, file: &File, path: &Path) -> Result<(), Fault> {
         self.call(Call::Sync, path, || match file {
             File::OfFolder(file) => file.sync_data(),
@@ -266,22 +267,22 @@ impl Disk {
         })
     }
 
-    /// Of a drive, how many changes were made so far.
+    /// The number of changes so far; none for a folder.
     pub fn changes(&self) -> Option<u64> {
         self.drive.as_ref().map(|owned| owned.changes())
     }
 
-    /// The same with one more, which is durable only with a sync that begins from here on.
+    /// Counts one more change: only a sync that begins later makes it durable. None for a folder.
     pub fn touch(&self) -> Option<u64> {
         self.drive.as_ref().map(|owned| owned.touch())
     }
 
-    /// Of a drive, how many changes are durable.
+    /// The number of changes that are durable; none for a folder.
     pub fn durable(&self) -> Option<u64> {
         self.drive.as_ref().map(|owned| owned.durable())
     }
 
-    /// Makes a folder's names durable; of a drive all that was done.
+    /// Makes the names in a folder durable; in a shard store, all changes.
     pub fn sync_folder(&self, path: &Path) -> Result<(), Fault> {
         self.call(Call::SyncFolder, path, || match &self.drive {
             None => std::fs::File::open(path)?.sync_all(),
@@ -289,7 +290,7 @@ impl Disk {
         })
     }
 
-    /// Makes a file durable before anything that comes next.
+    /// A barrier: nothing that is written later becomes durable before this file.
     pub fn order(&self, file: &File, path: &Path) -> Result<(), Fault> {
         match self.keeps_order() {
             true => Ok(()),
@@ -297,7 +298,7 @@ impl Disk {
         }
     }
 
-    /// The same of a folder's names.
+    /// A barrier for the names in a folder.
     pub fn order_folder(&self, path: &Path) -> Result<(), Fault> {
         match self.keeps_order() {
             true => Ok(()),
@@ -319,14 +320,15 @@ impl Disk {
         })
     }
 
-    /// Removes what nobody needs, where that can be done.
+    /// Removes a file that nothing needs, if it can. A shard store keeps it.
     pub fn discard(&self, path: &Path) {
         if self.drive.is_none() {
             let _ = std::fs::remove_file(path);
         }
     }
 
-    /// Puts a whole file in the place of what may be there: durable when this returns, and never seen in part.
+    /// Writes a whole file in place of one that may be there. The file is durable when this returns, and never half
+    /// written.
     pub fn put_file(&self, path: &Path, bytes: &[u8]) -> Result<(), Fault> {
         let draft = path.with_extension("draft");
         let file = self.create_anew(&draft)?;
@@ -337,12 +339,12 @@ impl Disk {
     }
 }
 
-/// Root makes a file or a folder for whose the folder above is: a command of root may change that of the service's user, who
-/// has to read it. Of anybody else it is its own, or stays so.
+/// Gives a new file or folder to the owner of its parent folder. So what a command of root makes stays readable for the
+/// service's user. Any other user lacks the right, and the file stays its own.
 pub(super) fn give_to_owner(file: &std::fs::File, path: &Path) {
     let folder = path.parent().and_then(|folder| std::fs::metadata(folder).ok());
     let is_other = |folder: &std::fs::Metadata| file.metadata().is_ok_and(|own| own.uid() != folder.uid());
     if let Some(folder) = folder.filter(is_other) {
-        let _ = fchown(file, Some(folder.uid()), Some(folder.gid())); // where it may not, a start says who can't read it
+        let _ = fchown(file, Some(folder.uid()), Some(folder.gid())); // if not permitted, a start names what the service can't read
     }
 }

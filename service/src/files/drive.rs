@@ -1,4 +1,8 @@
-//! Where the files of a slot are kept in the place of a folder.
+//! The interface of a shard store: the files of one shard, kept elsewhere than in a folder.
+//!
+//! `files/disk` calls it, and `store/moving` to wipe a shard; `store/postgres/drive` implements it, and `memory` does
+//! so for tests. Changes become durable in the order in which they were made, and only under the term of the shard's
+//! owner.
 
 #[cfg(test)]
 pub(crate) mod memory;
@@ -12,70 +16,71 @@ use std::time::Duration;
 
 pub use slot::open;
 
-/// The files of one slot, which one owner has, under a term. What is done is done in order; `sync` makes all of it durable
-/// that was done before the call, at once, and nothing that comes later is durable before it. So nothing is ever torn, and
-/// what was synced is all there. Names are paths below the slot, as `journal/000000000001.seg`; folders need not be made.
+/// The files of one shard, which one owner has under a term. Changes take effect in order. `sync` makes every earlier
+/// change durable at once, and no later change before them: no file is ever torn, and every synced byte is there. File
+/// names are paths relative to the shard, for example `journal/000000000001.seg`; folders need not be made.
 ///
-/// What was read is what was durable when the slot was taken, and what was done since. An error whose inner error is `Lost`
-/// (`lost`) is for ever. Each call may be made by any thread, several at once.
+/// The owner sees what was durable when it took the shard, and its own changes. An error whose inner error is `Lost`
+/// (see `lost`) is final. All calls may run on any thread, in parallel.
 pub trait Drive: Send + Sync {
-    /// Makes a file, which is empty: its number. `AlreadyExists` where there is one.
+    /// Makes an empty file and returns its number. Fails with `AlreadyExists` if the name is taken.
     fn create(&self, name: &Path) -> io::Result<u64>;
-    /// The number of a file: it keeps it whatever it is named. `NotFound` where there is none.
+    /// The number of a file, which a rename does not change. Fails with `NotFound` if there is no such file.
     fn open(&self, name: &Path) -> io::Result<u64>;
-    /// The names in a folder; none where there is none.
+    /// The names in a folder; empty if there is no such folder.
     fn list(&self, folder: &Path) -> io::Result<Vec<OsString>>;
     fn length(&self, file: u64) -> io::Result<u64>;
-    /// How many bytes were read, 0 at the file's end alone. It sees what was written, synced or not.
+    /// Returns how many bytes were read: 0 only at the end of the file. Reads see writes that are not synced yet.
     fn read_at(&self, file: u64, bytes: &mut [u8], at: u64) -> io::Result<usize>;
-    /// Writes at the file's end or over what is there. In memory: it never waits, and fails by `Lost` alone.
+    /// Appends to the file or overwrites bytes in it. Changes memory only: it never blocks, and fails only with `Lost`.
     fn write_at(&self, file: u64, bytes: &[u8], at: u64) -> io::Result<()>;
-    /// Replaces what has the other name. Like `create` and `remove` it never waits.
+    /// Replaces the file `to` if there is one. `rename`, `create` and `remove` never block.
     fn rename(&self, from: &Path, to: &Path) -> io::Result<()>;
-    /// `NotFound` where there is none.
+    /// Fails with `NotFound` if there is no such file.
     fn remove(&self, name: &Path) -> io::Result<()>;
-    /// How many changes were made so far.
+    /// The number of changes so far.
     fn changes(&self) -> u64;
-    /// Counts a change more, of nothing, also of a lost slot.
+    /// Counts one more change, which changes nothing; works even if the shard is fenced.
     fn touch(&self) -> u64;
-    /// Blocks until every earlier change is durable: how many changes are, which may be later ones too. Always commits under our
-    /// term, even if nothing changed, so success also proves that we owned the slot after the call began. It fails by `Lost`
-    /// alone.
+    /// Blocks until every earlier change is durable. Returns how many changes are durable; later ones may be among
+    /// them. Always commits under our term, even if nothing changed, so success also proves that we owned the shard
+    /// after the call began. Fails only with `Lost`.
     fn sync(&self) -> io::Result<u64>;
-    /// How long the sync that began first has waited; zero where none does.
+    /// How long the oldest running sync has waited; zero if none is running.
     fn under_way(&self) -> Duration;
-    /// The term under which it was taken, where a sink may know it.
+    /// The term under which this owner took the shard, if a sink can check it.
     fn owned_under(&self) -> Option<u64> {
         None
     }
-    /// Drawn when it was taken: what is forwarded from now on has it in its key. None where no owner has one of its own.
+    /// The epoch that was drawn when the shard was taken; it is part of the key of each request made from now on. None
+    /// if the store draws no epochs.
     fn epoch(&self) -> Option<Arc<str>> {
         None
     }
-    /// Whether there were files of the slot at some time.
+    /// Whether the shard has ever had files.
     fn had_files(&self) -> bool {
         false
     }
-    /// Up to which request the sink has said, where it is kept beside the files, that it has all.
+    /// The last request that the sink has confirmed, if the store records that beside the files; else 0.
     fn delivered(&self) -> u64 {
         0
     }
 }
 
-/// Under which a slot is an owner's.
+/// What identifies the current owner of a shard.
 #[derive(Clone, Debug, PartialEq, Eq)]
 pub struct Tenure {
     pub term: u64,
-    /// A store that went back gives terms again; an epoch it does not.
+    /// A store that was restored from a backup gives terms again, but never an epoch.
     pub epoch: Arc<str>,
 }
 
-/// Another instance has the slot, or may have: nothing of it may be answered or delivered any more.
+/// Another instance owns the shard, or may own it: nothing of the shard may be answered or delivered any more.
 #[derive(Clone, Copy, Debug, PartialEq, Eq, thiserror::Error)]
 #[error("another instance has this slot")]
 pub struct Lost;
 
-/// What a call of a drive fails by where the slot is another's.
+/// The error of each call on a fenced shard.
 pub fn lost() -> io::Error {
     io::Error::other(Lost)
 }

@@ -1,15 +1,18 @@
-//! The service's folder: who has it, which version it is of, its epoch, whether there is room.
+//! The service's data folder: its lock, its format version, its epoch, and whether the disk has room.
+//!
+//! The service opens it at a start, and commands that work on a folder do too. Only one process has a folder at a time.
 //!
 //! | file | what it is |
 //! |---|---|
 //! | `lock` | locked by the service that has the folder |
-//! | `version` | JSON: `totxegun`, the format's version; `epoch`, 16 hexadecimal digits; `lock`, the inode of the lock's file and when it was born, in nanoseconds since 1970, if the file system knows it; `begun`, the journal's segment that the last start has begun; `sink`, its kind, address and id; `moved`, the store that has all of it: then no service starts on it |
+//! | `version` | JSON: `totxegun`, the format's version; `epoch`, 16 hexadecimal digits; `lock`, the inode of the lock file and its birth time, in nanoseconds since 1970, if the file system knows it; `begun`, the journal segment that the last start began; `sink`, its kind, address and id; `moved`, the store that has all of it: then no service starts on it |
 //! | `slot-0/journal`, `slot-0/outbox` | segments |
-//! | `dead/` | one file a request that was refused for good |
+//! | `dead/` | a file for each request that the sink refused for good |
 //!
-//! A folder that was copied, or put back from a copy, has a lock of another inode, or of the same inode and another
-//! birth. Then a new epoch is drawn: what is forwarded from then on has other keys than what the first folder forwarded.
-//! What waits in the outbox keeps its keys, for it has the same bytes. A copy of the whole disk looks as the first one.
+//! If a folder was copied, or restored from a copy, its lock file has another inode, or the same inode and another
+//! birth time. Then a start draws a new epoch, so new requests have other keys than those of the original folder.
+//! Requests that wait in the outbox keep their keys, since they are the same bytes. A copy of the whole disk can't be
+//! told from the original.
 
 mod sink;
 mod usable;
@@ -32,22 +35,22 @@ use std::time::{Duration, Instant};
 pub use sink::KnownSink;
 use version::{Identity, Version};
 
-/// Where journal and outbox are. A store has several such slots; a folder has this one alone.
+/// The folder of the journal and the outbox. A shard store has several shards; a folder has only this one.
 const SLOT: &str = "slot-0";
 const LOST_SLOT: &str =
     "has no segments, and this folder is not new: put all of the slot's folder back, or move the \
                          folder away and start with a new one. Nothing was deleted";
-/// How long a lock is waited for.
+/// How long to wait for a lock.
 const PATIENCE: Duration = Duration::from_secs(1);
 
 #[derive(Debug, thiserror::Error)]
 pub enum FolderFault {
     #[error("{0} is in use by another service: end it, or give another --data")]
     InUse(PathBuf),
-    /// Nothing is wrong with what is in it, and nothing was changed.
+    /// The contents are fine, and nothing was changed.
     #[error("{} {what}", path.display())]
     Unusable { path: PathBuf, what: String },
-    /// By its epoch the store knows it.
+    /// The store recognises the folder by `epoch`.
     #[error(
         "{0} was moved into the store {store}: start with --store {store}. If the store does not count yet, call `totxegun store \
          move --from {0} {store}` again",
@@ -58,7 +61,7 @@ pub enum FolderFault {
     Fault(#[from] Fault),
 }
 
-/// A folder that this process alone has, until it ends.
+/// A folder that only this process has, until it ends.
 pub struct Folder {
     disk: Disk,
     path: PathBuf,
@@ -68,22 +71,23 @@ pub struct Folder {
     locks: Arc<Locks>,
 }
 
-/// Locked as long as anything of the folder can be written.
+/// Held as long as anything may still write to the folder.
 pub struct Locks {
     file: File,
-    /// The folder itself, locked too: somebody may delete the file, and a second service would make another.
+    /// The folder itself, locked too: if somebody deletes the lock file, a second service would make and lock a new
+    /// one.
     _itself: File,
 }
 
 impl Folder {
-    /// Makes the folder where there is none, locks it, and reads its version.
+    /// Makes the folder if there is none, locks it, and reads its version.
     pub fn open(path: &Path, durability: Durability) -> Result<Folder, FolderFault> {
         Folder::open_on(Disk::default(), path, durability)
     }
 
     pub(crate) fn open_on(disk: Disk, path: &Path, durability: Durability) -> Result<Folder, FolderFault> {
         usable::look_at(path)?;
-        // Where that file is, an earlier start has made the folder to its end.
+        // If this file is there, an earlier start has made the folder completely.
         if !path.join("version").exists() {
             disk.make_lasting_folder(path).map_err(|fault| usable::named(fault, path))?;
         }
@@ -116,8 +120,8 @@ impl Folder {
         Ok(folder)
     }
 
-    /// Whether a start would take it for a copy, or for one whose lock was deleted, and so draw a new epoch. False where
-    /// there is none, or its version can't be read.
+    /// Whether a start would take the folder for a copy, or for one whose lock file was deleted, and draw a new epoch.
+    /// False if there is no folder, or its version can't be read.
     pub fn is_moved(path: &Path) -> bool {
         let Ok(Some(version)) = Version::read(path) else {
             return false;
@@ -126,29 +130,30 @@ impl Folder {
         !found.is_ok_and(|found| version.lock.may_be(found))
     }
 
-    /// Fails if no service starts on the folder, whoever has it: it was moved into a store, or is of another version.
+    /// Fails if no service can start on the folder: it was moved into a store, or has another version. Takes no lock.
     pub fn check_usable(path: &Path) -> Result<(), FolderFault> {
         find(&Disk::default(), path).map(drop)
     }
 
-    /// The store has all of it: no service starts on it from now on. Durable, or not done, when this returns.
+    /// Records that `store` has everything: from then on no service starts on the folder. On success this is durable;
+    /// on failure it is not done.
     pub fn set_moved(&self, store: &str) -> Result<(), Fault> {
         self.change(|version| version.moved = Some(store.into()))
     }
 
-    /// By which its requests' keys, and the store that it is moved into, are told from those of its copies.
+    /// Distinguishes the keys of this folder's requests, and the folder that a store took over, from those of copies.
     pub fn epoch(&self) -> String {
         locked(&self.version).epoch.clone()
     }
 
-    /// Whether nothing was ever kept there.
+    /// Whether the folder has never kept anything.
     pub fn is_empty(&self) -> bool {
         let has = |name: &str| self.path.join(name).exists();
         locked(&self.version).begun.is_none() && !has(SLOT) && !has("dead")
     }
 
-    /// Draws a new epoch, for a folder that was put back in a way that a start can't see. It is that of the slots
-    /// that are opened from then on; what waits in an outbox keeps its own.
+    /// Draws a new epoch, for a folder that was restored in a way that a start can't detect. Shards that are opened
+    /// later use it; requests that wait in an outbox keep their own.
     pub fn renew_epoch(&self) -> Result<String, Fault> {
         let source = Path::new("/dev/urandom");
         let mut random = [0; 8];
@@ -174,23 +179,24 @@ impl Folder {
         Identity::of(&self.locks.file).map_err(io_fault(&self.path.join("lock")))
     }
 
-    /// A disk as a test wants it.
+    /// A folder whose disk has the room that a test says.
     #[cfg(test)]
     pub(crate) fn in_room(mut self, look: impl Fn() -> u64 + Send + Sync + 'static) -> Folder {
         self.free_space = Arc::new(FreeSpace::of(move || Ok((look(), 1 << 40, 1000))));
         self
     }
 
-    /// Journal and outbox. What an earlier run wrote is synced before it is believed.
+    /// Opens the journal and the outbox, after syncing what an earlier run wrote.
     pub fn slot(&self) -> Result<(Journal, Outbox), Fault> {
         let (outbox, left) = self.begin_slot()?;
         Ok((self.journal(&outbox, left)?, outbox))
     }
 
-    /// The outbox, which is not begun, and what an earlier run left in the journal, which is as it was.
+    /// Reads the outbox, which is not begun yet, and what an earlier run left in the journal, without changing the
+    /// journal.
     pub fn begin_slot(&self) -> Result<(Outbox, Left), Fault> {
         let folder = self.path.join(SLOT).join("journal");
-        // Side by side: what is only read waits for nothing.
+        // In parallel: reading the journal needs nothing from the outbox.
         let (outbox, left) = std::thread::scope(|scope| {
             let left = scope.spawn(|| match folder.exists() {
                 true => Left::read(&self.disk, &folder),
@@ -202,7 +208,7 @@ impl Folder {
         Ok((outbox, left.unwrap_or_else(|panic| std::panic::resume_unwind(panic))?))
     }
 
-    /// The journal, which goes on behind what was left in it; the outbox is begun before.
+    /// Begins the outbox, then opens the journal to continue after what was left in it.
     pub fn journal(&self, outbox: &Outbox, left: Left) -> Result<Journal, Fault> {
         outbox.begin()?;
         let begun = locked(&self.version).begun;
@@ -242,13 +248,13 @@ impl Folder {
     }
 }
 
-/// The kernel gives the locks back when the process ends, in whatever way. A started gateway does not get them: files
-/// of the standard library are closed where another program is started.
+/// The kernel releases the locks when the process ends, however it ends. Child processes don't inherit them: the
+/// standard library opens files close-on-exec.
 fn locks_of(folder: &Path) -> Result<Locks, FolderFault> {
     let path = folder.join("lock");
     let mut options = OpenOptions::new();
     options.read(true).write(true).mode(0o600);
-    // Only what is made here is given away: a link there may lead to any file of root's.
+    // Only a file that we made changes its owner: a link here could lead to any file of root's.
     let made = options.clone().create_new(true).open(&path);
     let made = made.inspect(|made| super::disk::give_to_owner(made, &path));
     let file = match made {
@@ -264,13 +270,13 @@ fn locks_of(folder: &Path) -> Result<Locks, FolderFault> {
     let itself = File::open(folder).map_err(io_fault(folder))?;
     match take_lock(&itself) {
         Err(Errno::EWOULDBLOCK) => Err(FolderFault::InUse(folder.into())),
-        // Not every file system locks folders.
+        // Not every file system can lock folders.
         Ok(()) | Err(_) => Ok(Locks { file, _itself: itself }),
     }
 }
 
 fn take_lock(file: &File) -> Result<(), Errno> {
-    // A process that is just being started has the file open for a moment, though who started it has ended.
+    // A process that was just forked has the file open for a moment, even if its parent has ended.
     let began = Instant::now();
     loop {
         match flock(file.as_raw_fd(), FlockArg::LockExclusiveNonblock) {
@@ -280,7 +286,7 @@ fn take_lock(file: &File) -> Result<(), Errno> {
     }
 }
 
-/// The version of a folder on which a service may start; none of a new one.
+/// The version of a folder on which a service may start; none for a new folder.
 fn find(disk: &Disk, folder: &Path) -> Result<Option<Version>, FolderFault> {
     let version = Version::read(folder)?;
     match &version {
@@ -290,7 +296,7 @@ fn find(disk: &Disk, folder: &Path) -> Result<Option<Version>, FolderFault> {
     Ok(version)
 }
 
-/// A folder without a version has no slot either.
+/// A folder without a version file must not have a shard either.
 fn check_new(disk: &Disk, folder: &Path) -> Result<(), Fault> {
     for name in disk.names(folder)? {
         if name.to_str().is_some_and(|name| name.starts_with("slot-") || name == "dead") {

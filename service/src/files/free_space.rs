@@ -1,4 +1,8 @@
-//! Whether the disk has room for posts: some is kept back, for what was taken must be brought to an end.
+//! Decides whether the disk has room for posts. Some room is always kept back, so that the service can finish what it
+//! took.
+//!
+//! `slot` reserves room before it takes a post, and `dead` before it keeps a dead letter. A disk that can't be asked
+//! has no room.
 
 use super::disk::io_fault;
 use super::Fault;
@@ -8,17 +12,18 @@ use std::time::Instant;
 
 /// How long a look at the disk counts, in milliseconds.
 const LOOK: u64 = 100;
-/// A twentieth of the disk is kept back, within these bounds: a commit, a snapshot, and the posts on their way.
+/// A twentieth of the disk is kept back, within these bounds: for a commit, a snapshot, and posts under way.
 const LEAST: u64 = 64 << 20;
 const MOST: u64 = 256 << 20;
-/// At least so much beside a snapshot.
+/// What is kept back in addition to the next snapshot.
 const BESIDE: u64 = 48 << 20;
-/// So many files can be made, at least.
+/// The number of new files that the disk must allow.
 const FILES: u64 = 64;
-/// Letters may use so much of what is kept back, and half of the files: what is delivered behind them makes room.
+/// Dead letters may use this much of what is kept back, and half of the files: requests that are delivered after them
+/// free room again.
 const OF_LETTERS: i64 = LEAST as i64 / 2;
 
-/// Free bytes, all bytes, free files of a disk.
+/// Free bytes, all bytes and free files of the disk.
 type Look = dyn Fn() -> std::io::Result<(u64, u64, u64)> + Send + Sync;
 
 pub struct FreeSpace {
@@ -27,15 +32,15 @@ pub struct FreeSpace {
     looked: AtomicU64,
     /// What posts may still use.
     left: AtomicI64,
-    /// What posts that are under way will use of it.
+    /// What posts under way will use of it.
     reserved: AtomicI64,
-    /// The next snapshot of the outbox is as long at most.
+    /// The most bytes that the outbox's next snapshot can have.
     snapshot: AtomicU64,
-    /// As it was found last, and told.
+    /// The state at the last look, which the log has.
     is_full: AtomicBool,
 }
 
-/// Room of a post that is under way. It is held until the post is in the journal, or is not taken.
+/// Room reserved for a post, until the post is in the journal or was refused.
 #[must_use = "what is dropped may be used by others"]
 pub struct Reservation<'a> {
     free_space: &'a FreeSpace,
@@ -61,7 +66,7 @@ impl FreeSpace {
         Ok(FreeSpace::of(look))
     }
 
-    /// Of a slot that has no disk: what keeps its files says itself that it is full.
+    /// For a shard store, which reports by itself if it is full.
     pub fn endless() -> FreeSpace {
         FreeSpace::of(|| Ok((u64::MAX >> 2, 0, u64::MAX)))
     }
@@ -82,18 +87,17 @@ impl FreeSpace {
         space
     }
 
-    /// As it was a moment ago, less what was written since, and what posts under way will write.
+    /// Whether posts may use more: by the last look at the disk, less what was written and reserved since.
     pub fn is_left(&self) -> bool {
         self.left() > self.reserved.load(Relaxed)
     }
 
-    /// Room for a post of so many bytes, where any is left: so of all that come at once no more are taken than the disk
-    /// has room for, and one.
+    /// Reserves room for a post if any is left. So posts that arrive together exceed the room by one post at most.
     pub fn reserve(&self, bytes: usize) -> Option<Reservation<'_>> {
         self.reserve_of(self.left(), bytes)
     }
 
-    /// The same for a letter.
+    /// Reserves room for a dead letter.
     pub fn reserve_for_letter(&self, bytes: usize) -> Option<Reservation<'_>> {
         self.reserve_of(self.left() + OF_LETTERS, bytes)
     }
@@ -147,7 +151,7 @@ impl FreeSpace {
         self.left.store(left, Relaxed);
     }
 
-    /// In the log, once each time that it changes.
+    /// Logs each change between full and not full once.
     fn tell(&self, is_full: bool, free: u64, kept: u64, files: u64) {
         if self.is_full.swap(is_full, Relaxed) == is_full {
             return;
@@ -210,7 +214,7 @@ mod tests {
     fn what_posts_under_way_will_write_is_not_there_for_others() {
         let free = Arc::new(AtomicU64::new(MOST + 100));
         let space = space(free.clone(), 1000);
-        // A look at the disk, whenever it comes, finds the same.
+        // Free space falls with each write, so a look at the disk at any moment finds the same.
         let write = |bytes| {
             space.use_up(bytes);
             free.fetch_sub(bytes, Relaxed);

@@ -1,18 +1,22 @@
-//! The journal: each post that the book took, in the order of its sender, in segments.
+//! The journal: each post that the book took, in the order in which it took them, in segments.
+//!
+//! `slot` appends posts under the lock of the book, `keeper` rolls and truncates the journal at a checkpoint, and a
+//! start replays it. No post is answered before the journal is as durable as `--durability` says.
 //!
 //! | kind | bytes |
 //! |---|---|
-//! | 16 post | seconds since 1970 (u64), foreign points (u64), length of the sender's name (u64), name, body |
-//! | 17 held | JSON: of each quarantined sender its name, how many of its posts are in its own file, and where they end there |
-//! | 18 name | number, a request of one point, whose series has the number in this file from here on, beside the one before (`text_row`) |
-//! | 19 points | as a post, but its body is points, and packed as its numbers are (`packed`) |
-//! | 20 runs | the same of points some of which were made of cumulative ones: ahead of them is what their runs are (`packed::runs`) |
+//! | 16 post | seconds since 1970 (u64), rejected points (u64), length of the sender's name (u64), name, body |
+//! | 17 parked | JSON: for each quarantined sender its name, how many of its posts are in its own file, and where they end there |
+//! | 18 definition | number, a request of one point, whose series has this number in this file from here on; coded against the definition before it (`text_row`) |
+//! | 19 points | as a post, but the body is points, and both they and the numbers are packed (`packed`) |
+//! | 20 runs | as 19, if some of the points were converted from cumulative ones: what the points say of their runs comes before them (`packed::runs`) |
 //!
-//! Numbers of 18 are packed. A name is written with the first points of a segment that need it, by the same write.
+//! Numbers of 18 are packed. A series is defined before the first points of a segment that need it, by the same write.
 //!
-//! A record gets its place under one short lock, so that the order in the file is the order of the calls, and is in memory
-//! until the next write, which is for all that were appended (`write`). One thread syncs, once for all that wait; if posts are only
-//! written, each serving thread writes (`work/own_call`). Nobody who must wait for the disk holds the lock of those who append.
+//! A record gets its place under a short lock, so records are in the order of the calls. It stays in memory until the
+//! next write, which takes all appended records (`write`). One thread syncs for all callers that wait; with
+//! `--durability process`, each serving thread writes (`work/own_call`). No caller that waits for the disk holds the
+//! lock that appending needs.
 
 mod by_number;
 mod earlier_segment;
@@ -53,32 +57,33 @@ const NAME: u8 = records::OWN + 2;
 const POINTS: u8 = records::OWN + 3;
 const RUNS: u8 = records::OWN + 4;
 
-/// How the thread is named that syncs, and the one that writes.
+/// Names of the threads that sync and write.
 pub(super) const SYNCER: &str = "journal";
 const WRITER: &str = "journal-write";
 
-/// A place in the journal: all that was appended before it. Of a drive it is how many changes the drive has had.
+/// A position in the journal: everything appended before it. In a shard store it is the number of changes that the
+/// store has had.
 #[derive(Clone, Copy, Debug, PartialEq, Eq, PartialOrd, Ord)]
 pub struct Ticket(pub u64);
 
-/// Shared by all who post. What can't be written ends the process, but where only the slot is lost: then what is appended
-/// is durable never.
+/// Shared by all callers that post. A fault of the disk ends the process. In a shard store it fences the shard:
+/// anything appended after that never becomes durable.
 pub struct Journal {
     shared: Arc<Shared>,
     threads: Vec<JoinHandle<()>>,
-    /// The segment that this start has begun.
+    /// The segment that this start began.
     begun: u64,
     dropped: Vec<Dropped>,
 }
 
-/// What is known beside the journal of what it has to have.
+/// What the outbox and the folder know of the journal.
 pub(super) struct Expected {
-    /// The first segment whose posts are in no group, by the outbox.
+    /// The first segment whose posts are in no group of the outbox.
     pub reach: u64,
-    /// The segment that the last start has begun. Its name, and those from `reach` on, are there for good. None before the
-    /// first start has noted that.
+    /// The segment that the last start began: its name is durable, as are those from `reach` to it. None before the
+    /// first start has recorded it.
     pub begun: Option<u64>,
-    /// Which segment of the outbox says so, and where that one ended.
+    /// The segment of the outbox that gives `reach`, and where that segment ends; to name them in a fault.
     pub by: (PathBuf, u64),
 }
 
@@ -88,37 +93,37 @@ struct Shared {
     durability: Durability,
     free_space: Arc<FreeSpace>,
     place: Mutex<Place>,
-    /// Locked while something is written into the segment, before `place`: what is written then.
+    /// Held during each write into the segment, and locked before `place`. The buffer of such a write.
     writing: Mutex<Vec<u8>>,
-    /// What is in a file.
+    /// How far the journal is in the file.
     written: Watermark,
-    /// Never locked over a call of the disk: who shows it must not wait for one.
+    /// Never held during a call of the disk, so that `size` never waits for one.
     sizes: Mutex<Vec<Size>>,
-    /// What of quarantined senders' files counts, where a segment is the first that is replayed.
+    /// By segment: how much of quarantined senders' files counts if that segment is the first to be replayed.
     held: Mutex<BTreeMap<u64, held::List>>,
     durable: Watermark,
     syncing: Mutex<()>,
-    /// The next segment, durable, which has no name yet. Locked after `place`.
+    /// The next segment, durable and without a name. Locked after `place`.
     next: Mutex<Option<Segment>>,
 }
 
-/// Where is written.
+/// Where records are appended.
 struct Place {
     segment: Segment,
     /// Whether the segment's name is durable.
     named: bool,
     ticket: u64,
-    /// What the segment has named.
+    /// The series that the segment has defined.
     said: NamedNumbers,
-    /// Segments that were ended, and not synced since.
+    /// Ended segments that are not synced yet.
     ended: Vec<(Arc<File>, PathBuf)>,
-    /// The ticket of the last turn, or note of what is held: earlier segments are not deleted before it is durable.
+    /// The ticket of the last roll, or of the last record of parked posts: earlier segments stay until it is durable.
     kept: u64,
-    /// Quarantined senders whose posts are in their own files, and who have posted nothing since.
+    /// Quarantined senders whose posts are all parked in their own files.
     moved: BTreeSet<String>,
 }
 
-/// What a segment has.
+/// The size of a segment.
 struct Size {
     number: u64,
     bytes: u64,
@@ -126,8 +131,7 @@ struct Size {
 }
 
 impl Journal {
-    /// Puts a post behind the others, and writes nothing yet. `names` says what its numbers stand for, where the segment has not
-    /// said that.
+    /// Appends a post and writes nothing yet. `names` defines the numbers that this segment has not defined.
     pub fn append(&self, post: &Post, names: &dyn Names) -> Ticket {
         let (shared, now) = (&*self.shared, seconds());
         let mut record = Vec::new();
@@ -140,7 +144,7 @@ impl Journal {
         let length = (names.len() + record.len()) as u64;
         shared.free_space.use_up(length);
         place.segment.append(&[&names, &record]);
-        // What a drive has is in memory until its sync anyway.
+        // A shard store keeps it in memory until a sync anyway.
         let written = if shared.disk.keeps_order() { place.segment.write() } else { Ok(()) };
         shared.set_ticket(&mut place);
         if let Err(fault) = written {
@@ -155,7 +159,8 @@ impl Journal {
         Ticket(place.ticket)
     }
 
-    /// Begins a segment: its number, and a ticket for all before it. Its name is durable with that ticket.
+    /// Rolls over to a new segment. Returns its number, and a ticket for everything before it, with which the new
+    /// segment's name is durable too.
     pub fn turn(&self) -> (u64, Ticket) {
         self.shared.alone(|place| {
             let next = place.segment.number + 1;
@@ -166,15 +171,16 @@ impl Journal {
         })
     }
 
-    /// A ticket for all that was appended until now. Of a drive it is for a sync that begins later, also where nothing was
-    /// appended: so it is known then that the slot was still this instance's.
+    /// A ticket for everything appended so far. In a shard store it needs a sync that begins later, even if nothing was
+    /// appended: that sync proves that we still own the shard.
     pub fn now(&self) -> Ticket {
         let mut place = locked(&self.shared.place);
         self.shared.set_late_ticket(&mut place);
         Ticket(place.ticket)
     }
 
-    /// Returns once all before a ticket is as durable as was asked for, or once the slot is lost.
+    /// Returns after everything before the ticket is as durable as `--durability` says, or with `Lost` if the shard was
+    /// fenced.
     pub async fn durable(&self, ticket: Ticket) -> Result<(), Lost> {
         let Shared { disk, durable, written, .. } = &*self.shared;
         match self.shared.durability {
@@ -185,7 +191,7 @@ impl Journal {
         }
     }
 
-    /// Makes sure that all before a ticket is on the disk before what comes next, whatever was asked for posts.
+    /// A barrier: everything before the ticket is on disk before anything written later, whatever `--durability` says.
     pub fn settle(&self, ticket: Ticket) {
         let shared = &*self.shared;
         if !shared.disk.keeps_order() && !shared.durable.has(ticket.0) {
@@ -193,38 +199,38 @@ impl Journal {
         }
     }
 
-    /// Whether a drive keeps it, and no folder.
+    /// Whether a shard store keeps the files.
     pub fn is_in_store(&self) -> bool {
         self.shared.disk.keeps_order()
     }
 
-    /// As the disk: the slot ends for this reason, where a drive keeps it.
+    /// Ends the shard for this reason. Returns false for a folder, and does nothing.
     pub fn close(&self, why: &str) -> bool {
         self.shared.disk.close(why)
     }
 
-    /// Why it was closed.
+    /// Why the shard was closed.
     pub fn failure(&self) -> Option<&str> {
         self.shared.disk.failure()
     }
 
-    /// Returns once another instance has the slot, or may have.
+    /// Returns after another instance took the shard, or may have taken it.
     pub async fn lost(&self) -> Lost {
         self.shared.disk.lost().await
     }
 
-    /// Whether there is room for what is written.
+    /// Whether the disk has room for more posts.
     pub(crate) fn free_space(&self) -> &Arc<FreeSpace> {
         &self.shared.free_space
     }
 
-    /// Makes the last turn and the last note of what is held durable before what comes next, whatever was asked for posts.
+    /// A barrier for the last roll and the last record of parked posts, whatever `--durability` says.
     fn settle_kept(&self) {
         let kept = locked(&self.shared.place).kept;
         self.settle(Ticket(kept));
     }
 
-    /// Deletes the segments before this, once what is held of them is durable.
+    /// Deletes the segments before `before`, after the record of parked posts is durable.
     pub fn forget(&self, before: u64) -> Result<(), Fault> {
         let shared = &*self.shared;
         let last = locked(&shared.place).segment.number;
@@ -232,7 +238,7 @@ impl Journal {
         let mut numbers = segment::numbers(&shared.disk, &shared.folder)?;
         numbers.retain(|number| *number < before && *number < last);
         if !numbers.is_empty() {
-            // A start that misses one of them is told so whether the outbox is older than this.
+            // With this record a start that finds an older outbox names the outbox, and not these segments as missing.
             shared.alone(|place| {
                 let said = place.segment.say_forgotten(before);
                 said.map_err(|fault| shared.disk.fail(fault)) // while nobody else can write
@@ -245,38 +251,38 @@ impl Journal {
         self.forget_held(before.min(last))
     }
 
-    /// Bytes in the segments that are there, and when the first of their posts was appended (seconds since 1970).
-    /// Never waits for the disk.
+    /// The bytes in all segments, and when their first post was appended (seconds since 1970). Never waits for the
+    /// disk.
     pub fn size(&self) -> (u64, Option<u64>) {
         let sizes = locked(&self.shared.sizes);
         let bytes = sizes.iter().map(|size| size.bytes).sum();
         (bytes, sizes.iter().find_map(|size| size.first))
     }
 
-    /// The segment that this start has begun.
+    /// The segment that this start began.
     pub(super) fn begun(&self) -> u64 {
         self.begun
     }
 
-    /// What this start left out of the files that were there.
+    /// What this start dropped from the files of an earlier run.
     pub fn dropped(&self) -> &[Dropped] {
         &self.dropped
     }
 
-    /// How long the call of the disk that began first has been under way; zero where none is. Never waits: a disk that
-    /// stalls is seen while who writes has all of the journal's locks.
+    /// How long the oldest running call of the disk has taken; zero if none is running. Takes no lock, so that a stall
+    /// is seen while a stalled writer holds all of the journal's locks.
     pub fn under_way(&self) -> Duration {
         self.shared.disk.under_way()
     }
 }
 
 impl Shared {
-    /// A ticket for what was appended just now.
+    /// Gives `place` a ticket for what was just appended.
     fn set_ticket(&self, place: &mut Place) {
         place.ticket = self.disk.changes().unwrap_or(place.ticket + 1);
     }
 
-    /// Of a drive, a ticket for a sync that begins later.
+    /// In a shard store, gives `place` a ticket that only a later sync reaches.
     fn set_late_ticket(&self, place: &mut Place) {
         place.ticket = self.disk.touch().unwrap_or(place.ticket);
     }
@@ -306,7 +312,7 @@ impl Shared {
     }
 }
 
-/// Makes a segment durable that has no name yet: one that has its name has a header, and is as long as it was made.
+/// Makes a segment durable before it gets its name: so any named segment has a header, and its full length.
 fn prepare(
     disk: &Disk,
     folder: &Path,
@@ -315,7 +321,7 @@ fn prepare(
     forgotten: u64,
 ) -> Result<Segment, Fault> {
     let ahead = match durability {
-        _ if disk.keeps_order() => Ahead::Nothing, // a drive is written by its syncs, and not in place
+        _ if disk.keeps_order() => Ahead::Nothing, // a shard store writes at its syncs, and not in place
         Durability::Disk => Ahead::Zeros(0),
         Durability::Process => Ahead::Blocks(0),
     };

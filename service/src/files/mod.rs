@@ -1,4 +1,8 @@
-//! What is on disk: one folder, its lock, the journal, the outbox, the dead letters.
+//! The files of a shard: its journal, its outbox and its dead letters, in a folder or in a shard store.
+//!
+//! `service/unit` opens them, `slot` appends posts, `keeper` makes checkpoints and `sinks/delivery` sends what waits in
+//! the outbox. After a call on a file has failed, nothing more is written: the process ends, or in a store the shard
+//! alone.
 
 pub mod dead;
 mod disk;
@@ -37,24 +41,25 @@ pub use text_row::shared_ends;
 
 use crate::work::locked;
 
-/// How durable a post is before its sender is answered.
+/// What has to hold before a post is answered.
 #[derive(Clone, Copy, Debug, PartialEq, Eq, clap::ValueEnum)]
 pub enum Durability {
-    /// On the disk, by `fdatasync`.
+    /// The post is on disk (`fdatasync`).
     Disk,
-    /// Written: it survives the end of the process, not of the machine.
+    /// The post is written: it survives a crash of the process, not a loss of power.
     Process,
 }
 
-/// A fault of a file. The process ends by it, but where only a slot is lost: the next start reads what is there.
+/// A file failed. It ends the process, or only the shard if a shard store keeps the files; the next start reads what is
+/// there.
 #[derive(Debug, thiserror::Error)]
 pub enum Fault {
     #[error("{path}: {source}")]
     Io { path: std::path::PathBuf, source: std::io::Error },
-    /// Something in the middle of a file was changed, or is of another version. Nothing was deleted.
+    /// Something within a file was changed, or the file has another format version. Nothing was deleted.
     #[error("{path}, byte {at}: {what}")]
     Damaged { path: std::path::PathBuf, at: u64, what: String },
-    /// The slot is another instance's: it ends here, and nothing else does.
+    /// Another instance owns the shard. Only this shard ends here.
     #[error(transparent)]
     Lost(#[from] Lost),
 }
@@ -65,7 +70,7 @@ pub(crate) fn nanoseconds() -> u64 {
     since.map_or(0, |since| u64::try_from(since.as_nanos()).unwrap_or(u64::MAX))
 }
 
-/// The same in seconds.
+/// Seconds since 1970.
 fn seconds() -> u64 {
     nanoseconds() / 1_000_000_000
 }

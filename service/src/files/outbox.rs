@@ -1,7 +1,11 @@
-//! The outbox: what the service forwarded, in groups that are there wholly or not at all, until the sink has it.
+//! The outbox: the requests that wait for the sink, in groups that are there wholly or not at all, and what is known of
+//! each series.
 //!
-//! What is written is a `Change`; the same change is then made in memory, as a start makes it when it reads. The
-//! bytes are described in `rows`.
+//! `keeper` commits a group at each checkpoint, and `sinks/delivery` reads the first request and acknowledges it. A
+//! request keeps its key and its bytes until the sink has it.
+//!
+//! Each change is written as a `Change` and then made in memory, exactly as a start makes it when it reads the record.
+//! `rows` describes the bytes.
 
 mod behind;
 mod beside;
@@ -50,76 +54,76 @@ use tokio::sync::Notify;
 use writer::Writer;
 pub use written::Committed;
 
-/// A segment that is as long, and twice its snapshot, is followed by another.
+/// A new segment begins after this many bytes, and not before twice the length of the snapshot.
 const SEGMENT: u64 = 16 << 20;
-/// How long before a delivery the slot has to have been this instance's for certain. A sink that forgets keys may count
+/// How recently we must have proved that we own the shard before a delivery. A sink that has dropped old keys may count
 /// what another instance delivers too.
 const OURS: Duration = Duration::from_millis(if cfg!(test) { 300 } else { 10_000 });
 
 /// What is known of a series.
 #[derive(Clone, Debug, PartialEq, Eq)]
 pub struct Series {
-    /// Where its last forwarded point ends.
+    /// The end of its last flushed point.
     pub frontier: u64,
-    /// Known by the commit that first has it: none is a fault of this program.
+    /// The first commit with the series has it; none is a fault of this program.
     pub owner: Option<Arc<str>>,
-    /// When a group last had a point of it, in seconds since 1970: for the next eighty years these have 32 bits.
+    /// When a group last had a point of it, in seconds since 1970; 32 bits last for eighty years.
     pub seen: u32,
-    /// What was last taken of it, where its points are made of cumulative ones.
+    /// The last flushed point of its run, if its points are converted from cumulative ones.
     pub run: Option<Arc<Run>>,
-    /// What its last points were that came in deltas, by which a repeat is known.
+    /// Digests of its last delta points, by which a repeat is recognised.
     pub recent: Recent,
 }
 
 /// The runs of series as they were when a group was taken.
 pub type Runs = HashMap<Digest, Arc<Run>>;
 
-/// A forwarded request that the sink does not have yet.
+/// A request that the sink does not have yet.
 #[derive(Clone, Debug, PartialEq, Eq)]
 pub struct Waiting {
-    /// From 1, one more each; with epoch and slot the request's key for ever.
+    /// Counts up from 1. With epoch and shard it is the key of the request, which never changes.
     pub number: u64,
     /// When it was committed, in seconds since 1970.
     pub since: u64,
 }
 
-/// Each point's series and the end of its span, of a forwarded request.
+/// Returns the series and the end of each point of a request.
 type ReadEnds = fn(&[u8]) -> Result<Vec<(SeriesKey, u64)>, NotForwarded>;
 
-/// Shared by the keeper, who commits, and the delivery, which acknowledges. What only asks never waits for the disk;
-/// what writes may wait for a sync of another call. With a drive it does not: what was written is durable once it is settled,
-/// and is not delivered before.
+/// Shared by `keeper`, which commits, and `sinks/delivery`, which acknowledges. Reads never wait for the disk; writes
+/// may wait for another call's sync. In a shard store, writes do not wait: a group is durable after `settle`, and is
+/// not delivered before.
 pub struct Outbox {
     disk: Disk,
     folder: PathBuf,
     free_space: Arc<FreeSpace>,
     read_ends: ReadEnds,
     longest: u64,
-    /// Locked before the state, by all that write.
+    /// Held by each call that writes, and locked before `state`.
     writer: Mutex<Writer>,
     state: Mutex<State>,
     arrived: Notify,
     /// Requests before this number are durable.
     settled: AtomicU64,
-    /// Which segment the last run wrote to, and up to where.
+    /// The segment that the last run wrote to, and where it ended.
     ended: (PathBuf, u64),
     dropped: Vec<Dropped>,
     stuck: Mutex<Option<String>>,
 }
 
-/// The ends of the points, as the book's own request tells them.
+/// The ends of the points of a request that the book wrote.
 fn ends(body: &[u8]) -> Result<Vec<(SeriesKey, u64)>, NotForwarded> {
     Ok(series::forwarded(body)?.into_iter().map(|point| (point.series, point.end)).collect())
 }
 
 impl Outbox {
-    /// The epoch of the first waiting request; where none waits, of those to come. A folder's was drawn when it was made, and anew
-    /// where it was put back; a slot's of a store when its owner took it.
+    /// The epoch of the first waiting request, or of future ones if none waits. A folder draws its epoch when it is
+    /// made, and again after it was restored; a shard of a store, when an owner takes it.
     pub fn epoch(&self) -> String {
         locked(&self.state).epoch().to_string()
     }
 
-    /// The journal's first segment whose posts are in no group.
+    /// The first segment of the journal whose posts are in no group.
     pub fn journal(&self) -> u64 {
         locked(&self.state).facts.journal
     }
@@ -128,19 +132,20 @@ impl Outbox {
         self.each_of(|_| true, |key, series| (key, series)).into_iter().collect()
     }
 
-    /// Shows all keys side by side, some at a time, which are neighbours.
+    /// Passes all keys to `show`, in parallel and in parts of neighbouring keys.
     pub fn each_keys(&self, show: impl Fn(Vec<SeriesKey>) + Sync) {
         let (those, texts) = self.those(|_| true);
         let ids: Vec<u32> = those.into_iter().map(|(id, _)| id).collect();
         made_in_order(ids.chunks(PART), |ids| show(texts.of(ids.iter().copied()).collect()), drop);
     }
 
-    /// What is made of each that has a run.
+    /// Maps each series that has a run.
     pub fn with_run<T: Send>(&self, make: impl Fn(SeriesKey, Series) -> T + Sync) -> Vec<T> {
         self.each_of(|series| series.run.is_some(), make)
     }
 
-    /// What is made of each that is wanted. Keys are read without the lock, and all of them together may be very long.
+    /// Maps each series that is wanted. Keys are unpacked without the lock, and never all at once, since together they
+    /// may be very long.
     fn each_of<T: Send>(
         &self,
         wanted: impl Fn(&Series) -> bool,
@@ -150,7 +155,7 @@ impl Outbox {
         texts.each_of(those, make)
     }
 
-    /// Those that are wanted, by their ids, and the texts that have their keys.
+    /// The wanted series by id, and the texts that have their keys.
     fn those(&self, wanted: impl Fn(&Series) -> bool) -> (Vec<(u32, Series)>, Texts) {
         let state = locked(&self.state);
         let all = state.series.iter().map(|(id, known)| (id, &known.series));
@@ -158,34 +163,34 @@ impl Outbox {
         (those.map(|(id, series)| (id, series.clone())).collect(), state.series.texts())
     }
 
-    /// When what is known here began.
+    /// The times since which series and forgotten series are known.
     pub fn since(&self) -> Since {
         locked(&self.state).facts.since
     }
 
-    /// Where series ended that were forgotten.
+    /// The ends of forgotten series.
     pub fn forgotten(&self) -> Forgotten {
         locked(&self.state).facts.forgotten.clone()
     }
 
-    /// Where a series' last forwarded point ends; 0 of one that is not known.
+    /// The end of the last flushed point of a series; 0 if it is not known.
     pub fn frontier(&self, series: &Digest) -> u64 {
         let state = locked(&self.state);
         state.series.get(series).map_or(0, |known| known.series.frontier)
     }
 
-    /// What its last points were.
+    /// The digests of its last points.
     pub fn recent(&self, series: &Digest) -> Recent {
         let state = locked(&self.state);
         state.series.get(series).map_or(Recent::default(), |known| known.series.recent)
     }
 
-    /// Where the ids of series are others, this is another.
+    /// Changes when series get other ids.
     pub fn numbering(&self) -> u64 {
         locked(&self.state).series.numbering()
     }
 
-    /// The ids of those that are known, and by which numbering.
+    /// The ids of the series that are known, and their numbering.
     pub fn ids<'d>(&self, series: impl Iterator<Item = &'d Digest>) -> (u64, Vec<Option<u32>>) {
         let state = locked(&self.state);
         (state.series.numbering(), series.map(|digest| state.series.id_of(digest)).collect())
@@ -204,7 +209,7 @@ impl Outbox {
         locked(&self.state).facts.quarantined.clone()
     }
 
-    /// Leaves out the series that no group had for so long, but those in `keep`. Which these were.
+    /// Forgets the series that no group has had for this long, except those in `keep`, and returns them.
     pub fn forget(&self, age: Duration, keep: &HashSet<Digest>) -> Result<Vec<SeriesKey>, Fault> {
         self.forget_of(Age::from_now(age), keep)
     }
@@ -213,7 +218,7 @@ impl Outbox {
         self.leave_out(|series| series.old(age, keep).collect())
     }
 
-    /// Whether there is a series to forget, but those in `keep`.
+    /// Whether `forget` would find any series.
     pub fn has_any_of(&self, age: Duration, keep: &HashSet<Digest>) -> bool {
         locked(&self.state).series.old(Age::from_now(age), keep).next().is_some()
     }
@@ -228,27 +233,27 @@ impl Outbox {
         )
     }
 
-    /// Which segment the last run wrote to, and up to where it counts.
+    /// The segment that the last run wrote to, and where its valid part ended.
     pub(super) fn ended(&self) -> (PathBuf, u64) {
         self.ended.clone()
     }
 
-    /// What this start left out of the files that were there.
+    /// What this start dropped from the files of an earlier run.
     pub fn dropped(&self) -> &[Dropped] {
         &self.dropped
     }
 
-    /// How long the call of the disk that began first has been under way; zero where none is. Never waits for it.
+    /// How long the oldest running call of the disk has taken; zero if none is running. Never waits for it.
     pub fn under_way(&self) -> Duration {
         self.disk.under_way()
     }
 
-    /// Returns the first waiting request with its body, as soon as there is one, and it is as it was committed.
+    /// Waits for a request, and returns the first with its body after checking that it is as it was committed.
     pub async fn first(&self) -> Result<(Waiting, Vec<u8>), Fault> {
         loop {
             let front = locked(&self.state).front();
             let Some(front) = front else {
-                // A call that came between is kept for this one.
+                // If a commit came after the look, `Notify` has kept its call.
                 self.arrived.notified().await;
                 continue;
             };
@@ -264,7 +269,7 @@ impl Outbox {
         }
     }
 
-    /// Makes durable all that was written. In a folder it is already.
+    /// Makes everything written so far durable. In a folder it is durable already.
     pub fn settle(&self) -> Result<(), Fault> {
         if self.disk.keeps_order() {
             let next = locked(&self.state).facts.next;
@@ -274,28 +279,28 @@ impl Outbox {
         Ok(())
     }
 
-    /// Whether this request may be delivered now: it is durable, and the slot was this instance's a moment ago.
+    /// Whether this request may be delivered now: it is durable, and we owned the shard a moment ago.
     pub fn may_deliver(&self, number: u64) -> bool {
         !self.disk.keeps_order() || number < self.settled.load(SeqCst) && self.disk.ours_before() < OURS
     }
 
-    /// Under which the slot is this instance's; none of a folder.
+    /// The term under which we own the shard; none for a folder.
     pub fn term(&self) -> Option<u64> {
         self.disk.term()
     }
 
-    /// The same, with the epoch of what this instance makes.
+    /// The term, with the epoch of the requests that this owner makes.
     pub fn tenure(&self) -> Option<Tenure> {
         let term = self.disk.term()?;
         Some(Tenure { term, epoch: locked(&self.state).facts.epoch.clone() })
     }
 
-    /// Those of all requests that wait, and from which they go on.
+    /// The epochs of all waiting requests, and of the requests that these continue.
     pub fn epochs(&self) -> Epochs {
         locked(&self.state).facts.epochs.clone()
     }
 
-    /// What this owner of a slot makes has an epoch of its own.
+    /// Gives the requests of this owner an epoch of their own.
     pub(super) fn begin_epoch(&self, root: &str, epoch: &Arc<str>) {
         let mut state = locked(&self.state);
         let (next, acknowledged) = (state.facts.next, state.facts.acknowledged);
@@ -303,7 +308,7 @@ impl Outbox {
         state.facts.epoch = epoch.clone();
     }
 
-    /// The sink has all up to this request: what told so is not in the outbox.
+    /// Acknowledges all requests up to this one. The sink's own record says that it has them.
     pub(super) fn is_delivered_to(&self, number: u64) -> Result<(), Fault> {
         let last = locked(&self.state).facts.next - 1;
         if number > last {
@@ -322,17 +327,18 @@ impl Outbox {
         }
     }
 
-    /// Ends the process, but of a drive the slot alone.
+    /// Reacts to a fault: ends only the shard if a shard store keeps the files, and otherwise the process.
     pub fn fail(&self, fault: Fault) -> Lost {
         self.disk.fail(fault)
     }
 
-    /// Returns once another instance has the slot, or may have.
+    /// Returns after another instance took the shard, or may have taken it.
     pub async fn lost(&self) -> Lost {
         self.disk.lost().await
     }
 
-    /// Notes that the sink has the first waiting request, or that it lies in `dead/`. Lost, it is sent again under the same key.
+    /// Records that the sink has the first waiting request, or that it is a dead letter. If the record is lost, the
+    /// request is sent again under the same key.
     pub fn acknowledge(&self, number: u64) -> Result<(), Fault> {
         let front = {
             let state = locked(&self.state);

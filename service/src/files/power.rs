@@ -1,5 +1,6 @@
-//! Losses of power, for tests: of what was not synced any sectors are left, of the names that were made since the folder
-//! was synced the first ones, and of those that were deleted any: not every file system keeps the order of deletions.
+//! Simulates losses of power, for tests. Of unsynced bytes any sectors survive; of the names made since the folder's
+//! last sync the first ones do; and any of the deleted names may be back, since not every file system keeps the order
+//! of deletions.
 
 use super::disk::{Call, Disk};
 use super::journal::SYNCER;
@@ -13,7 +14,7 @@ use std::sync::{Arc, Mutex};
 
 const SECTOR: usize = 512;
 
-/// With the inodes, by which files are told.
+/// Names with inodes, which identify files across renames.
 type Names = BTreeMap<PathBuf, u64>;
 
 fn names(folder: &Path) -> Names {
@@ -21,19 +22,19 @@ fn names(folder: &Path) -> Names {
     entries.map(|entry| (entry.file_name().into(), entry.metadata().unwrap().ino())).collect()
 }
 
-/// What is known of a folder's disk.
+/// What the simulated disk knows of a folder.
 pub(super) struct Shadow {
     folder: PathBuf,
-    /// Files as they were when they were synced.
+    /// The contents of files when they were last synced.
     synced: HashMap<u64, Vec<u8>>,
-    /// Files that were deleted, as they were then.
+    /// The contents of files when they were deleted.
     deleted: HashMap<u64, Vec<u8>>,
     /// The names at the last sync of the folder, and after each change since.
     names: Vec<Names>,
 }
 
 impl Shadow {
-    /// Of a folder of which all is durable.
+    /// For a folder that is durable as it is.
     pub fn of(folder: &Path) -> Shadow {
         let now = names(folder);
         let file = |(name, inode): (&PathBuf, &u64)| (*inode, std::fs::read(folder.join(name)).unwrap());
@@ -45,7 +46,7 @@ impl Shadow {
         }
     }
 
-    /// Before a call.
+    /// Records the state before a call.
     fn see(&mut self, call: Call, path: &Path) {
         let now = names(&self.folder);
         if self.names.last() != Some(&now) {
@@ -61,7 +62,7 @@ impl Shadow {
         }
     }
 
-    /// The names as they were at one time; any of those that were deleted before may be back.
+    /// The names as of one moment since the last sync; names that were deleted before that may be back.
     fn left(&self, chance: &mut TestRandom) -> Names {
         let some = chance.below(self.names.len() as u64) as usize;
         let mut left = self.names[some].clone();
@@ -74,7 +75,7 @@ impl Shadow {
         left
     }
 
-    /// Puts what a loss of power leaves into another folder.
+    /// Writes what a loss of power could leave into another folder.
     pub fn lose_power(&mut self, left: &Path, chance: &mut TestRandom) {
         std::fs::create_dir(left).unwrap();
         self.see(Call::Write, &self.folder.clone());
@@ -90,7 +91,7 @@ impl Shadow {
     }
 }
 
-/// The length is the former one or the new one, and so is each sector.
+/// The length is the synced one or the current one, and so are the bytes of each sector.
 fn mixed(synced: &[u8], now: &[u8], chance: &mut TestRandom) -> Vec<u8> {
     let mut mixed = vec![0; [synced, now][chance.below(2) as usize].len()];
     let new = [0, 1, 2, 3, 3, 3][chance.below(6) as usize];
@@ -103,13 +104,13 @@ fn mixed(synced: &[u8], now: &[u8], chance: &mut TestRandom) -> Vec<u8> {
     mixed
 }
 
-/// A disk that is seen, and gone after so many calls.
+/// A disk that records into `shadow` and fails each call after the first `calls`.
 pub(super) fn disk(shadow: &Arc<Mutex<Shadow>>, calls: u64) -> Disk {
     disk_behind(shadow, Arc::new(AtomicU64::new(calls)))
 }
 
-/// The same with a number that a test sets. Whether the journal's syncer does something by itself meanwhile hangs on the machine's
-/// load: that is not counted, and comes before the power is lost, so that nothing ends by it.
+/// The same with a counter that the test can set. Calls of the journal's sync thread are not counted and always
+/// succeed, as if they came before the loss: whether that thread acts depends on the load of the machine.
 pub(super) fn disk_behind(shadow: &Arc<Mutex<Shadow>>, left: Arc<AtomicU64>) -> Disk {
     let shadow = shadow.clone();
     Disk::failing(move |call, path| {
@@ -124,12 +125,12 @@ pub(super) fn disk_behind(shadow: &Arc<Mutex<Shadow>>, left: Arc<AtomicU64>) -> 
     })
 }
 
-/// A folder of memory, where that can be.
+/// A folder in memory, if there is one.
 pub(super) fn place() -> tempfile::TempDir {
     tempfile::tempdir_in("/dev/shm").unwrap_or_else(|_| tempfile::tempdir().unwrap())
 }
 
-/// The files of a folder in another one that is made.
+/// Copies the files of a folder into a new one.
 pub(super) fn copy(from: &Path, to: &Path) {
     std::fs::create_dir(to).unwrap();
     for name in names(from).into_keys() {

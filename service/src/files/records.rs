@@ -1,12 +1,14 @@
-//! Records of a file: length (u32), crc32 over kind and bytes (u32), kind (u8), bytes; numbers are little-endian.
+//! The record format of all files: length (u32), crc32 over kind and bytes (u32), kind (u8), bytes. Numbers are
+//! little-endian.
 //!
 //! | kind | bytes |
 //! |---|---|
 //! | 1 header, the first of each file | `totxegun`, format version (u16), which file (u8), its number (u64) |
-//! | 2 mark | offset (u64): all before it was durable when the mark was written; of the journal also the length that the file had durably, and the first segment that is not in groups (u64 each) |
-//! | 3 end, the last of a closed file | as a mark |
+//! | 2 durable watermark | offset (u64): everything before it was durable when the watermark was written; in the journal also the length that the file had durably, and the first segment that is not committed to the outbox (u64 each) |
+//! | 3 end, the last record of a closed file | as a durable watermark |
 //!
-//! Other kinds are a file's own. No kind is a byte that JSON or packed points may have, so that no body has a record in it.
+//! Other kinds are a file's own. No kind is a byte that can occur in JSON or in packed points, so no body contains a
+//! record (`torn_tail` searches for records in damaged bytes).
 
 use super::disk::{io_fault, Cursor, Disk};
 use super::Fault;
@@ -16,30 +18,30 @@ use std::path::{Path, PathBuf};
 pub const HEADER: u8 = 1;
 pub const MARK: u8 = 2;
 pub const END: u8 = 3;
-/// The first kind of a file's own.
+/// The first kind that a file may define for itself.
 pub const OWN: u8 = 16;
 pub const LAST: u8 = 31;
 
-/// Of a record's length, checksum and kind.
+/// The length of a record's length, checksum and kind.
 pub const HEAD: usize = 9;
-/// Of whole marks, of the outbox and of the journal.
+/// Total lengths of a watermark record: in the outbox, and in the journal.
 pub const MARK_LENGTHS: [usize; 2] = [HEAD + 8, HEAD + 24];
-/// The most bytes of a record with its kind. None is written that is longer: what of an outbox may be is in several.
+/// The most bytes that a record may have, with its kind. An outbox spreads longer things over several records.
 pub const LARGEST: usize = if cfg!(test) { 4 << 20 } else { 2 << 30 };
 const MAGIC: &[u8; 8] = b"totxegun";
-/// Which file it is.
+/// The kind of file.
 #[derive(Clone, Copy, Debug, PartialEq, Eq)]
 pub enum Which {
     Journal = 1,
     Outbox = 2,
-    /// Of the journal, the posts of a quarantined sender.
+    /// The posts of a quarantined sender, moved out of the journal.
     Held = 3,
 }
 
-/// Of the records and of what is in them, in each file.
+/// The version of the record format and of all record contents.
 const VERSION: u16 = 1;
 
-/// Appends a record made of parts.
+/// Appends a record made of the parts in sequence.
 pub fn put(out: &mut Vec<u8>, kind: u8, parts: &[&[u8]]) {
     let length = 1 + parts.iter().map(|part| part.len()).sum::<usize>();
     let mut sum = crc32fast::Hasher::new();
@@ -58,7 +60,7 @@ pub fn header(which: Which, number: u64) -> Vec<u8> {
     out
 }
 
-/// The length that a head tells of a record, with the head; `None` where there is none of that length.
+/// The length of the record with its head; none if no record has that length.
 pub fn whole_length(head: &[u8; HEAD]) -> Option<usize> {
     let length = u32::from_le_bytes([head[0], head[1], head[2], head[3]]) as usize;
     (1..=LARGEST).contains(&length).then_some(8 + length)
@@ -78,7 +80,7 @@ pub fn take_number(bytes: &mut &[u8]) -> Option<u64> {
     Some(u64::from_le_bytes(*number))
 }
 
-/// What comes next in a file.
+/// What a reader finds next in a file.
 #[derive(Debug, PartialEq, Eq)]
 pub enum Next {
     Record {
@@ -92,25 +94,25 @@ pub enum Next {
     Stop,
 }
 
-/// Reads the records of a file one after the other.
+/// Reads the records of a file in order.
 pub struct Reader {
     file: BufReader<Cursor>,
     pub path: PathBuf,
-    /// Where the next record begins.
+    /// The offset of the next record.
     pub at: u64,
-    /// All before it was durable once, by the marks that were passed; where there is one, so was all that was written before
-    /// the file.
+    /// Everything before this offset was durable, by the watermarks read so far. If it is not 0, so was everything that
+    /// was written before this file.
     pub durable: u64,
-    /// So long was the file once, and durably, by its marks.
+    /// The length that the file had durably, by its watermarks.
     pub made: u64,
-    /// A mark says that the journal's segments before this one are in groups, and may be deleted.
+    /// The journal's segments before this one are committed to the outbox and may be deleted, by the watermarks.
     pub forgotten: u64,
-    /// Where the file ends for this reader.
+    /// The offset at which this reader stops.
     end: u64,
 }
 
 impl Reader {
-    /// Reads up to `end`, where the file is still written, and checks the header.
+    /// Checks the header, and reads up to `end` if the file is still being written.
     pub fn open(
         disk: &Disk,
         path: &Path,
@@ -126,7 +128,7 @@ impl Reader {
         Ok((reader, first))
     }
 
-    /// From a place on, so many bytes at a time.
+    /// Starts at `at` and buffers `piece` bytes.
     fn from(disk: &Disk, path: &Path, at: u64, end: Option<u64>, piece: usize) -> Result<Reader, Fault> {
         let file = disk.open(path)?;
         let length = file.length().map_err(io_fault(path))?;
@@ -164,7 +166,7 @@ impl Reader {
         Fault::Damaged { path: self.path.clone(), at, what: what.into() }
     }
 
-    /// The next record that is no mark.
+    /// The next record that is no watermark.
     pub fn next(&mut self) -> Result<Next, Fault> {
         loop {
             let at = self.at;
@@ -190,7 +192,7 @@ impl Reader {
         self.forgotten = self.forgotten.max(take_number(&mut bytes).unwrap_or(0));
     }
 
-    /// `None` where no whole record begins.
+    /// None if no whole record begins here.
     fn read(&mut self) -> io::Result<Option<(u8, Vec<u8>)>> {
         let left = self.end.saturating_sub(self.at);
         if left < HEAD as u64 {
@@ -207,7 +209,7 @@ impl Reader {
         Ok(is_sound(&head, &bytes).then_some((head[8], bytes)))
     }
 
-    /// Goes on at another place.
+    /// Continues at another offset.
     pub fn seek(&mut self, at: u64) -> Result<(), Fault> {
         let here = self.file.stream_position().map_err(io_fault(&self.path))?;
         let by = at.wrapping_sub(here) as i64;
@@ -215,7 +217,7 @@ impl Reader {
         self.file.seek_relative(by).map_err(io_fault(&self.path))
     }
 
-    /// Passes over bytes; false where the file has not so many.
+    /// Skips bytes; false if the file has fewer.
     pub fn skip(&mut self, bytes: u64) -> Result<bool, Fault> {
         if bytes > self.end.saturating_sub(self.at) {
             return Ok(false);
@@ -225,7 +227,7 @@ impl Reader {
     }
 }
 
-/// Reads one record at a known place: its kind, bytes, and length in the file. `None` where it is not whole.
+/// Reads one record at a known offset: its kind, bytes, and length in the file. None if it is not whole.
 pub fn read_at(disk: &Disk, path: &Path, at: u64) -> Result<Option<(u8, Vec<u8>, u64)>, Fault> {
     let mut reader = Reader::from(disk, path, at, None, HEAD)?;
     let read = reader.read().map_err(io_fault(path))?;

@@ -1,4 +1,7 @@
-//! Segments: numbered files of a folder, of which the last is written. `dropped` keeps what a start leaves out of one.
+//! Segments: the numbered files of a journal or an outbox. Only the last one is written.
+//!
+//! `journal` and `outbox` call this module. Watermarks written into a segment say how much of it is durable, so that a
+//! start can tell a torn record from a changed one (`torn_tail`).
 
 mod dropped;
 
@@ -12,21 +15,21 @@ use std::sync::Arc;
 
 const PIECE: usize = 1 << 20;
 static ZEROS: [u8; PIECE] = [0; PIECE];
-/// So many zeros are written by one call. What one call has written the system may keep as one, and then looks through all of
-/// it at each write into it, and at each sync.
+/// How many zeros one call writes. A file system may keep what one call wrote as one extent, and then goes through all
+/// of it at each write into it and at each sync.
 const FILL: usize = 64 << 10;
-/// An eighth of what a file has, but no less and no more.
+/// Blocks to allocate ahead: an eighth of the file, within these bounds.
 const LEAST_BLOCKS: u64 = 64 << 10;
 const MOST_BLOCKS: u64 = 16 << 20;
 
-/// What is there of a file ahead of its records, and up to where.
+/// What a segment has ahead of its records, and up to which offset.
 #[derive(Clone, Copy, Debug)]
 pub enum Ahead {
     Nothing,
-    /// Blocks, behind the file's end. A write that needs none costs less, and does not wait for a sync, which else
-    /// gives blocks to what was written before, and locks the file meanwhile.
+    /// Allocated blocks beyond the file's end. A write into them is cheaper and need not wait for a running sync, which
+    /// otherwise allocates blocks for earlier writes and locks the file meanwhile.
     Blocks(u64),
-    /// Zeros, in one piece: a sync of what overwrites them changes no length and no block of the file, and so is one
+    /// Zeros without a gap. Overwriting them changes neither the length nor the blocks of the file, so a sync is one
     /// write to the disk.
     Zeros(u64),
 }
@@ -39,8 +42,8 @@ impl Ahead {
         }
     }
 
-    /// Makes what a write from `at` to `end` needs. Zeros go on half a piece ahead: so a mark says how long the file is, as a rule,
-    /// before a record needs that.
+    /// Prepares the file for a write from `at` to `end`. Zeros reach half a piece further, so that normally a watermark
+    /// records the file's length before a record needs it.
     fn make(&mut self, disk: &Disk, file: &File, path: &Path, at: u64, end: u64) -> Result<(), Fault> {
         match self {
             Ahead::Blocks(taken) if *taken < end => {
@@ -60,7 +63,7 @@ impl Ahead {
     }
 }
 
-/// What was appended and is in no file yet: for the one that writes it, with no lock of those that append.
+/// Appended records that are not in the file yet. The holder writes them without the lock that appenders need.
 pub struct Write {
     file: Arc<File>,
     path: PathBuf,
@@ -76,7 +79,7 @@ impl Write {
     }
 }
 
-/// The numbers of the segments of a folder, ascending.
+/// The numbers of a folder's segments, ascending.
 pub fn numbers(disk: &Disk, folder: &Path) -> Result<Vec<u64>, Fault> {
     let mut numbers = Vec::new();
     for name in disk.names(folder)? {
@@ -91,11 +94,10 @@ pub fn path(folder: &Path, number: u64) -> PathBuf {
     folder.join(format!("{number:012}.seg"))
 }
 
-/// Makes durable what an earlier process wrote, and may have been killed before it could. From the segment `first` on
-/// it may also have been told that it could not. Behind such a failure the system has in memory what the disk has not,
-/// and takes it for written: only what is written anew is brought to the disk. What was durable once, by a mark of the
-/// segment, is there still, but for what shares a block with a write that failed. What a drive has was durable before it was
-/// taken.
+/// Makes durable what an earlier process wrote before it was killed. In segments from `first` on, a write or sync may
+/// also have failed: after that, the kernel may hold pages that it believes to be written and the disk does not have,
+/// and only bytes that are written again reach the disk. Bytes that were durable by a watermark are still there, except
+/// those that share a block with a failed write. A shard store needs none of this: what a new owner reads is durable.
 pub fn settle(disk: &Disk, folder: &Path, first: u64, durable: impl Fn(u64) -> u64) -> Result<(), Fault> {
     if disk.keeps_order() {
         return Ok(());
@@ -109,7 +111,7 @@ pub fn settle(disk: &Disk, folder: &Path, first: u64, durable: impl Fn(u64) -> u
         };
         if is_doubtful {
             let from = durable(number) / PIECE as u64 * PIECE as u64;
-            // The same bytes at the same places. Zeros are what was there before.
+            // The same bytes at the same offsets. Zeros need no write: the file had zeros there before.
             each_piece(&file, &path, from, |at, piece| disk.write_at(&file, &path, piece, at))?;
         }
         disk.sync(&file, &path)?;
@@ -117,7 +119,7 @@ pub fn settle(disk: &Disk, folder: &Path, first: u64, durable: impl Fn(u64) -> u
     disk.sync_folder(folder)
 }
 
-/// Each piece from `at` on that is not all zeros, and where it begins.
+/// Calls `each` with every piece from `at` on that is not all zeros, and its offset.
 fn each_piece(
     file: &File,
     path: &Path,
@@ -138,7 +140,7 @@ fn each_piece(
     }
 }
 
-/// A missing segment between two that are there.
+/// Fails if a segment between two others is missing.
 pub fn check_row(folder: &Path, numbers: &[u64]) -> Result<(), Fault> {
     match numbers.windows(2).find(|two| two[1] != two[0] + 1) {
         None => Ok(()),
@@ -151,8 +153,8 @@ pub fn missing(folder: &Path, number: u64) -> Fault {
     Fault::Damaged { path: path(folder, number), at: 0, what: what.into() }
 }
 
-/// Closes the last segment of an earlier run at `at`. What was torn behind becomes zeros, and the file stays as long:
-/// one that is shorter than it was made is a fault.
+/// Closes the last segment of an earlier run at `at`. Torn bytes after that become zeros, and the file keeps its
+/// length: a file that is shorter than its watermarks say counts as damaged.
 pub fn close_at(disk: &Disk, path: &Path, at: u64) -> Result<(), Fault> {
     let file = disk.open_to_write(path)?;
     each_piece(&file, path, at, |at, piece| disk.write_at(&file, path, &ZEROS[..piece.len()], at))?;
@@ -168,39 +170,39 @@ fn mark(kind: u8, numbers: &[u64]) -> Vec<u8> {
     out
 }
 
-/// A segment that is written.
+/// A segment that is being written.
 pub struct Segment {
     disk: Disk,
     pub file: Arc<File>,
     pub path: PathBuf,
     pub number: u64,
-    /// Where the next record goes.
+    /// The offset of the next record.
     pub at: u64,
-    /// What is before that, and in the file with the next write.
+    /// Records before `at` that the next write puts into the file.
     unwritten: Vec<u8>,
     ahead: Ahead,
-    /// All before it is durable.
+    /// Everything before this offset is durable.
     durable: u64,
     marked: u64,
-    /// Where the last record ends that is no mark.
+    /// Where the last record ends that is no watermark.
     records: u64,
-    /// What marks say beside that.
+    /// What else watermarks say; none in the outbox.
     says: Option<Says>,
 }
 
-/// What the journal's marks say.
+/// The part of a watermark that only the journal has.
 #[derive(Clone, Copy)]
 pub struct Says {
-    /// So long is the file, durably.
+    /// The file has this length durably.
     pub length: u64,
-    /// Segments before it are in groups.
+    /// Segments before this one are committed to the outbox.
     pub forgotten: u64,
 }
 
 impl Segment {
-    /// Makes a segment that has its header alone, and no name yet. With a number of segments that are in groups its marks
-    /// say that, and how long it is, and the first mark is ahead of the header: so also a segment that was cut anywhere has
-    /// it. That mark holds once the segment is synced: it may have no name before.
+    /// Makes a segment that has only its header, under a draft name. If `forgotten` is given, watermarks also carry it
+    /// and the file's length, and one stands before the header: so the segment has one, wherever it is cut later. That
+    /// first watermark is true only after a sync, and the segment gets its name after that.
     pub fn create(
         disk: &Disk,
         folder: &Path,
@@ -233,7 +235,7 @@ impl Segment {
         Ok(made)
     }
 
-    /// Gives it its name; durable with the next sync of the folder.
+    /// Gives the segment its name, which the folder's next sync makes durable.
     pub fn name(&mut self) -> Result<(), Fault> {
         let path = self.path.with_extension("seg");
         self.disk.rename(&self.path, &path)?;
@@ -241,7 +243,7 @@ impl Segment {
         Ok(())
     }
 
-    /// How long the file was made, where it is longer than its records.
+    /// The length of the file if zeros were written ahead; else 0.
     pub fn length(&self) -> u64 {
         match self.ahead {
             Ahead::Zeros(filled) => filled,
@@ -256,7 +258,7 @@ impl Segment {
         }
     }
 
-    /// Writes records with one write: where it begins.
+    /// Writes records with one write and returns their offset.
     pub fn put(&mut self, bytes: &[u8]) -> Result<u64, Fault> {
         self.mark_before();
         self.make_ahead(self.at + bytes.len() as u64)?;
@@ -267,14 +269,14 @@ impl Segment {
         Ok(begin)
     }
 
-    /// Puts records behind the others, for the next write. The disk is not asked: that call has the lock of the book.
+    /// Queues records for the next write. It never touches the disk: the caller holds the lock of the book.
     pub fn append(&mut self, parts: &[&[u8]]) {
         self.mark_before();
         parts.iter().for_each(|part| self.unwritten.extend_from_slice(part));
         self.end_record(parts.iter().map(|part| part.len()).sum());
     }
 
-    /// A mark goes before what follows a sync.
+    /// Writes the watermark of the last sync before the records that follow it.
     fn mark_before(&mut self) {
         if self.durable > self.marked {
             self.append_mark();
@@ -286,7 +288,7 @@ impl Segment {
         self.records = self.at;
     }
 
-    /// Writes all that was appended.
+    /// Writes all queued records.
     pub fn write(&mut self) -> Result<(), Fault> {
         self.make_ahead(self.at)?;
         let begin = self.at - self.unwritten.len() as u64;
@@ -296,14 +298,14 @@ impl Segment {
         }
     }
 
-    /// The same for the one that writes it: an empty buffer becomes what was appended.
+    /// Hands the queued records over, in exchange for an empty buffer, to a thread that writes them without the lock.
     pub fn give_unwritten(&mut self, buffer: &mut Vec<u8>) -> Write {
         std::mem::swap(&mut self.unwritten, buffer);
         let at = self.at - buffer.len() as u64;
         Write { file: self.file.clone(), path: self.path.clone(), at, ahead: self.ahead }
     }
 
-    /// What was made by that write.
+    /// Takes over what a `Write` has prepared ahead.
     pub fn has_ahead(&mut self, ahead: Ahead) {
         self.ahead = ahead;
     }
@@ -320,12 +322,12 @@ impl Segment {
         self.write()
     }
 
-    /// Whether its last record is durable, and no mark says so.
+    /// Whether the last record is durable and no watermark says so.
     pub fn needs_mark(&self) -> bool {
         self.records > self.marked && self.durable >= self.records
     }
 
-    /// Marks the last record too: else a change of it can't be told from a record that was torn.
+    /// Writes a watermark after the last record: without it, a change of that record looks like a torn write.
     pub fn mark_last(&mut self) -> Result<(), Fault> {
         match self.needs_mark() {
             true => self.put_mark(),
@@ -333,7 +335,7 @@ impl Segment {
         }
     }
 
-    /// Says that the journal's segments before this one are in groups.
+    /// Records that the journal's segments before this one are committed to the outbox.
     pub fn say_forgotten(&mut self, before: u64) -> Result<(), Fault> {
         match &mut self.says {
             Some(says) if says.forgotten < before => {
@@ -344,12 +346,12 @@ impl Segment {
         }
     }
 
-    /// Up to which segment it says that.
+    /// The segment up to which it has recorded that.
     pub fn forgotten(&self) -> u64 {
         self.says.map_or(0, |says| says.forgotten)
     }
 
-    /// Before a write up to `end` by a call that may have the lock of the book. As a rule it is there.
+    /// Prepares a write up to `end`. Usually nothing is left to do: the caller may hold the lock of the book.
     fn make_ahead(&mut self, end: u64) -> Result<(), Fault> {
         match self.ahead.reaches(end) {
             true => Ok(()),
@@ -357,8 +359,8 @@ impl Segment {
         }
     }
 
-    /// Notes that all before a place is durable, and that the file is so long. A drive needs no mark of that: it has nothing
-    /// that is torn.
+    /// Notes that everything before `at` is durable, and the file's durable length. A shard store needs no watermarks:
+    /// it tears nothing.
     pub fn note_durable(&mut self, at: u64, length: u64) {
         if self.disk.keeps_order() {
             return;
@@ -369,7 +371,7 @@ impl Segment {
         }
     }
 
-    /// Makes all durable that was put, before anything that comes next.
+    /// A barrier: nothing that is written later becomes durable before these records.
     pub fn order(&mut self) -> Result<(), Fault> {
         self.disk.order(&self.file, &self.path)?;
         self.note_durable(self.at, self.length());

@@ -1,6 +1,6 @@
-//! Numbers for tests that try many orders of calls.
+//! Random numbers for tests that try many orders of calls.
 
-/// A small generator: the same numbers in each run.
+/// A small generator that gives the same numbers in each run.
 pub(crate) struct TestRandom(pub u64);
 
 impl TestRandom {

@@ -1,6 +1,6 @@
-//! How many runs a test makes that draws them.
+//! How many runs a randomised test makes.
 
-/// A sample, or all of them where `TOTXEGUN_TESTS` is `whole`, or as many as it says.
+/// The sample, or all runs if `TOTXEGUN_TESTS` is `whole`, or the number that it gives.
 pub(crate) fn runs(sample: u64, whole: u64) -> u64 {
     match std::env::var("TOTXEGUN_TESTS").as_deref() {
         Err(_) => sample,

@@ -1,11 +1,13 @@
-//! Texts in a row, in few bytes: most differ in little, so each is what it has beside the one before it.
+//! Delta-codes a sequence of texts that mostly differ in little. The journal writes definitions of series in this way,
+//! and the outbox keeps series keys so.
 //!
-//! Of each it is written with how many bytes of the one before it begins, with how many it ends behind these, how many are between,
-//! and these. Numbers are those of `journal/packed`.
+//! Each text is written as the number of bytes that it shares with the start of the previous text, the number that it
+//! shares with the end of the rest of that text, the length of its own bytes, and these bytes. Numbers are coded as in
+//! `journal/packed`.
 
 use super::journal::{put_number, take_number};
 
-/// Where a row is: behind this text.
+/// The previous text, against which the next one is coded.
 #[derive(Default)]
 pub struct TextRow(Vec<u8>);
 
@@ -20,7 +22,7 @@ impl TextRow {
         self.0.extend_from_slice(text);
     }
 
-    /// Takes the next text off the front; none where there is no such text.
+    /// Takes the next text off the front; none if there is no valid one.
     pub fn take(&mut self, bytes: &mut &[u8]) -> Option<&[u8]> {
         let mut number = || usize::try_from(take_number(bytes)?).ok();
         let (begin, end, length) = (number()?, number()?, number()?);
@@ -31,7 +33,7 @@ impl TextRow {
     }
 }
 
-/// How many bytes both begin with, and how many both end with behind these.
+/// How many bytes two texts share at the start, and how many at the end of what follows that.
 pub fn shared_ends(one: &[u8], other: &[u8]) -> (usize, usize) {
     let steps = one.as_chunks::<STEP>().0.iter().zip(other.as_chunks().0);
     let begin = alike(steps) * STEP;
@@ -43,7 +45,7 @@ pub fn shared_ends(one: &[u8], other: &[u8]) -> (usize, usize) {
     (begin, end + alike(rest))
 }
 
-/// So many bytes are compared at once.
+/// How many bytes are compared at once.
 const STEP: usize = 16;
 
 fn alike<P: PartialEq>(pairs: impl Iterator<Item = (P, P)>) -> usize {
@@ -87,7 +89,7 @@ mod tests {
         assert_eq!(written(&[b"{\"k\":\"one\"}", b"{\"k\":\"two\"}"]), [first, second].concat());
     }
 
-    /// Of whatever length, as byte by byte.
+    /// For texts of all lengths, compared with a search byte by byte.
     #[test]
     fn what_two_share_is_counted_once() {
         let text = |length: usize, other: usize| {

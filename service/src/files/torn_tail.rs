@@ -1,9 +1,9 @@
-//! Whether a record that is not whole was torn by a crash, or changed since.
+//! Tells a torn record from a changed one.
 //!
-//! A crash tears only what was not durable: it cuts the end of the file, or leaves whole sectors of it as they were
-//! before, zeros. So a record is *changed* where a later mark says that it was durable; and where whole records
-//! follow, and no sector of it is zero up to the next of them. All else is torn, nobody was told that it is there,
-//! and it is cut.
+//! A crash tears only what was not durable: it cuts the end of the file, or leaves whole sectors with the zeros that
+//! they had before. So a record is *changed* if a later watermark says that it was durable, or if whole records follow
+//! it and none of its sectors up to the next record is zero. Any other broken record is *torn*: no sender was told that
+//! it is durable, and a start drops it. `journal` and `outbox` ask this before they drop anything.
 
 use super::disk::{io_fault, Disk};
 use super::records::{self, END, HEAD, HEADER, LAST, MARK, MARK_LENGTHS, OWN};
@@ -11,14 +11,14 @@ use super::Fault;
 use std::path::Path;
 
 const SECTOR: u64 = 512;
-/// How many bytes are summed up in search of whole records; marks are looked for everywhere.
+/// How many bytes it checksums in search of whole records. Watermarks are searched for in all of the file.
 const EFFORT: usize = 1 << 30;
 
 pub const CHANGED: &str =
     "a record was changed after it was written, and records follow it. Nothing was deleted: \
     put a copy of this file in its place, or move the folder away and start with a new one";
 
-/// Passes where what begins at `at` in the last file of its kind was torn.
+/// Fails if the bytes from `at` on, in the last file of its kind, were changed and not torn.
 pub fn check_torn(disk: &Disk, path: &Path, at: u64) -> Result<(), Fault> {
     let rest = disk.open(path)?.read_from(at).map_err(io_fault(path))?;
     if was_changed(at, &rest) {
@@ -51,7 +51,7 @@ fn was_changed(at: u64, rest: &[u8]) -> bool {
     first.is_some_and(|next| !has_lost_sector(at, &rest[..next]))
 }
 
-/// The kind and length of a whole record at the front.
+/// The kind and length of the whole record at the front.
 fn whole_record(bytes: &[u8], effort: &mut usize) -> Option<(u8, usize)> {
     let head = bytes.first_chunk::<HEAD>()?;
     let length = records::whole_length(head).filter(|length| *length <= bytes.len())?;

@@ -1,21 +1,22 @@
-//! What became of the last letters that are gone, in the file `gone` beside them: a line of JSON each. An instance may be lost
-//! with its answer, and whoever gives the order again is told by the next owner that it was carried out. So it is for a store
-//! alone: a folder's service answers itself, and what makes room on a full disk must not need any.
+//! Remembers what became of the last dead letters, in the file `gone` beside them, one JSON object a line. An instance
+//! may be fenced before it answers an operator; the next owner then tells whoever repeats the command that it was
+//! carried out. Only a store needs it: a folder's service answers for itself, and dropping a letter on a full disk must
+//! not need room.
 
 use super::{io_fault, Dead, Fault};
 use serde::{Deserialize, Serialize};
 use std::io;
 use std::path::PathBuf;
 
-/// No letter's.
+/// Not the name of a letter.
 const NAME: &str = "gone";
-/// So many are remembered.
+/// How many are remembered.
 pub(super) const MOST: usize = 256;
 
-/// What became of a letter.
+/// What became of a dead letter.
 #[derive(Clone, Debug, PartialEq, Eq, Serialize, Deserialize)]
 pub enum Became {
-    /// An operator has thrown it away.
+    /// An operator dropped it.
     Dropped,
     /// The sink has it.
     Taken,
@@ -34,7 +35,7 @@ impl Dead {
         self.folder.join(NAME)
     }
 
-    /// Before it is removed, under the lock of what is known: so it is never gone without this.
+    /// Called with the lock held, before the letter is removed: so none is gone without a record.
     pub(super) fn note_gone(&self, key: &str, became: Became) -> Result<(), Fault> {
         if !self.disk.keeps_order() {
             return Ok(());
@@ -50,13 +51,13 @@ impl Dead {
         self.disk.put_file(&path, &bytes)
     }
 
-    /// What became of the letter of a key that there is none of, as far as it is remembered.
+    /// What became of the letter with this key, if that is remembered.
     pub fn became(&self, key: &str) -> Result<Option<Became>, Fault> {
         let found = self.all_gone()?.into_iter().find(|gone| gone.key == key);
         Ok(found.map(|gone| gone.became))
     }
 
-    /// What a later version says more is left out.
+    /// Lines that can't be parsed, such as a later version's, are skipped.
     fn all_gone(&self) -> Result<Vec<Gone>, Fault> {
         let path = self.gone_path();
         let Some(file) = self.disk.find(&path)? else {

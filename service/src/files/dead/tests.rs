@@ -1,4 +1,4 @@
-//! Letters: kept once, each in its place, and none over another.
+//! Each dead letter is kept once, and none replaces another one.
 
 use super::*;
 use crate::files::disk::Call;
@@ -32,7 +32,7 @@ fn a_request_is_kept_once_and_comes_back_as_it_was() {
     assert_eq!((dead.count(), dead.body("0-e-1").unwrap()), (1, None));
 }
 
-/// A letter is not packed, as the outbox is: it takes more than what its end gives back.
+/// Letters are not packed, unlike the outbox: one takes more room than its delivery frees.
 #[test]
 fn letters_do_not_use_up_the_disk() {
     let folder = tempfile::tempdir().unwrap();
@@ -45,7 +45,7 @@ fn letters_do_not_use_up_the_disk() {
     std::thread::sleep(std::time::Duration::from_millis(120));
     assert!(!dead.keep_in_room("0-e-2", "400", b"body").unwrap());
     assert_eq!(open(folder.path()).count(), 1);
-    dead.keep("0-e-2", "400", b"body").unwrap(); // by an operator, who makes room by it
+    dead.keep("0-e-2", "400", b"body").unwrap(); // an operator's command, which makes room in the end
     assert_eq!(dead.count(), 2);
 }
 
@@ -95,7 +95,7 @@ fn a_changed_letter_is_named() {
     assert!(dead.end("k", Became::Dropped).unwrap());
 }
 
-/// A slot's files were put back over themselves, and its keys come again.
+/// The files of a shard were restored over themselves, and its keys are used again.
 #[test]
 fn another_request_under_the_same_key_is_kept_beside_the_first() {
     let folder = tempfile::tempdir().unwrap();
@@ -113,7 +113,7 @@ fn another_request_under_the_same_key_is_kept_beside_the_first() {
     let listed: Vec<String> = dead.list().unwrap().into_iter().map(|letter| letter.key).collect();
     assert!(listed.contains(&"0-e-1_2".to_string()), "{listed:?}");
 
-    // A name that is free again is taken again, and no body is kept twice.
+    // A free name is used again, and no body is kept twice.
     assert!(dead.end("0-e-1", Became::Dropped).unwrap());
     dead.keep("0-e-1", "400", b"two").unwrap();
     assert_eq!(dead.count(), 4);
@@ -149,7 +149,7 @@ fn a_letter_that_was_changed_is_left_and_hides_none() {
     assert!(folder.path().join("0-e-1.json").exists());
 }
 
-/// Root's own copy of a letter, or a file that a disk does not read any more.
+/// A copy that root made of a letter, or a file that the disk can no longer read.
 #[test]
 fn a_letter_that_can_not_be_read_hides_no_other() {
     let folder = tempfile::tempdir().unwrap();
@@ -162,7 +162,7 @@ fn a_letter_that_can_not_be_read_hides_no_other() {
     assert!(of("l").reason.contains("l.json: Is a directory"), "{}", of("l").reason);
 }
 
-/// As each text of a damaged one says: it is moved out, and a copy is put in its place.
+/// As the error of a damaged letter says: the letter is moved out, and a copy is put in its place.
 #[test]
 fn letters_that_are_moved_by_hand_are_counted_as_they_are() {
     let folder = tempfile::tempdir().unwrap();
@@ -179,7 +179,7 @@ fn letters_that_are_moved_by_hand_are_counted_as_they_are() {
     assert_eq!((dead.list().unwrap(), dead.count()), (vec![], 0));
 }
 
-/// Where an order is given again, since the instance that carried it out was lost before it answered.
+/// If an operator repeats a command because the instance that carried it out was fenced before it answered.
 #[test]
 fn what_became_of_letters_is_known_to_the_next_owner_of_a_slot() {
     let store = Arc::<Store>::default();
@@ -204,7 +204,7 @@ fn what_became_of_letters_is_known_to_the_next_owner_of_a_slot() {
         assert_eq!(dead.became(key).unwrap(), wanted, "{key}");
         assert!(!dead.end(key, Became::Dropped).unwrap());
     }
-    // It comes again, and goes otherwise; and the last ones alone are remembered.
+    // The request comes again and is delivered this time; and only the last entries are remembered.
     dead.keep("0-e-1", "400", b"body").unwrap();
     assert!(dead.end("0-e-1", Became::Taken).unwrap());
     assert_eq!(dead.became("0-e-1").unwrap(), Some(Became::Taken));
@@ -220,7 +220,7 @@ fn what_became_of_letters_is_known_to_the_next_owner_of_a_slot() {
     );
 }
 
-/// Killed between them, it is there and may be thrown away again.
+/// If the process is killed between the two, the letter is still there and can be dropped again.
 #[test]
 fn no_letter_of_a_slot_is_gone_without_what_became_of_it() {
     let (store, fails) = (Arc::<Store>::default(), Arc::new(AtomicU64::new(0)));
@@ -251,7 +251,7 @@ fn no_letter_of_a_slot_is_gone_without_what_became_of_it() {
     }
 }
 
-/// A request is let go with each delivery as long as there is any letter, and there may be many.
+/// While there is any letter, each delivery checks for one to remove, and there may be many letters.
 #[test]
 fn the_folder_is_listed_once_however_many_letters_come_and_go() {
     let (store, lists) = (Arc::<Store>::default(), Arc::new(AtomicU64::new(0)));
@@ -270,14 +270,14 @@ fn the_folder_is_listed_once_however_many_letters_come_and_go() {
     assert_eq!(dead.list().unwrap().len(), 19);
 }
 
-/// In a folder who moves them out by hand is seen with the next delivery.
+/// In a folder, the next delivery notices that letters were moved out by hand.
 #[test]
 fn letters_that_are_moved_out_are_counted_no_more_also_where_nobody_lists_them() {
     let folder = tempfile::tempdir().unwrap();
     let dead = open(folder.path());
     dead.keep("k", "400", b"body").unwrap();
     dead.keep("l", "400", b"body").unwrap();
-    std::thread::sleep(std::time::Duration::from_millis(20)); // a folder's time is that of a tick
+    std::thread::sleep(std::time::Duration::from_millis(20)); // the folder's time changes only with the clock's ticks
     std::fs::rename(folder.path().join("k.json"), folder.path().join("k.copy")).unwrap();
     dead.let_go("m", b"body").unwrap();
     assert_eq!(dead.count(), 1);

@@ -1,18 +1,18 @@
-//! A file of a folder, or of a drive.
+//! A file in a folder or in a shard store.
 
 use super::owned::Owned;
 use std::io::{self, ErrorKind, Read, Seek, SeekFrom};
 use std::os::unix::fs::FileExt;
 use std::sync::Arc;
 
-/// It has no place of its own: who reads says where.
+/// It has no position: each read says where it begins.
 pub enum File {
     OfFolder(std::fs::File),
     OfDrive(Arc<Owned>, u64),
 }
 
 impl File {
-    /// How many bytes were read, 0 at the end alone.
+    /// Returns how many bytes were read: 0 only at the end of the file.
     pub fn read_at(&self, bytes: &mut [u8], at: u64) -> io::Result<usize> {
         match self {
             File::OfFolder(file) => file.read_at(bytes, at),
@@ -39,7 +39,7 @@ impl File {
         Ok(())
     }
 
-    /// All behind a place.
+    /// The bytes from `at` to the end.
     pub fn read_from(&self, at: u64) -> io::Result<Vec<u8>> {
         let left = self.length()?.saturating_sub(at);
         let mut bytes = vec![0; left as usize];
@@ -48,7 +48,7 @@ impl File {
     }
 }
 
-/// A file that is read from a place on.
+/// Reads a file from `at` on, for `std::io`.
 pub struct Cursor {
     pub file: File,
     pub at: u64,

@@ -1,4 +1,5 @@
-//! A drive that this instance has, until it is lost.
+//! A shard store while this instance owns it; `disk` makes each call through it. After it is fenced, no call reaches
+//! the store.
 
 use crate::files::drive::{is_lost, lost, Drive, Lost};
 use crate::latch::Latch;
@@ -11,17 +12,17 @@ use tokio::sync::watch;
 
 pub struct Owned {
     drive: Arc<dyn Drive>,
-    /// So many changes are durable.
+    /// How many changes are durable.
     durable: AtomicU64,
-    /// When the call began that last found that it is this instance's.
+    /// When the last successful sync began: it proved that we owned the shard then.
     ours: Mutex<Instant>,
     lost: watch::Sender<bool>,
-    /// Why it was closed, where another instance has not taken it.
+    /// Why we closed it; none if another instance took it.
     failure: OnceLock<String>,
 }
 
 impl Owned {
-    /// Of a drive that was taken just now.
+    /// For a shard that was just taken.
     pub fn new(drive: Arc<dyn Drive>) -> Owned {
         Owned {
             drive,
@@ -32,7 +33,7 @@ impl Owned {
         }
     }
 
-    /// Once it is lost no call reaches the drive.
+    /// Calls the store, unless the shard is fenced.
     pub fn call<T>(&self, does: impl FnOnce(&dyn Drive) -> io::Result<T>) -> io::Result<T> {
         if self.is_lost() {
             return Err(lost());
@@ -59,7 +60,7 @@ impl Owned {
     pub fn sync(&self) -> io::Result<()> {
         let began = Instant::now();
         let durable = self.call(|drive| drive.sync())?;
-        // What was changed since it was closed never reached the drive, and may be among these.
+        // Changes made after `close` never reached the store, though `durable` may count them.
         if self.is_lost() {
             return Err(lost());
         }
@@ -69,7 +70,7 @@ impl Owned {
         Ok(())
     }
 
-    /// No call reaches the drive any more, as where it is lost.
+    /// Ends the shard as if it were fenced.
     pub fn close(&self, why: &str) {
         if !self.is_lost() {
             self.failure.get_or_init(|| why.into());
@@ -81,12 +82,12 @@ impl Owned {
         self.failure.get().map(String::as_str)
     }
 
-    /// Whether there is something to sync.
+    /// Whether there are changes to sync.
     pub fn is_behind(&self) -> bool {
         self.durable() < self.changes() && !self.is_lost()
     }
 
-    /// How long ago it was certainly this instance's.
+    /// How long ago a sync last proved that we own the shard.
     pub fn ours_before(&self) -> Duration {
         locked(&self.ours).elapsed()
     }

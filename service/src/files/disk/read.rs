@@ -1,4 +1,4 @@
-//! What is read of a disk.
+//! Calls that read the disk.
 
 use super::{io_fault, Disk, File};
 use crate::files::Fault;
@@ -20,12 +20,12 @@ impl Disk {
         names.map_err(io_fault(folder))
     }
 
-    /// For who reads alone.
+    /// Opens a file for reading only.
     pub fn open(&self, path: &Path) -> Result<File, Fault> {
         self.open_with(path, OpenOptions::new().read(true)).map_err(io_fault(path))
     }
 
-    /// The same; none where there is none.
+    /// Opens a file for reading; none if there is none.
     pub fn find(&self, path: &Path) -> Result<Option<File>, Fault> {
         match self.open_with(path, OpenOptions::new().read(true)) {
             Err(error) if error.kind() == ErrorKind::NotFound => Ok(None),
@@ -47,7 +47,7 @@ impl Disk {
         }
     }
 
-    /// Whether there is one. Of a folder, where that can't be known there is none, and who makes it finds out.
+    /// Whether the file is there. In a folder, "no" may also mean that we can't see it: making the file then fails.
     pub fn has(&self, path: &Path) -> Result<bool, Fault> {
         match &self.drive {
             None => Ok(path.exists()),
@@ -55,7 +55,7 @@ impl Disk {
         }
     }
 
-    /// A file's length; none where there is none.
+    /// The length of a file; none if there is none.
     pub fn length(&self, path: &Path) -> Result<Option<u64>, Fault> {
         let length = match &self.drive {
             None => std::fs::metadata(path).map(|about| about.len()),
@@ -67,7 +67,7 @@ impl Disk {
         }
     }
 
-    /// When a file was written last, where that is known.
+    /// When the file was last written, if that is known.
     pub fn written(&self, path: &Path) -> Option<SystemTime> {
         match &self.drive {
             None => std::fs::metadata(path).ok()?.modified().ok(),

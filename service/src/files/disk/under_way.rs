@@ -1,22 +1,22 @@
-//! The calls of a disk that are under way.
+//! Measures how long the calls of a disk take, so that a stall is noticed (`slot/disk_stall`).
 
 use std::sync::atomic::{AtomicU64, Ordering::Relaxed};
 use std::sync::LazyLock;
 use std::time::{Duration, Instant};
 
-/// Calls side by side: one writes, one syncs, one deletes, and one more.
+/// The calls that normally run at once: a write, a sync, a deletion, and one more. Further ones are not measured.
 const PLACES: usize = 4;
 static BEGAN: LazyLock<Instant> = LazyLock::new(Instant::now);
 
-/// No lock is needed to look at them: who has one may be in such a call.
+/// Start times of running calls. Reading them takes no lock, since the holder of a lock may be in a stalled call.
 #[derive(Default)]
 pub struct UnderWay([AtomicU64; PLACES]);
 
-/// A call that is under way until this is dropped.
+/// A running call; it ends when this is dropped.
 pub struct Noted<'a>(Option<&'a AtomicU64>);
 
 impl UnderWay {
-    /// In nanoseconds, and never 0.
+    /// Nanoseconds, never 0: a 0 in the array is a free place.
     fn now() -> u64 {
         1 + BEGAN.elapsed().as_nanos() as u64
     }

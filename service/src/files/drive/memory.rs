@@ -1,4 +1,4 @@
-//! A store in memory, for tests: a slot's files as they were last synced, and the term of its owner.
+//! A shard store in memory, for tests: the files of one shard as of the last sync, and its owner's term.
 
 use super::{lost, Drive};
 use crate::files::disk::UnderWay;
@@ -12,7 +12,7 @@ use std::time::Duration;
 
 type Bytes = Arc<Vec<u8>>;
 
-/// What outlives owners: who takes the slot has what was synced alone, and the one before is `Lost` at its next sync.
+/// What outlives owners. A new owner sees only what was synced; the one before it fails with `Lost` at its next sync.
 #[derive(Default)]
 pub(crate) struct Store(Mutex<Kept>);
 
@@ -22,7 +22,7 @@ struct Kept {
     files: BTreeMap<PathBuf, Bytes>,
 }
 
-/// A call, or a moment of one.
+/// A call of the store, or a moment within one.
 #[derive(Clone, Copy, Debug, PartialEq, Eq)]
 pub(crate) enum Step {
     Create,
@@ -33,27 +33,27 @@ pub(crate) enum Step {
     Write,
     Rename,
     Remove,
-    /// Before a sync is a commit.
+    /// A sync has begun and is not committed yet.
     Sync,
-    /// It is one, and its answer may be lost.
+    /// The sync is committed, and its answer may still get lost.
     Committed,
 }
 
-/// Asked before each step, by a test that takes the slot, lets a call fail, or stalls it.
+/// A test's hook, called before each step: it may take the shard, let the call fail, or block.
 type Hook = dyn Fn(Step) -> io::Result<()> + Send + Sync;
 
-/// The slot's drive, for one term.
+/// The shard's files, as one owner has them under its term.
 pub(crate) struct Owner {
     store: Arc<Store>,
     term: u64,
     hook: Box<Hook>,
     view: Mutex<View>,
-    /// One at a time: an older view must not take the place of a later one.
+    /// Held for a whole sync, so that an older view never replaces a later one.
     syncing: Mutex<()>,
     waiting: UnderWay,
 }
 
-/// The files as this owner has left them.
+/// The files with this owner's changes, synced or not.
 #[derive(Default)]
 struct View {
     names: BTreeMap<PathBuf, u64>,
@@ -87,12 +87,12 @@ impl Store {
         })
     }
 
-    /// What the next owner has.
+    /// The names that the next owner will find.
     pub fn names(&self) -> Vec<PathBuf> {
         locked(&self.0).files.keys().cloned().collect()
     }
 
-    /// Changes what the next owner has of a file; it has none that is empty then.
+    /// Changes a file as the next owner will find it, and removes it if the change empties it.
     pub fn change(&self, name: &Path, change: impl FnOnce(&mut Vec<u8>)) {
         let mut kept = locked(&self.0);
         let bytes = Arc::make_mut(kept.files.get_mut(name).unwrap());
@@ -183,7 +183,7 @@ impl Drive for Owner {
         let mut view = locked(&self.view);
         let number = view.number(from)?;
         view.changes += 1;
-        let _ = view.remove(to); // where there is none nothing is replaced
+        let _ = view.remove(to); // fails if `to` is a new name
         view.names.remove(from);
         view.names.insert(to.into(), number);
         Ok(())

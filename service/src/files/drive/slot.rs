@@ -1,4 +1,6 @@
-//! A slot whose files a drive has.
+//! Opens a shard whose files a shard store keeps; `files/folder` does the same for a folder.
+//!
+//! `store/postgres/drive` calls it after each takeover. A shard that has had files never starts empty.
 
 use super::Drive;
 use crate::files::disk::Disk;
@@ -11,8 +13,9 @@ use std::sync::Arc;
 const PUT_BACK: &str =
     "put all of the slot's files back, or end all instances and call `totxegun store restored`";
 
-/// Opens the files of a slot that was taken just now. What its owner makes has keys of the drive's epoch, which goes on from
-/// earlier ones, and in the beginning from the store's, `root`; without one, of that.
+/// Opens the files of a shard that was just taken. The keys of new requests have this owner's epoch. It continues the
+/// previous owner's epoch, and the first one continues the store's, `root`. If the store draws no epochs, the keys have
+/// `root`.
 pub fn open(drive: Arc<dyn Drive>, root: &str) -> Result<(Journal, Outbox, Dead), Fault> {
     let (delivered, had_files, epoch) = (drive.delivered(), drive.had_files(), drive.epoch());
     let disk = Disk::of_drive(drive);
@@ -31,7 +34,7 @@ pub fn open(drive: Arc<dyn Drive>, root: &str) -> Result<(Journal, Outbox, Dead)
     let reach = outbox.journal();
     let expected = Expected {
         reach,
-        // The first commit of a slot has both, and each later one has the segment that it names.
+        // The first commit of a shard has both files, and each later commit has the segment that it names.
         begun: (!is_new).then_some(reach),
         by: outbox.ended(),
     };
@@ -41,7 +44,7 @@ pub fn open(drive: Arc<dyn Drive>, root: &str) -> Result<(Journal, Outbox, Dead)
     Ok((journal, outbox, dead))
 }
 
-/// A slot that had an outbox before would begin with nothing, and nobody would be told what is lost.
+/// Refuses to start a shard empty if anything shows that it had an outbox: its posts would be lost silently.
 fn check_new(
     disk: &Disk,
     outbox: &Path,

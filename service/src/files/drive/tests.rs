@@ -1,4 +1,4 @@
-//! The files of a slot over a drive: what the next owner has of them, who waits, and who is told that it is lost.
+//! A shard over a shard store: what the next owner finds, which calls block, and who learns that the shard is fenced.
 
 use super::memory::{Owner, Step, Store};
 use super::*;
@@ -33,7 +33,7 @@ fn texts(journal: &Journal, first: u64) -> Vec<String> {
     texts
 }
 
-/// A request as the book forwards it.
+/// A request as the book writes it.
 fn request(end: u64) -> Vec<u8> {
     format!(
         r#"{{"resourceMetrics":[{{"resource":{{"attributes":[]}},"scopeMetrics":[{{"scope":{{"name":"","version":"","attributes":[]}},"metrics":[{{"name":"a","unit":"","sum":{{"aggregationTemporality":1,"isMonotonic":false,"dataPoints":[{{"attributes":[],"startTimeUnixNano":"{}","timeUnixNano":"{end}","asInt":"1"}}]}}}}]}}]}}]}}"#,
@@ -98,7 +98,7 @@ fn nothing_is_written_ahead_and_owners_that_end_at_once_leave_no_file() {
     }
 }
 
-/// A commit is one transaction, and none is waited for before it: who calls these may have the book's lock.
+/// Nothing before the commit may block: the callers of these steps may hold the lock of the book.
 #[test]
 fn a_checkpoint_is_one_sync() {
     let store = Arc::new(Store::default());
@@ -124,7 +124,8 @@ fn a_checkpoint_is_one_sync() {
     assert_eq!(texts(&journal, outbox.journal()), ["two"; 3]);
 }
 
-/// An instance that was stopped finds so that it has the slot no more; a sink that forgets keys would count twice.
+/// A process that was suspended must not deliver before a sync proves that it still owns the shard: a sink that has
+/// dropped old keys would count the request twice.
 #[test]
 fn nothing_is_delivered_where_it_is_not_known_whose_the_slot_is() {
     let store = Arc::new(Store::default());
@@ -142,7 +143,8 @@ fn nothing_is_delivered_where_it_is_not_known_whose_the_slot_is() {
     assert!(matches!(outbox.settle(), Err(Fault::Lost(_))));
 }
 
-/// What a refusal rests on may be another's since: only a commit that begins later says that it is not.
+/// A refusal rests on the shard's state, which another owner may have changed: only a commit that begins later proves
+/// that we still own the shard.
 #[tokio::test]
 async fn a_refusal_waits_for_a_sync_of_its_own() {
     let store = Arc::new(Store::default());
@@ -156,7 +158,7 @@ async fn a_refusal_waits_for_a_sync_of_its_own() {
     assert_eq!(journal.durable(journal.now()).await, Err(Lost));
 }
 
-/// Else it would wait for another one.
+/// Otherwise the later post would wait for a second sync.
 #[tokio::test]
 async fn what_is_appended_before_a_commit_begins_is_in_it() {
     let (store, opened) = (Arc::new(Store::default()), Arc::new(std::sync::OnceLock::<Arc<Journal>>::new()));
@@ -183,7 +185,7 @@ async fn what_is_appended_before_a_commit_begins_is_in_it() {
     assert_eq!(texts(&journal, 1), ["one", "two"]);
 }
 
-/// As where its write was the only thing that changed since.
+/// Even if that write was the only change since the last sync.
 #[tokio::test]
 async fn a_post_that_a_lost_slot_could_not_write_is_never_durable() {
     let store = Arc::new(Store::default());
@@ -195,12 +197,12 @@ async fn a_post_that_a_lost_slot_could_not_write_is_never_durable() {
     });
     let (journal, outbox, _dead) = open_of(owner);
     append(&journal, "A", "one");
-    outbox.quarantine("B").unwrap(); // durable, with changes of its own
+    outbox.quarantine("B").unwrap(); // makes changes of its own durable
     fails.store(true, SeqCst);
     assert_eq!(journal.durable(append(&journal, "A", "two")).await, Err(Lost));
 }
 
-/// Its change is counted, though it reached nothing, and the commit that was under way ends well.
+/// The change is counted although the store never got it, and the sync that was running succeeds.
 #[tokio::test]
 async fn a_post_that_comes_after_a_close_within_a_commit_is_never_durable() {
     let (store, opened) = (Arc::new(Store::default()), Arc::new(std::sync::OnceLock::<Arc<Journal>>::new()));
@@ -222,7 +224,7 @@ async fn a_post_that_comes_after_a_close_within_a_commit_is_never_durable() {
     assert_eq!(journal.durable(ticket).await, Err(Lost));
 }
 
-/// Of a folder the process ends by it.
+/// In a folder the same failure ends the process.
 #[tokio::test]
 async fn a_drive_that_fails_ends_its_slot_alone_and_nothing_reaches_it_any_more() {
     let store = Arc::new(Store::default());
@@ -279,7 +281,7 @@ async fn all_who_wait_are_told_that_the_slot_is_lost() {
         assert_eq!(one.await.unwrap(), Err(Lost));
     }
     told.await.unwrap();
-    // What comes later is told so too, and no call reaches the drive.
+    // Later calls fail in the same way, and none reaches the store.
     let ticket = append(&journal, "A", "two");
     assert_eq!(journal.durable(ticket).await, Err(Lost));
     journal.turn();
@@ -291,7 +293,8 @@ async fn all_who_wait_are_told_that_the_slot_is_lost() {
     assert!(matches!(dead.keep("k", "", b""), Err(Fault::Lost(_))));
 }
 
-/// Nobody waits for an acknowledgement; but what is sent again for long is counted again by a sink that forgets keys.
+/// No caller waits for an acknowledgement. But a request that is sent again much later is counted again by a sink that
+/// has dropped its key.
 #[test]
 fn what_nobody_waits_for_is_durable_a_moment_later() {
     let store = Arc::new(Store::default());
@@ -302,7 +305,7 @@ fn what_nobody_waits_for_is_durable_a_moment_later() {
     let began = std::time::Instant::now();
     while open_of(store.take()).1.waiting().0 > 0 {
         assert!(began.elapsed() < Duration::from_secs(10), "it is never durable");
-        // Who looks takes the slot, so it is looked once.
+        // Each look takes the shard, so the test looks once a round.
         let (journal, outbox, _dead) = open_of(store.take());
         if outbox.waiting().0 > 0 {
             outbox.acknowledge(1).unwrap();
@@ -312,7 +315,7 @@ fn what_nobody_waits_for_is_durable_a_moment_later() {
     }
 }
 
-/// Where a move was durable and its commit was not, the next owner moves the same posts to the same place.
+/// If the move was durable and the commit was not, the next owner moves the same posts to the same offset.
 #[test]
 fn posts_that_were_moved_before_a_commit_that_did_not_come_are_held_once() {
     let store = Arc::new(Store::default());
@@ -343,7 +346,7 @@ fn posts_that_were_moved_before_a_commit_that_did_not_come_are_held_once() {
     );
 }
 
-/// A loss of power tears a folder's files, and a start goes on; but what a drive has is as it was written.
+/// A start tolerates torn files only in a folder, after a loss of power: a shard store never tears a file.
 #[test]
 fn what_was_cut_changed_or_removed_is_refused_by_name() {
     let opened = |change: &dyn Fn(&Store)| {

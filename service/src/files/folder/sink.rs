@@ -1,4 +1,4 @@
-//! Which sink the folder's requests go to.
+//! Remembers which sink gets the folder's requests, so that a start with another sink is noticed.
 
 use super::{locked, Fault, Folder};
 use serde::{Deserialize, Serialize};
@@ -7,14 +7,14 @@ use std::fmt::{Display, Formatter};
 /// How many digits of an id are shown.
 const SHOWN: usize = 8;
 
-/// A sink as a folder remembers it.
+/// A sink, as a folder remembers it.
 #[derive(Clone, Debug, PartialEq, Eq, Serialize, Deserialize)]
 pub struct KnownSink {
     /// `sqlite`, `postgres` or `otlp`.
     pub kind: String,
-    /// Without a secret, on one line.
+    /// Without a password, on one line.
     pub address: String,
-    /// What its schema keeps, once it was met.
+    /// The id in the sink's schema; none until the sink was first reached.
     pub id: Option<String>,
 }
 
@@ -35,8 +35,8 @@ impl KnownSink {
         self.kind == other.kind && self.address == other.address
     }
 
-    /// Whether this, which is remembered, is the one that was met. The id says so, wherever it is now; the address does
-    /// as long as no id is known.
+    /// Whether this remembered sink is the one that was reached. Its id decides, whatever the address is now; until an
+    /// id is known, the address does.
     pub fn is(&self, met: &KnownSink) -> bool {
         match &self.id {
             Some(_) => self.kind == met.kind && self.id == met.id,
@@ -44,12 +44,12 @@ impl KnownSink {
         }
     }
 
-    /// As a store has it.
+    /// The text that a store keeps.
     pub(crate) fn text(&self) -> serde_json::Result<String> {
         serde_json::to_string(self)
     }
 
-    /// Of such a text; none where it is empty.
+    /// Parses such a text; none if it is empty.
     pub(crate) fn of_text(text: &str) -> serde_json::Result<Option<KnownSink>> {
         match text {
             "" => Ok(None),
@@ -69,12 +69,12 @@ impl Display for KnownSink {
 }
 
 impl Folder {
-    /// The one that an earlier start has met; none in a new folder.
+    /// The sink that an earlier start has reached; none in a new folder.
     pub fn sink(&self) -> Option<KnownSink> {
         locked(&self.version).sink.clone()
     }
 
-    /// Durable, or not done, when this returns.
+    /// On success this is durable; on failure it is not done.
     pub fn set_sink(&self, sink: KnownSink) -> Result<(), Fault> {
         self.change(|version| version.sink = Some(sink))
     }

@@ -1,4 +1,4 @@
-//! Whose folder it is, and what an earlier run or a copy has left.
+//! Who has the folder, and what an earlier run or a copy has left in it.
 
 mod damage;
 mod rights;
@@ -11,7 +11,7 @@ fn open(path: &Path) -> Result<Folder, FolderFault> {
     Folder::open(path, Durability::Process)
 }
 
-/// Run by the next test in a process of its own.
+/// The next test runs this in a process of its own.
 #[test]
 #[ignore]
 fn has_a_folder() {
@@ -77,7 +77,7 @@ fn the_epoch_stays_until_the_folder_is_copied_or_it_is_renewed() {
     drop((folder, journal, outbox));
     let folder = open(&first).unwrap();
     assert_eq!(folder.epoch(), drawn);
-    // An inode that is free is soon used again, so the first folder stays while it is copied.
+    // The file system soon uses a free inode again, so the first folder stays while it is copied.
     let copied = std::process::Command::new("cp").arg("-a").args([&first, &second]).status().unwrap();
     assert!(copied.success());
     let copy = open(&second).unwrap();
@@ -89,7 +89,7 @@ fn the_epoch_stays_until_the_folder_is_copied_or_it_is_renewed() {
     assert_eq!(open(&first).unwrap().epoch(), renewed);
 }
 
-/// The lock's inode is free once the first folder is deleted, and another file system has the same numbers.
+/// After the first folder is deleted, its lock's inode is free; and another file system may use the same numbers.
 #[test]
 fn a_copy_whose_lock_has_the_same_inode_is_told_too() {
     let place = tempfile::tempdir().unwrap();
@@ -98,7 +98,7 @@ fn a_copy_whose_lock_has_the_same_inode_is_told_too() {
     let folder = open(place.path()).unwrap();
     let drawn = folder.epoch();
     let Some(born) = folder.identity().unwrap().born else {
-        return; // this file system does not know it
+        return; // this file system does not record birth times
     };
     drop(folder);
     let born = format!("\"born\":{born}");
@@ -108,7 +108,7 @@ fn a_copy_whose_lock_has_the_same_inode_is_told_too() {
     let copy = open(place.path()).unwrap();
     assert_ne!(copy.epoch(), drawn);
     assert!(text().contains(&born), "{}", text());
-    // Most file systems give this one's inode to the next file.
+    // Most file systems give this file's inode to the next file.
     let drawn = copy.epoch();
     drop(copy);
     std::fs::remove_file(place.path().join("lock")).unwrap();
@@ -131,7 +131,7 @@ fn a_folder_that_is_made_has_a_name_that_lasts() {
     let path = above.join("folder");
     for is_left in [false, true] {
         if is_left {
-            // As an earlier start has left it that ended behind making it.
+            // As left by an earlier start that ended right after making it.
             std::fs::remove_dir_all(&above).unwrap();
             std::fs::create_dir_all(&path).unwrap();
         }
@@ -187,7 +187,7 @@ fn the_journal_goes_on_behind_what_the_outbox_knows() {
     let (journal, outbox) = folder.slot().unwrap();
     outbox.commit(&[], 9).unwrap();
     drop((journal, outbox, folder));
-    // Its first start was killed before it had noted what it has begun.
+    // The first start was killed before it recorded the segment that it began.
     let version = place.path().join("version");
     let text = std::fs::read_to_string(&version).unwrap();
     std::fs::write(&version, text.replace("\"begun\":1", "\"begun\":null")).unwrap();

@@ -1,4 +1,5 @@
-//! Whether this user can have a folder: a fault here is none of the disk, and nothing is changed by it.
+//! Checks whether this user can use a folder, so that an operator's mistake is not reported as a disk fault. Changes
+//! nothing.
 
 use super::{io_fault, Disk, Fault, FolderFault};
 use nix::errno::Errno;
@@ -7,8 +8,8 @@ use std::io::ErrorKind;
 use std::os::unix::fs::MetadataExt;
 use std::path::Path;
 
-/// Passes where a start could use what is there, by this user's rights and what is a file and what a folder; where there is
-/// nothing yet, too. Changes nothing, and does not look at what files say.
+/// Passes if a start could use what is there, judged by this user's rights and by which names are files and which are
+/// folders. Passes too if there is nothing yet. Does not read the files.
 pub fn look_at(folder: &Path) -> Result<(), FolderFault> {
     match std::fs::metadata(folder) {
         Ok(about) if about.is_dir() => {}
@@ -32,7 +33,7 @@ pub fn look_at(folder: &Path) -> Result<(), FolderFault> {
     Ok(())
 }
 
-/// A file, or a folder with all in it.
+/// Checks a file, or a folder with everything in it.
 fn all_have_rights(path: &Path) -> Result<(), FolderFault> {
     has_rights(path)?;
     if path.is_dir() {
@@ -49,7 +50,7 @@ fn has_rights(path: &Path) -> Result<(), FolderFault> {
         wanted |= AccessFlags::X_OK;
     }
     match access(path, wanted) {
-        // Gone since it was listed.
+        // It may have been removed since it was listed.
         Ok(()) | Err(Errno::ENOENT) => Ok(()),
         Err(error) => Err(named(io_fault(path)(error.into()), path)),
     }
@@ -59,7 +60,7 @@ fn unusable(path: &Path, what: &str) -> FolderFault {
     FolderFault::Unusable { path: path.into(), what: what.into() }
 }
 
-/// What an operator can mend is said; all else is a fault of the disk.
+/// Gives a named error for what an operator can fix; anything else stays a disk fault.
 pub fn named(fault: Fault, folder: &Path) -> FolderFault {
     let Fault::Io { path, source } = fault else {
         return fault.into();

@@ -1,4 +1,4 @@
-//! What the file `version` says.
+//! The contents of the file `version`. `folder` replaces the whole file at each change.
 
 use super::{io_fault, Fault, FolderFault, KnownSink};
 use serde::{Deserialize, Serialize};
@@ -7,40 +7,40 @@ use std::os::unix::fs::MetadataExt;
 use std::path::Path;
 use std::time::UNIX_EPOCH;
 
-/// Of the folder: which files there are, and where.
+/// The version of the folder's layout: which files it has, and where.
 const VERSION: u32 = 1;
 const UNREADABLE: &str =
     "is no version of a folder of totxegun, or was changed: put a copy of this file in its place";
-/// How each version began when it was lines.
+/// The first bytes of each earlier version, which was lines of text.
 const LINES: &[u8] = b"totxegun ";
 const OF_LINES: &str =
     "is of an earlier build of totxegun, which wrote lines here, and this one reads JSON alone: start the totxegun that wrote it, or \
      give another --data";
 
-/// One object of JSON.
+/// One JSON object.
 #[derive(Clone, Serialize, Deserialize)]
 pub struct Version {
     totxegun: u32,
     pub epoch: String,
     pub lock: Identity,
-    /// The journal's segment that the last start has begun: so far the slot was made, durably.
+    /// The journal segment that the last start began: by then the shard's files were durable.
     pub begun: Option<u64>,
     pub sink: Option<KnownSink>,
-    /// The address of the store that has all of it, without a secret, on one line.
+    /// The address of the store that has all of the folder, without its password, on one line.
     pub moved: Option<String>,
 }
 
-/// Of any version.
+/// The part that each version of the file has.
 #[derive(Deserialize)]
 struct OfAny {
     totxegun: u32,
 }
 
-/// By which a file is told from its copies.
+/// Distinguishes a file from its copies.
 #[derive(Clone, Copy, Default, Serialize, Deserialize)]
 pub struct Identity {
     pub inode: u64,
-    /// In nanoseconds since 1970. No copy of a file gets it. None if the file system does not know it.
+    /// Nanoseconds since 1970; a copy of the file has another. None if the file system doesn't record birth times.
     pub born: Option<u64>,
 }
 

@@ -1,16 +1,16 @@
-//! What is known by numbers. Those of a file are from 0 on, and mostly follow each other: so it is in a list, but for what is far
-//! beyond all before.
+//! A map from numbers to values. The numbers of a file start at 0 and are mostly consecutive, so the values are in a
+//! list, except for numbers far above all others.
 
 use ahash::AHashMap;
 
-/// The list has so many places at least.
+/// The list may always grow to this length.
 const LEAST_NEAR: u64 = 1 << 10;
 
-/// Of each number something, which is the default until it is changed.
+/// A value for each number: the default until it is changed.
 #[derive(Default)]
 pub struct ByNumber<T> {
     near: Vec<T>,
-    /// What was far once stays here.
+    /// A number that was far once stays here.
     far: AHashMap<u64, T>,
 }
 
@@ -27,19 +27,19 @@ impl<T: Default> ByNumber<T> {
         &mut self.near[place]
     }
 
-    /// None where nothing of that number, nor of one behind it, was asked for.
+    /// None if neither this number nor a larger one in the list was asked for.
     pub fn get(&self, number: u64) -> Option<&T> {
         let near = || usize::try_from(number).ok().and_then(|place| self.near.get(place));
         self.far.get(&number).or_else(near)
     }
 }
 
-/// Numbers, a bit each.
+/// A set of numbers, one bit for each.
 #[derive(Default)]
 pub struct NumberSet(ByNumber<u64>);
 
 impl NumberSet {
-    /// Whether it was not there before.
+    /// Returns whether the number is new.
     pub fn insert(&mut self, number: u64) -> bool {
         let (bits, bit) = (self.0.of(number / 64), 1 << (number % 64));
         let is_new = *bits & bit == 0;
@@ -56,7 +56,7 @@ impl NumberSet {
 mod tests {
     use super::*;
 
-    /// Also one that was far once, and is said again.
+    /// Including a number that was far at first and is set again later.
     #[test]
     fn what_is_known_of_a_number_is_what_was_said_last() {
         let mut all = ByNumber::default();

@@ -1,5 +1,6 @@
-//! What the segments of an earlier run are, and what of them was changed since: a loss of power leaves only what was
-//! not durable otherwise than it was written.
+//! Reads the segments of an earlier run, and checks that nothing but a crash can have left them as they are.
+//!
+//! A loss of power changes only what was not durable. Any other difference is a fault, and nothing is deleted.
 
 use super::{held, record, Expected, Size, HELD};
 use crate::files::disk::Disk;
@@ -12,13 +13,13 @@ const NO_HEADER: &str =
     "has no header, and had one: it was changed, cut or emptied. Nothing was deleted: put a copy of \
                          this file in its place, or move the folder away and start with a new one";
 
-/// A segment that an earlier run left, as it was found.
+/// A segment of an earlier run, as it was found.
 pub(super) struct EarlierSegment {
     pub size: Size,
     /// Where its last whole record ends.
     pub end: u64,
     pub closed: bool,
-    /// All before it was durable once.
+    /// Everything before it was durable.
     pub durable: u64,
     has_header: bool,
     length: u64,
@@ -29,7 +30,7 @@ pub(super) struct EarlierSegment {
 
 pub(super) fn read(disk: &Disk, folder: &Path, number: u64) -> Result<EarlierSegment, Fault> {
     let path = segment::path(folder, number);
-    let length = disk.length(&path)?.unwrap_or(0); // where there is none, the reader says so
+    let length = disk.length(&path)?.unwrap_or(0); // if there is no file, the reader reports it
     let (mut reader, mut next) = Reader::open(disk, &path, Which::Journal, number, None)?;
     let has_header = matches!(next, Next::Record { .. });
     let mut size = Size { number, bytes: 0, first: None };
@@ -64,7 +65,7 @@ pub(super) fn read(disk: &Disk, folder: &Path, number: u64) -> Result<EarlierSeg
     }
 }
 
-/// Passes where what is there is what an end of the process or a loss of power may leave.
+/// Passes if the segments are as an end of the process or a loss of power may leave them.
 pub(super) fn check(
     disk: &Disk,
     folder: &Path,
@@ -75,7 +76,7 @@ pub(super) fn check(
     let reach = expected.reach.max(1);
     let mut needed: Vec<u64> = segments.iter().map(|one| one.size.number).collect();
     needed.retain(|number| *number >= reach);
-    // Each of them is there for good, up to the last one that is known.
+    // The names of these are durable, up to the last known one.
     let known = expected.begun.map_or(0, |begun| begun.max(reach));
     if let Some(missing) = (reach..=known).find(|number| !needed.contains(number)) {
         return Err(segment::missing(folder, missing));
@@ -89,7 +90,7 @@ pub(super) fn check(
     first.map_or(Ok(()), |first| held::check(disk, folder, &first.held))
 }
 
-/// An older outbox would have posts counted again that are in a group.
+/// With an older outbox, posts that are in a group would be counted again.
 fn is_not_behind(segments: &[EarlierSegment], expected: &Expected) -> Result<(), Fault> {
     let forgotten = segments.iter().map(|one| one.forgotten).max().unwrap_or(0);
     if forgotten <= expected.reach {
@@ -124,7 +125,7 @@ impl EarlierSegment {
             return damaged(path, length, what);
         }
         check_torn(disk, &path, self.end)?;
-        // Each start closes all that is there, durably, before it begins another.
+        // A start durably closes all segments that it finds before it begins another.
         match expected.begun.is_some_and(|begun| self.size.number < begun) {
             true => damaged(path, self.end, CHANGED.into()),
             false => Ok(()),

@@ -1,9 +1,10 @@
-//! Posts of quarantined senders: a checkpoint moves them out of the segments, each sender's into a file of its own,
-//! `SENDER.held`, once and as a stream.
+//! Parks the posts of quarantined senders: a checkpoint moves them out of the segments, once, into a file for each
+//! sender, `SENDER.held`.
 //!
-//! The file has a header, and the posts as the journal had them, with names of its own. How much of it counts is said by the segment from which
-//! posts are replayed, in one record: a move before a commit that does not come counts for nothing, since the segments
-//! still have these posts, and a sender whose points were flushed is in the next segment's record no more.
+//! The file has a header, and the posts as the journal had them, with its own definitions. One record in the segment
+//! where a replay begins says how much of the file counts. So a move without a commit after it counts for nothing,
+//! since the segments still have these posts; and once a sender's points are flushed, the next segment's record leaves
+//! it out.
 
 use super::reading::Each;
 use super::record::{self, Posts, Wanted};
@@ -18,7 +19,7 @@ use std::collections::{BTreeMap, BTreeSet, HashMap};
 use std::io;
 use std::path::{Path, PathBuf};
 
-/// Of each sender what counts of its file.
+/// For each sender, how much of its file counts.
 pub(super) type List = BTreeMap<String, Part>;
 
 #[derive(Clone, Copy, Debug, Default, PartialEq, Eq)]
@@ -27,7 +28,7 @@ pub(super) struct Part {
     end: u64,
 }
 
-/// What is held of quarantined senders, beside the segments.
+/// What is parked for quarantined senders.
 #[derive(Clone, Copy, Debug, Default, PartialEq, Eq, Serialize, Deserialize)]
 pub struct Held {
     pub senders: u64,
@@ -37,15 +38,16 @@ pub struct Held {
 
 pub(super) const NO_LIST: &str = "is no list that was written here";
 
-/// Files that are written side by side, and bytes that wait for a write.
+/// Limits on the files that are open at once, and on the bytes that wait for a write.
 const OPEN: usize = 64;
 const PIECE: usize = 256 << 10;
 
 impl Journal {
-    /// At a checkpoint, after the flush and the turn to `next`, and once all before it is durable: notes what is held of
-    /// these quarantined senders. Posts of theirs in the segments from `first` to before `next` are moved to their own
-    /// files; nothing is read where none has posted since it was moved. Of a sender that is quarantined no more nothing
-    /// is held. Durable before what comes next, and it counts once `next` is the first segment that is replayed.
+    /// Parks the posts of these quarantined senders. A checkpoint calls it after the flush and the roll to `next`, when
+    /// everything before `next` is durable. It moves their posts in the segments from `first` to before `next` to their
+    /// own files, and reads nothing if none of them has posted since the last move. Senders that were released are left
+    /// out. The result is durable before anything written later, and counts when `next` is the first segment to be
+    /// replayed.
     pub fn hold(&self, quarantined: &BTreeSet<String>, first: u64, next: u64) -> Result<(), Fault> {
         let shared = &*self.shared;
         let mut list = locked(&shared.held).get(&first).cloned().unwrap_or_default();
@@ -71,7 +73,7 @@ impl Journal {
         Ok(())
     }
 
-    /// What is held. Never waits for the disk.
+    /// What is parked. Never waits for the disk.
     pub fn held(&self) -> Held {
         let lists = locked(&self.shared.held);
         let mut held = Held::default();
@@ -83,14 +85,14 @@ impl Journal {
         held
     }
 
-    /// Whether something is held of a sender that is none of these: it was released, and the next flush takes it. So until
-    /// that is committed.
+    /// Whether posts are parked for a sender that is not in `quarantined`: it was released, and the next flush will
+    /// take them. True until that flush is committed.
     pub fn holds_of_others(&self, quarantined: &BTreeSet<String>) -> bool {
         let lists = locked(&self.shared.held);
         lists.values().flat_map(List::keys).any(|sender| !quarantined.contains(sender))
     }
 
-    /// Deletes the files of which nothing counts from this segment on.
+    /// Deletes the files that no segment from `before` on needs.
     pub(super) fn forget_held(&self, before: u64) -> Result<(), Fault> {
         let shared = &*self.shared;
         let wanted: BTreeSet<PathBuf> = {
@@ -110,7 +112,7 @@ impl Journal {
 }
 
 impl Shared {
-    /// In the segment `next`, which has to be the last.
+    /// Writes the record into the segment `next`, which has to be the last one.
     fn note_held(&self, next: u64, list: List) -> Result<(), Fault> {
         if list.is_empty() {
             return Ok(());
@@ -122,7 +124,7 @@ impl Shared {
         self.alone(|place| {
             if place.segment.number != next {
                 if self.disk.is_lost() {
-                    return Err(Lost.into()); // so no segment could be begun
+                    return Err(Lost.into()); // which is why no segment could be begun
                 }
                 let source =
                     io::Error::other("the journal turned while posts of quarantined senders were moved");
@@ -137,7 +139,7 @@ impl Shared {
         Ok(())
     }
 
-    /// Gives the posts that count: whether `each` wants more.
+    /// Passes the parked posts that count to `each`; returns whether it wants more.
     pub(super) fn held_posts(&self, list: &List, each: &mut Each) -> Result<bool, Fault> {
         for (sender, part) in list {
             if !self.held_posts_of(sender, part, each)? {
@@ -174,14 +176,14 @@ fn path(folder: &Path, sender: &str) -> PathBuf {
     folder.join(format!("{sender}.held"))
 }
 
-/// What a record says.
+/// Parses a record of parked posts.
 pub(super) fn list_of(bytes: &[u8]) -> Option<List> {
     let rows: Vec<(String, u64, u64)> = serde_json::from_slice(bytes).ok()?;
     let part = |(sender, posts, end)| (sender, Part { posts, end });
     Some(rows.into_iter().map(part).collect())
 }
 
-/// Passes where the files of the first segment's record are there, and as long.
+/// Passes if the files that the first segment lists are there and long enough.
 pub(super) fn check(disk: &Disk, folder: &Path, list: &List) -> Result<(), Fault> {
     for (sender, part) in list {
         let path = path(folder, sender);
@@ -199,13 +201,13 @@ pub(super) fn check(disk: &Disk, folder: &Path, list: &List) -> Result<(), Fault
     Ok(())
 }
 
-/// Posts on their way to their senders' files.
+/// Moves posts to their senders' files.
 struct Moving<'a> {
     shared: &'a Shared,
     list: &'a mut List,
     open: BTreeMap<String, Writer>,
     is_new: bool,
-    /// What numbers stand for where it reads: a text of each series that was posted to since the last checkpoint.
+    /// What numbers mean in the segments being read: a text for each series posted to since the last checkpoint.
     names: HashMap<u64, Bytes>,
 }
 
@@ -214,7 +216,7 @@ struct Writer {
     path: PathBuf,
     at: u64,
     waiting: Vec<u8>,
-    /// What numbers stand for in what this one wrote.
+    /// What numbers mean in the file so far.
     said: HashMap<u64, Bytes>,
     names: TextRow,
 }
@@ -248,7 +250,7 @@ impl<'a> Moving<'a> {
         Ok(())
     }
 
-    /// Behind what counts of a file. What is there of one of which nothing counts goes.
+    /// Continues after the part of the file that counts; a file of which nothing counts is replaced.
     fn writer(&mut self, sender: &str) -> Result<Writer, Fault> {
         let path = path(&self.shared.folder, sender);
         let disk = &self.shared.disk;
@@ -280,11 +282,12 @@ impl<'a> Moving<'a> {
 }
 
 impl Writer {
-    /// Numbers may stand for others than they did in an earlier segment, or an earlier run.
+    /// Defines the post's numbers again if they mean other series than they did in this file: they come from another
+    /// segment or run.
     fn say(&mut self, post: &Post, names: &HashMap<u64, Bytes>) {
         for number in post.numbers() {
             let Some(text) = names.get(&number) else {
-                continue; // what is read has names for all
+                continue; // the reader has definitions for all numbers
             };
             if self.said.get(&number) != Some(text) {
                 record::put_name(&mut self.waiting, &mut self.names, number, text);

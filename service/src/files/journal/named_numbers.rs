@@ -1,11 +1,14 @@
-//! Which names a segment has said.
+//! The series dictionary of the segment that is being written.
+//!
+//! `Journal::append` asks it before each post: a segment defines each series before the first points that use its
+//! number.
 
 use super::by_number::NumberSet;
 use super::post::{Names, Points};
 use super::record;
 use crate::files::text_row::TextRow;
 
-/// The numbers that a segment has named.
+/// The series numbers that the segment has defined. It starts anew when numbers do (`Names::generation`).
 #[derive(Default)]
 pub(super) struct NamedNumbers {
     generation: u64,
@@ -14,7 +17,7 @@ pub(super) struct NamedNumbers {
 }
 
 impl NamedNumbers {
-    /// Names that have to be ahead of these points, as records.
+    /// The definitions that these points still need, as records to write before them.
     pub fn say(&mut self, points: &Points, names: &dyn Names) -> Vec<u8> {
         if self.generation != names.generation() {
             self.generation = names.generation();

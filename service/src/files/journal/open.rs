@@ -1,4 +1,7 @@
-//! What an earlier run left in the journal.
+//! Opens the journal: reads what an earlier run left, closes it, and begins a new segment.
+//!
+//! `files/folder` and `files/drive/slot` call it at a start. A torn end is dropped, with a copy kept; anything else
+//! that is not as it was written is a fault, and nothing is deleted.
 
 use super::earlier_segment::{self, EarlierSegment};
 use super::{prepare, Expected, Journal, NamedNumbers, Place, Shared, Size, Watermark, SYNCER, WRITER};
@@ -17,20 +20,21 @@ use std::thread::JoinHandle;
 pub struct Left(Vec<EarlierSegment>);
 
 impl Left {
-    /// Changes nothing.
+    /// Reads the segments and changes nothing.
     pub(in crate::files) fn read(disk: &Disk, folder: &Path) -> Result<Left, Fault> {
         let numbers = segment::numbers(disk, folder)?.into_iter();
         numbers.map(|number| earlier_segment::read(disk, folder, number)).collect::<Result<_, _>>().map(Left)
     }
 
-    /// Whether there is any post, whether it is in a group or not.
+    /// Whether there is any post, in a group or not.
     pub fn has_posts(&self) -> bool {
         self.0.iter().any(|segment| segment.size.first.is_some())
     }
 }
 
 impl Journal {
-    /// Closes what an earlier run left, and begins a segment after it, of a number not before the first that counts.
+    /// Closes what an earlier run left and begins a new segment, numbered at least as the first segment that no group
+    /// has.
     pub(in crate::files) fn go_on(
         disk: &Disk,
         folder: &Path,
@@ -88,7 +92,7 @@ fn start(shared: &Arc<Shared>, name: &str, run: fn(Arc<Shared>)) -> Result<JoinH
     thread.map_err(io_fault(&shared.folder))
 }
 
-/// Segments that had no name yet.
+/// Removes segments that never got their names.
 fn remove_drafts(disk: &Disk, folder: &Path) -> Result<(), Fault> {
     for name in disk.names(folder)? {
         let path = folder.join(name);
@@ -99,10 +103,10 @@ fn remove_drafts(disk: &Disk, folder: &Path) -> Result<(), Fault> {
     Ok(())
 }
 
-/// Leaves out what a crash tore, and ends the last segment. What was left out.
+/// Drops what a crash tore, ends the last segment, and returns what was dropped.
 ///
-/// A segment is begun before the one before it is synced. So a power loss can tear a segment that is not the last;
-/// then nothing of the later ones was durable, nobody was told of it, and it goes with what was torn.
+/// A segment is begun before the previous one is synced, so a loss of power can tear a segment that is not the last.
+/// Then nothing in later segments was durable or answered, and they are dropped too.
 fn close(
     disk: &Disk,
     folder: &Path,
@@ -122,7 +126,7 @@ fn close(
     Ok((found, dropped))
 }
 
-/// Cuts the segment at this place, with what follows it.
+/// Cuts the torn segment at its last whole record, and drops the later ones.
 fn cut(
     disk: &Disk,
     folder: &Path,
@@ -147,8 +151,8 @@ fn cut(
         if bytes > 0 {
             dropped.extend(segment::keep_aside(disk, &path, 0)?);
         }
-        // Each before the next one, and all before the torn one looks whole: no name may come back behind one that does
-        // not, and what follows the torn one would count again.
+        // Delete from the last one, and before the torn segment is closed. Otherwise a loss of power could bring back a
+        // segment without the one before it, or after a torn one that now looks whole, and its posts would count again.
         remove(disk, folder, number)?;
     }
     if end == 0 {
@@ -160,8 +164,8 @@ fn cut(
     disk.order_folder(folder)
 }
 
-/// Which segment is begun: another one takes the place of a last one that has no post, and those that have none behind
-/// it are deleted. Starts that end at once would leave one each.
+/// Returns the number of the segment to begin. It replaces a last segment without posts, and deletes empty ones after
+/// that: otherwise each start that ends at once would leave one.
 fn drop_empty(
     disk: &Disk,
     folder: &Path,
@@ -178,7 +182,7 @@ fn drop_empty(
     Ok(replaced.map_or(behind.max(expected.reach), |last| last.size.number))
 }
 
-/// Durable when this returns: not every file system keeps the order of deletions over a loss of power.
+/// Durable when this returns: after a loss of power, not every file system has kept the order of deletions.
 fn remove(disk: &Disk, folder: &Path, number: u64) -> Result<(), Fault> {
     disk.remove(&segment::path(folder, number))?;
     disk.order_folder(folder)

@@ -1,39 +1,39 @@
-//! Points in few bytes. Of each, in this order:
+//! Codes points in few bytes, for the journal. Each point has these fields, in this order:
 //!
-//! | what | against |
+//! | field | written as a difference from |
 //! |---|---|
-//! | the number of its series | that of the point before, and one more; 0 for the first |
-//! | its end | that of the point before; 0 for the first |
-//! | its length, end less start | that of the point before; 0 for the first |
-//! | how many words it says | |
-//! | which of them are not 0: a byte for six, 32 and a bit each, the lowest first | |
-//! | those that are not 0 | |
+//! | the number of its series | the previous point's number plus one; 0 for the first point |
+//! | its end | the previous point's end; 0 for the first point |
+//! | its length, end minus start | the previous point's length; 0 for the first point |
+//! | how many values it has | |
+//! | which values are not 0: one byte for six values, 32 plus a bit each, the lowest first | |
+//! | the values that are not 0 | |
 //!
-//! A number is written by 7 bits a byte, the lowest first, 128 and these, until less than 96 is left: that is the last one,
-//! with 32. So no byte is the kind of a record, and points have no record in them, whatever a sender sends. Where a number
-//! may be negative, as a difference or a word, n is written as 2n, and -n as 2n-1. All wraps, so any 64 bits can be written.
-//! Points have one form alone.
+//! A number is written in groups of 7 bits, the lowest first, as 128 plus the group; when less than 96 is left, that is
+//! the last byte, plus 32. So no byte is the kind of a record, and points never contain a record, whatever a sender
+//! sends. Where a number may be negative, as a difference or a value, n is written as 2n and -n as 2n-1. Arithmetic
+//! wraps, so any 64 bits can be written. Each list of points has exactly one coding.
 //!
-//! Where points are of runs, `runs` has what is ahead of them.
+//! If some points were converted from cumulative ones, `runs` has what is written before the points.
 
 mod runs;
 
 use super::post::Points;
 
-/// The byte of a 0; lower ones may be kinds of records.
+/// The byte of a 0; lower bytes may be kinds of records.
 const FIRST: u8 = 32;
-/// A byte from here on is not the last of its number.
+/// From this byte on, more bytes of the number follow.
 const MORE: u8 = 128;
-/// What is less is one byte.
+/// Smaller numbers take one byte.
 const LAST: u64 = (MORE - FIRST) as u64;
-/// How many words have their bits in a byte.
+/// How many values one byte of bits covers.
 const SIX: usize = 6;
 /// The most bytes of a number.
 pub(super) const MOST_OF_NUMBER: usize = 10;
-/// Most points take no more bytes than this for each of their words, and this for the time of the first.
+/// A usual list takes at most this many bytes for each of its words, and these for the first time.
 const FOR_A_WORD: usize = 4;
 const FOR_A_TIME: usize = 16;
-/// Of most points a word has so many bytes at least, and all of one so many.
+/// A usual list takes at least this many bytes for a word, and these for a point.
 const BYTES_OF_WORD: usize = 2;
 const BYTES_OF_POINT: usize = 8;
 
@@ -49,7 +49,7 @@ pub(super) fn of(points: &Points) -> Vec<u8> {
     out
 }
 
-/// Reads all bytes; `None` where they are no points. No more is kept at any time than six words for a byte.
+/// Reads all bytes; none if they are no points. Uses at most six words of memory for a byte.
 pub(super) fn read(mut bytes: &[u8]) -> Option<Points> {
     let mut points = Points::with_words(bytes.len() / BYTES_OF_WORD, bytes.len() / BYTES_OF_POINT);
     let mut last = Last::default();
@@ -59,9 +59,9 @@ pub(super) fn read(mut bytes: &[u8]) -> Option<Points> {
     Some(points)
 }
 
-/// The same of points that are of runs.
+/// Reads points that have runs written before them.
 pub(super) fn read_with_runs(mut bytes: &[u8]) -> Option<Points> {
-    let of_runs = runs::take(&mut bytes).filter(|of_runs| !of_runs.is_empty())?; // else their form would be another
+    let of_runs = runs::take(&mut bytes).filter(|of_runs| !of_runs.is_empty())?; // without any, the points would have a second coding
     let mut points = read(bytes)?;
     runs::give(&mut points, of_runs)?;
     Some(points)
@@ -75,7 +75,7 @@ pub(in crate::files) fn put_number(out: &mut Vec<u8>, mut number: u64) {
     out.push(FIRST + number as u8);
 }
 
-/// Takes a number off the front. `None` also where it is longer than it is written, or more than 64 bits.
+/// Takes a number off the front; none if it is coded longer than needed, or has more than 64 bits.
 pub(in crate::files) fn take_number(bytes: &mut &[u8]) -> Option<u64> {
     if let [byte @ FIRST..MORE, rest @ ..] = bytes {
         let number = u64::from(*byte - FIRST);
@@ -112,10 +112,10 @@ fn take_signed(bytes: &mut &[u8]) -> Option<u64> {
     Some((number >> 1) ^ (number & 1).wrapping_neg())
 }
 
-/// What the next point is written against.
+/// What the next point is coded against.
 #[derive(Default)]
 struct Last {
-    /// The number that is expected.
+    /// The expected number.
     number: u64,
     end: u64,
     length: u64,
@@ -170,7 +170,7 @@ impl Last {
     }
 }
 
-/// One that is not 0.
+/// Takes a value that is not 0.
 fn take_word(bytes: &mut &[u8]) -> Option<u64> {
     take_signed(bytes).filter(|word| *word != 0)
 }

@@ -1,4 +1,5 @@
-//! What the journal keeps: a post that the book took, as a text or as points by number.
+//! A post as the journal has it: a JSON text, or points by series number. `slot` makes it, and a replay gets the same
+//! post back.
 
 use super::packed;
 use bytes::Bytes;
@@ -9,9 +10,9 @@ use std::sync::OnceLock;
 #[derive(Clone, Debug, PartialEq, Eq)]
 pub struct Post {
     pub sender: String,
-    /// How many of its points the book counted as foreign.
+    /// How many of its points the book rejected.
     pub foreign: u64,
-    /// As the book was given it.
+    /// The body as the book got it.
     pub body: Body,
 }
 
@@ -23,7 +24,7 @@ pub enum Body {
 }
 
 impl Body {
-    /// What it takes in the journal.
+    /// The bytes that it takes in the journal.
     pub fn bytes(&self) -> u64 {
         match self {
             Body::Text(body) => body.len() as u64,
@@ -33,7 +34,7 @@ impl Body {
 }
 
 impl Post {
-    /// The numbers of series that it has.
+    /// The numbers of its points' series.
     pub fn numbers(&self) -> impl Iterator<Item = u64> + '_ {
         let points = match &self.body {
             Body::Text(_) => None,
@@ -43,53 +44,53 @@ impl Post {
     }
 }
 
-/// Points by number, one behind the other as the library takes them: each is the number of its series, its start and its
-/// end (nanoseconds since 1970), and what it says.
+/// Points by number, in the library's layout: for each point the number of its series, its start and end (nanoseconds
+/// since 1970), and its values.
 #[derive(Clone, Debug, Default)]
 pub struct Points {
     words: Vec<u64>,
-    /// Where each point ends.
+    /// Where each point ends in `words`.
     ends: Vec<usize>,
-    /// Of those that were made of cumulative ones, by their places, ascending.
+    /// For the points that were converted from cumulative ones, by ascending index.
     runs: Vec<(u32, OfRun)>,
     packed: OnceLock<Vec<u8>>,
 }
 
-/// What a point that was made of a cumulative one says of its run, beside what it adds.
+/// What a converted point says of its run, in addition to what it adds.
 #[derive(Clone, Debug, PartialEq, Eq, Serialize)]
 #[serde(rename_all = "snake_case")]
 pub enum OfRun {
-    /// It goes on.
+    /// The run goes on.
     More,
-    /// It began then, and the point has all of it.
+    /// The run began at this time, and the point has all of it.
     Began(u64),
-    /// It began then and has come to these words, of which the point has none.
+    /// The run began at `start` and has reached these values, and the point counts none of them.
     Noted { start: u64, words: Vec<u64> },
 }
 
-/// Ahead of what a point says.
+/// The words of a point before its values: number, start, end.
 const HEAD: usize = 3;
 
-/// Says what a number stands for.
+/// Defines series numbers.
 pub trait Names {
-    /// Which numbering this is: another one where numbers begin anew, for then the same number may be another series.
+    /// Changes when numbers start anew, since the same number may then mean another series.
     fn generation(&self) -> u64;
 
     /// A JSON request of one point of the number's series.
     fn text(&self, number: u64) -> Bytes;
 }
 
-/// What is read again. Numbers are those of the file, not of who reads.
+/// A post read from the journal. Its numbers are those of the file, not the reader's.
 #[derive(Clone, Debug, PartialEq, Eq)]
 pub struct Replayed {
     pub post: Post,
-    /// What numbers stand for from this post on, where that was said since the one before: each as a JSON request of one
-    /// point. A number of the post that is not among them is what it was said to be last.
+    /// Definitions between the previous post and this one, each a JSON request of one point. Other numbers keep the
+    /// meaning that was defined last.
     pub named: Vec<(u64, Bytes)>,
 }
 
 impl Points {
-    /// Of words, and where each point ends in them; `None` where these are no points.
+    /// From words, and where each point ends in them; none if these are no points.
     pub fn new(words: Vec<u64>, ends: Vec<usize>) -> Option<Points> {
         let mut begin = 0;
         let is_point = |end: &usize| *end >= std::mem::replace(&mut begin, *end) + HEAD;
@@ -97,18 +98,18 @@ impl Points {
         are_points.then_some(Points { words, ends, ..Points::default() })
     }
 
-    /// None yet, and room for so many, also where each is made of a cumulative one.
+    /// No points, with room for that many even if each of them is a converted one.
     pub fn with_room(words: usize, points: usize) -> Points {
         Points { runs: Vec::with_capacity(points), ..Points::with_words(words, points) }
     }
 
-    /// The same where none is.
+    /// No points, with room for that many that are not converted.
     pub(super) fn with_words(words: usize, points: usize) -> Points {
         Points { words: Vec::with_capacity(words), ends: Vec::with_capacity(points), ..Points::default() }
     }
 
-    /// Puts a point behind the others; `says` is a sum's value, or a histogram's count, whether it has a sum, the sum, and
-    /// its buckets.
+    /// Appends a point. `says` has a sum's value, or a histogram's count, whether it has a sum, the sum, and its
+    /// buckets.
     pub fn push(&mut self, number: u64, start: u64, end: u64, says: impl IntoIterator<Item = u64>) {
         self.words.extend([number, start, end]);
         self.words.extend(says);
@@ -116,12 +117,12 @@ impl Points {
         self.packed.take();
     }
 
-    /// The same of the words behind its number.
+    /// Appends a point whose words after the number are given.
     pub fn push_words(&mut self, number: u64, words: &[u64]) {
         self.push(number, words[0], words[1], words[2..].iter().copied());
     }
 
-    /// Puts these behind the others.
+    /// Appends all points of `more`.
     pub fn append(&mut self, more: &Points) {
         let (words, count) = (self.words.len(), self.count() as u32);
         self.words.extend_from_slice(&more.words);
@@ -130,7 +131,7 @@ impl Points {
         self.packed.take();
     }
 
-    /// Has each have another number, in their order.
+    /// Gives the points other numbers, in order.
     pub fn renumber(&mut self, numbers: &[u64]) {
         let mut begin = 0;
         for (end, number) in self.ends.iter().zip(numbers) {
@@ -140,23 +141,23 @@ impl Points {
         self.packed.take();
     }
 
-    /// Says of a point that was made of a cumulative one, and is behind all others of which that was said, what its run is.
+    /// Says what the run of a converted point is. Indexes must be ascending.
     pub fn put_run(&mut self, place: u32, of_run: OfRun) {
         self.runs.push((place, of_run));
         self.packed.take();
     }
 
-    /// Of the points that were made of cumulative ones their places, and what their runs are.
+    /// The indexes of the converted points, and what their runs are.
     pub fn runs(&self) -> &[(u32, OfRun)] {
         &self.runs
     }
 
-    /// The same with the words of each.
+    /// `runs`, with the words of each point.
     pub fn with_runs(&self) -> impl Iterator<Item = (&(u32, OfRun), &[u64])> {
         self.runs.iter().filter_map(|run| Some((run, self.point(run.0)?)))
     }
 
-    /// Those whose numbers are wanted, in their order, with what their runs are.
+    /// The points whose numbers are wanted, in order, with their runs.
     pub fn of_numbers(&self, is_wanted: impl Fn(u64) -> bool) -> Points {
         let (mut part, mut runs) = (Points::default(), self.runs.iter().peekable());
         for (place, point) in (0..).zip(self.each()) {
@@ -171,7 +172,7 @@ impl Points {
         part
     }
 
-    /// Those whose places are wanted, in their order, without what their runs are.
+    /// The points whose indexes are wanted, in order, without their runs.
     pub fn of_places(&self, is_wanted: impl Fn(usize) -> bool) -> Points {
         let mut part = Points::with_words(self.words.len(), self.count());
         for (place, point) in self.each().enumerate() {
@@ -182,7 +183,7 @@ impl Points {
         part
     }
 
-    /// The words of the point at a place.
+    /// The words of one point.
     pub fn point(&self, place: u32) -> Option<&[u64]> {
         let place = place as usize;
         let end = *self.ends.get(place)?;
@@ -190,12 +191,12 @@ impl Points {
         Some(&self.words[begin..end])
     }
 
-    /// All of them, as the library takes them.
+    /// All words, as the library takes them.
     pub fn words(&self) -> &[u64] {
         &self.words
     }
 
-    /// As the journal has them. Made once: who asks ahead of a lock does not keep others waiting for it.
+    /// The bytes for the journal. Computed once: call it before taking a lock, so that others do not wait for it.
     pub fn packed(&self) -> &[u8] {
         self.packed.get_or_init(|| packed::of(self))
     }
@@ -204,12 +205,12 @@ impl Points {
         self.ends.len()
     }
 
-    /// The number of each one's series.
+    /// The series number of each point.
     pub fn numbers(&self) -> impl Iterator<Item = u64> + '_ {
         self.each().map(|point| point[0])
     }
 
-    /// The words of each: number, start, end, and what it says.
+    /// The words of each point: number, start, end, values.
     pub fn each(&self) -> impl Iterator<Item = &[u64]> {
         let begins = std::iter::once(&0).chain(&self.ends);
         begins.zip(&self.ends).map(|(begin, end)| &self.words[*begin..*end])
@@ -224,7 +225,7 @@ impl PartialEq for Points {
 
 impl Eq for Points {}
 
-/// For posts that are texts.
+/// For posts that are JSON texts, which have no numbers.
 pub struct NoNames;
 
 impl Names for NoNames {

@@ -1,21 +1,23 @@
-//! The posts of the journal, in order.
+//! Reads the posts of the journal in order: for a replay, for the units that it has seen (`otlp/finer_units`), and for
+//! commands.
 
 use super::record::{Posts, Wanted};
 use super::{held, locked, Journal, Replayed, Shared, HELD};
 use crate::files::records::{self, Next, Reader, Which};
 use crate::files::{segment, Fault};
 
-/// Gets posts, each with the time of it: whether more is wanted.
+/// Called with each post and when it was appended; returns whether to go on.
 pub(super) type Each<'e> = dyn FnMut(u64, Replayed) -> Result<bool, Fault> + 'e;
 
 impl Journal {
-    /// Gives the posts of the segments from `first` to before `end` that count, in order, until `each` is false. Those of
-    /// quarantined senders' own files are among them where the segment `first` is there and says so.
+    /// Passes the posts of the segments from `first` to before `end` to `each` until it returns false. Posts parked in
+    /// quarantined senders' files come first, if the segment `first` is there and lists them.
     pub fn posts(&self, first: u64, end: u64, each: impl FnMut(Replayed) -> bool) -> Result<(), Fault> {
         self.read(first, end, Wanted::All, each)
     }
 
-    /// The same without their points, for who looks at requests alone: those that are posts, and those that name series.
+    /// The same without points, for callers that need only requests: those that are posts, and those that define
+    /// series.
     pub fn requests(&self, first: u64, end: u64, each: impl FnMut(Replayed) -> bool) -> Result<(), Fault> {
         self.read(first, end, Wanted::Requests, each)
     }
@@ -29,7 +31,7 @@ impl Journal {
     ) -> Result<(), Fault> {
         let shared = &*self.shared;
         let mut each = |_: u64, post: Replayed| Ok(each(post));
-        // Ahead of the segments: behind some of their posts these files would say otherwise what their numbers stand for.
+        // Before the segments: these files define numbers otherwise than the segments do.
         let list = locked(&shared.held).get(&first).filter(|_| first < end).cloned();
         match shared.held_posts(&list.unwrap_or_default(), &mut each)? {
             true => shared.posts(first, end, wanted, &mut each),
@@ -39,7 +41,7 @@ impl Journal {
 }
 
 impl Shared {
-    /// The posts of the segments alone.
+    /// Only the posts in the segments.
     pub(super) fn posts(&self, first: u64, end: u64, wanted: Wanted, each: &mut Each) -> Result<(), Fault> {
         let (last, at) = self.written(|place| (place.segment.number, place.segment.at))?;
         for number in segment::numbers(&self.disk, &self.folder)? {
@@ -54,7 +56,7 @@ impl Shared {
         Ok(())
     }
 
-    /// Whether `each` wants more. Only the segment that is written, up to where it is, has no end.
+    /// Returns whether `each` wants more. Only the segment that is being written may lack an end record.
     fn posts_of(
         &self,
         number: u64,

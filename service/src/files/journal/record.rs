@@ -1,4 +1,4 @@
-//! Posts as records, and records as posts.
+//! Codes posts as records. Points are readable only after the definitions of their series, in the same file.
 
 use super::by_number::NumberSet;
 use super::post::{Body, Points, Post, Replayed};
@@ -10,10 +10,10 @@ use bytes::Bytes;
 const NO_POST: &str = "is no post that was written here";
 const NO_NAME: &str = "has points of a series that this file names nowhere before it";
 
-/// Points of the bytes behind the sender.
+/// Reads points from the bytes after the sender's name.
 type ReadPoints = fn(&[u8]) -> Option<Points>;
 
-/// Appends the record of a post, but not the names that it needs.
+/// Appends the record of a post, without the definitions that it needs.
 pub(super) fn put(out: &mut Vec<u8>, since: u64, post: &Post) {
     let sender = post.sender.as_bytes();
     let numbers = [since, post.foreign, sender.len() as u64];
@@ -30,7 +30,7 @@ pub(super) fn put(out: &mut Vec<u8>, since: u64, post: &Post) {
     }
 }
 
-/// Appends the record of a name, behind those of a row.
+/// Appends the record of a definition, coded against those before it.
 pub(super) fn put_name(out: &mut Vec<u8>, names: &mut TextRow, number: u64, text: &[u8]) {
     let mut name = Vec::new();
     packed::put_number(&mut name, number);
@@ -38,14 +38,14 @@ pub(super) fn put_name(out: &mut Vec<u8>, names: &mut TextRow, number: u64, text
     records::put(out, NAME, &[&name]);
 }
 
-/// The number and the text that such a record says.
+/// The number and the text of a definition.
 fn name(mut bytes: &[u8], names: &mut TextRow) -> Option<(u64, Bytes)> {
     let number = packed::take_number(&mut bytes)?;
     let text = Bytes::copy_from_slice(names.take(&mut bytes)?);
     bytes.is_empty().then_some((number, text))
 }
 
-/// When a post was appended, by its record; `None` where it is none.
+/// When the post of a record was appended; none for other records.
 pub(super) fn since(kind: u8, mut bytes: &[u8]) -> Option<u64> {
     match kind {
         POST => records::take_number(&mut bytes),
@@ -54,20 +54,20 @@ pub(super) fn since(kind: u8, mut bytes: &[u8]) -> Option<u64> {
     }
 }
 
-/// What is read of posts.
+/// Which records to read.
 #[derive(Clone, Copy, Debug, PartialEq, Eq)]
 pub(super) enum Wanted {
     All,
-    /// What names series: points by number are passed over, and there are none then.
+    /// Posts that are requests, and definitions. Points by number come without their points.
     Requests,
 }
 
-/// Reads the records of one file, one after the other: points need the names before them.
+/// Reads the records of one file in order.
 pub(super) struct Posts {
     wanted: Wanted,
-    /// Said since the last post.
+    /// Definitions since the last post.
     named: Vec<(u64, Bytes)>,
-    /// The numbers that the file has named.
+    /// The numbers that the file has defined.
     known: NumberSet,
     names: TextRow,
 }
@@ -77,7 +77,8 @@ impl Posts {
         Posts { wanted, named: Vec::new(), known: NumberSet::default(), names: TextRow::default() }
     }
 
-    /// The post of a record, and when it was appended; none where it says a name. The error is what is wrong with it.
+    /// The post of a record, and when it was appended; none for a definition. The error says what is wrong with the
+    /// record.
     pub fn read(&mut self, kind: u8, bytes: Vec<u8>) -> Result<Option<(u64, Replayed)>, &'static str> {
         let bytes = Bytes::from(bytes);
         let (since, post) = match kind {
@@ -124,7 +125,7 @@ fn points(mut rest: &[u8], read: ReadPoints) -> Option<(u64, Post)> {
     Some((since, Post { sender, foreign, body }))
 }
 
-/// What is ahead of the body: when, how many foreign points, the sender.
+/// The fields before the body: time, rejected points, sender.
 fn head(bytes: &mut &[u8], take: fn(&mut &[u8]) -> Option<u64>) -> Option<(u64, u64, String)> {
     let (since, foreign, length) = (take(bytes)?, take(bytes)?, take(bytes)?);
     let sender = bytes.split_off(..usize::try_from(length).ok()?)?;

@@ -1,5 +1,6 @@
-//! The journal's threads. The syncer makes all durable that others wait for, by one `fdatasync` for all. If posts are only written,
-//! the writer writes for those that wait on other threads than the ones that serve senders, which write by themselves.
+//! The threads of the journal. The sync thread makes everything durable that callers wait for, with one `fdatasync` for
+//! all. With `--durability process`, the writer thread writes for callers that are not on serving threads; serving
+//! threads write themselves.
 
 use super::watermark::Wanted;
 use super::{locked, Journal, Shared};
@@ -8,12 +9,13 @@ use crate::files::Fault;
 use std::sync::Arc;
 use std::time::Duration;
 
-/// How long what nobody waits for stays unsynced: so a machine's end takes no more, where posts are only written.
+/// How long appended posts stay unsynced if no caller waits: the most that a loss of power takes with `--durability
+/// process`.
 const IDLE: Duration = Duration::from_secs(1);
-/// How long nobody waits for anything before the last record is marked.
+/// How long no caller must have waited before the last record gets its watermark.
 const QUIET: Duration = Duration::from_millis(100);
 
-/// What the syncer has to do.
+/// The next job of the sync thread.
 enum Due {
     Sync,
     Mark,
@@ -21,8 +23,8 @@ enum Due {
 }
 
 impl Shared {
-    /// Makes all durable that was appended until now. Where that fails the process ends while nobody else can sync:
-    /// after a sync that failed the next one says yes to what the disk has not.
+    /// Makes everything appended so far durable. A failure ends the process before any other thread can sync: after a
+    /// failed sync, the next one reports success for bytes that the disk does not have.
     pub fn sync(&self) {
         let _one = locked(&self.syncing);
         if let Err(fault) = self.try_sync() {
@@ -31,7 +33,7 @@ impl Shared {
         }
     }
 
-    /// The same, for who has the journal alone.
+    /// `sync` for a caller that has the journal alone, and handles the fault itself.
     pub(super) fn try_sync(&self) -> Result<(), Fault> {
         let (ended, file, path, number, at, named, ticket) = self.written(|place| {
             let segment = &place.segment;
@@ -45,7 +47,7 @@ impl Shared {
                 place.ticket,
             )
         })?;
-        let length = locked(&self.place).segment.length(); // of this segment, or it is not noted
+        let length = locked(&self.place).segment.length(); // of the segment above; if it has rolled since, the length is not noted
         for (file, path) in &ended {
             self.disk.order(file, path)?;
         }
@@ -63,12 +65,13 @@ impl Shared {
                 place.named = true;
             }
         }
-        // Of a drive, up to where the commit began: what was appended meanwhile is in it.
+        // In a shard store, everything up to the moment when the commit began, which includes what was appended after
+        // `ticket`.
         self.durable.reach(self.disk.durable().unwrap_or(ticket));
         Ok(())
     }
 
-    /// Returns once there is something to do.
+    /// Returns when there is a job.
     fn wait(&self) -> Due {
         let mut waited = Duration::ZERO;
         loop {
@@ -79,7 +82,7 @@ impl Shared {
                 Wanted::Now => return Due::Sync,
                 Wanted::Nobody => waited += pause,
             }
-            // Who writes just now keeps nobody waiting here.
+            // If a writer holds the lock, this thread does not wait for it.
             let Ok(place) = self.place.try_lock() else {
                 continue;
             };
@@ -93,7 +96,7 @@ impl Shared {
         }
     }
 
-    /// Marks the last record, where nothing else is written. The mark itself need not be durable.
+    /// Writes a watermark after the last record. The watermark itself need not be durable.
     fn mark_last(&self) {
         self.alone(|place| {
             if let Err(fault) = place.segment.mark_last() {
@@ -102,7 +105,8 @@ impl Shared {
         });
     }
 
-    /// Makes the segment that comes next, so that a turn has only to name it. With a drive it waits for nothing anyway.
+    /// Makes the next segment in advance, so that a roll only has to name it. In a shard store, making one never
+    /// blocks.
     fn prepare(&self) {
         if self.disk.keeps_order() {
             return;
@@ -131,7 +135,7 @@ impl Shared {
                 Due::Mark => self.mark_last(),
                 Due::End => {
                     if self.disk.is_lost() {
-                        self.durable.give_up(); // who comes later is told so before it waits
+                        self.durable.give_up(); // later callers get the error before they wait
                     }
                     return;
                 }
@@ -139,11 +143,11 @@ impl Shared {
         }
     }
 
-    /// Writes for all that wait.
+    /// Writes for all callers that wait.
     pub fn run_writer(self: Arc<Self>) {
         loop {
             match self.written.wanted(IDLE) {
-                // Where it fails the process ends: only a folder has a writer.
+                // A failure ends the process, since only a folder has this thread.
                 Wanted::Now => drop(self.written(|_| ())),
                 Wanted::Nobody => {}
                 Wanted::End => return,
@@ -152,8 +156,8 @@ impl Shared {
     }
 }
 
-/// The segment is ended, so that the next start can tell a changed record from a torn one everywhere in it. On a drive
-/// nothing is torn, and what anybody was told of is durable: nothing is waited for.
+/// Ends the segment, so that the next start can tell a changed record from a torn one everywhere in it. A shard store
+/// tears nothing, and everything that was answered is durable there, so nothing is left to do.
 impl Drop for Journal {
     fn drop(&mut self) {
         self.shared.durable.end();
@@ -165,7 +169,7 @@ impl Drop for Journal {
             let _ = thread.join();
         }
         if let Some(next) = locked(&self.shared.next).take() {
-            self.shared.disk.discard(&next.path); // the next start does it too
+            self.shared.disk.discard(&next.path); // otherwise the next start removes it
         }
         self.shared.sync();
         let ended = self.shared.alone(|place| place.segment.end());

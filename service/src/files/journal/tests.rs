@@ -1,4 +1,4 @@
-//! What is kept comes back, over any calls and starts; `damage`, `syncs` and `writes` have what goes wrong.
+//! What is appended is read back, over any calls and starts. `damage`, `syncs` and `writes` test what goes wrong.
 
 mod changed;
 mod damage;
@@ -23,7 +23,7 @@ fn open_from(disk: &Disk, path: &Path, durability: Durability, reach: u64) -> Re
     open_begun(disk, path, durability, reach, None)
 }
 
-/// In a folder in which an earlier start has begun that segment.
+/// In a folder whose last start has begun this segment.
 fn open_begun(
     disk: &Disk,
     path: &Path,
@@ -50,7 +50,7 @@ fn post(text: &str) -> Post {
     Post { sender: format!("sender {}", text.len()), foreign: text.len() as u64, body: body(text) }
 }
 
-/// Where it is in the file already.
+/// Appends a post and waits until it is in the file.
 fn append(journal: &Journal, text: &str) -> Ticket {
     let ticket = journal.append(&post(text), &Letters::of(text));
     journal.write(ticket).unwrap();
@@ -70,7 +70,7 @@ fn texts(journal: &Journal, first: u64) -> Vec<String> {
     texts
 }
 
-/// As `kill -9` leaves it.
+/// Leaves the files as `kill -9` does.
 fn kill(mut journal: Journal) {
     end_syncer(&mut journal);
     journal.shared.written.end();
@@ -159,7 +159,7 @@ fn it_is_as_a_list_in_memory_over_any_calls_and_starts() {
         let mut journal = open(1);
         let mut model: Vec<(u64, String)> = Vec::new();
         let (mut segment, mut reach) = (1, 1);
-        // A last segment without a post makes room for the next one.
+        // A new segment replaces a last one without posts.
         let begun = |model: &[(u64, String)], reach| model.last().map_or(1, |one| one.0 + 1).max(reach);
         for step in 0..60 {
             let text = format!("{step:a>width$}", width = numbers.below(900) as usize);

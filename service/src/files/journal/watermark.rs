@@ -1,4 +1,7 @@
-//! A place up to which the journal is written, or durable: those that wait until it is there, and the thread that they wait for.
+//! A watermark: how far the journal is written, or durable. Wakes the callers that wait for a position, and the thread
+//! that moves the watermark.
+//!
+//! No waiter is told before the watermark has reached its ticket, and none is left waiting after.
 
 use super::locked;
 use crate::files::disk::Disk;
@@ -12,10 +15,10 @@ use tokio::sync::oneshot;
 
 #[derive(Default)]
 pub(super) struct Watermark {
-    /// All before this ticket is there.
+    /// Everything before this ticket is done.
     reached: AtomicU64,
     waiters: Mutex<Waiters>,
-    /// The thread has nothing to do. It says so under the lock.
+    /// Whether the thread waits for work. It sets this while it holds the lock.
     is_idle: AtomicBool,
     work: Condvar,
 }
@@ -32,22 +35,22 @@ struct Waiter {
     tell: oneshot::Sender<Told>,
 }
 
-/// Says that what was waited for is there: to the one that gets it and, once it is dropped, to others of the same thread. So a
-/// thread is woken once, and nobody is forgotten where a waiter goes away.
+/// Wakes a waiter and, when dropped, the other waiters of the same thread: so a thread is woken once, and the rest are
+/// told even if the first waiter has gone.
 struct Told(Vec<oneshot::Sender<Told>>);
 
 impl Drop for Told {
     fn drop(&mut self) {
         for other in self.0.drain(..) {
-            let _ = other.send(Told(Vec::new())); // who has gone away is not told
+            let _ = other.send(Told(Vec::new())); // a waiter that has gone needs no answer
         }
     }
 }
 
-/// What the thread finds.
+/// What the thread finds to do.
 pub(super) enum Wanted {
     Now,
-    /// Nobody has come for as long as it waited.
+    /// No caller came within the timeout.
     Nobody,
     End,
 }
@@ -57,8 +60,9 @@ impl Watermark {
         self.reached.load(SeqCst) >= ticket
     }
 
-    /// Returns once all before a ticket is there. Unless `is_begun` says that another has begun it, the thread is woken once `others` have
-    /// had their turn, whatever becomes of this future: so it does at once what they need too.
+    /// Returns after everything before the ticket is done. Unless `is_begun` says that another thread has begun it,
+    /// this wakes the thread after `others` has finished, even if this future is dropped by then: so one call serves
+    /// the others too.
     pub async fn wait_for(
         &self,
         ticket: u64,
@@ -79,19 +83,19 @@ impl Watermark {
         match done.await {
             Ok(_) => Ok(()),
             Err(_) if disk.is_lost() => Err(Lost),
-            // The journal was closed, or the process ends: nobody may be told that this is there.
+            // The journal was closed or the process is ending: this caller must not be told that the post is kept.
             Err(_) => std::future::pending().await,
         }
     }
 
-    /// None where it is there by now.
+    /// None if the ticket was reached in the meantime.
     fn join(&self, ticket: u64, disk: &Disk) -> Result<Option<oneshot::Receiver<Told>>, Lost> {
         let mut waiters = locked(&self.waiters);
         // The thread stores this before it looks for waiters.
         if self.has(ticket) {
             return Ok(None);
         }
-        // And forgets the waiters after it has found the slot lost.
+        // The thread drops the waiters only after it has found the shard fenced, so a later one is refused here.
         if disk.is_lost() {
             return Err(Lost);
         }
@@ -107,7 +111,7 @@ impl Watermark {
         }
     }
 
-    /// All before a ticket is there. Two that reach a place may say so in any order.
+    /// Everything before the ticket is done. Two threads that reach positions may report them in any order.
     pub fn reach(&self, ticket: u64) {
         self.reached.fetch_max(ticket, SeqCst);
         let due: Vec<Waiter> = {
@@ -127,23 +131,23 @@ impl Watermark {
             let first = others.pop();
             let told = Told(others);
             if let Some(first) = first {
-                let _ = first.send(told); // where the first has gone away, this tells the others
+                let _ = first.send(told); // if the first waiter has gone, dropping this tells the others
             }
         }
     }
 
-    /// The slot is lost: those that wait are told so.
+    /// The shard is fenced: the callers that wait get the error.
     pub fn give_up(&self) {
         locked(&self.waiters).list.clear();
     }
 
-    /// The thread has nothing more to do once it has done what is wanted.
+    /// Tells the thread to finish what is wanted and end.
     pub fn end(&self) {
         locked(&self.waiters).is_ending = true;
         self.work.notify_one();
     }
 
-    /// Returns once somebody waits, or after this time; at once where it ends.
+    /// Returns when a caller waits, or after the timeout; at once if the thread has to end.
     pub fn wanted(&self, within: Duration) -> Wanted {
         let mut waiters = locked(&self.waiters);
         let found = |waiters: &Waiters| match waiters {
@@ -160,7 +164,7 @@ impl Watermark {
     }
 }
 
-/// Wakes the thread once this is dropped: where the one that waits goes away, nobody else may come.
+/// Wakes the thread when dropped: if this waiter goes away, no other one may come.
 struct Wakes<'w>(&'w Watermark);
 
 impl Drop for Wakes<'_> {

@@ -1,14 +1,17 @@
-//! How what was appended gets into the segment: by one write for all that was there when it began.
+//! Writes appended records into the segment, with one write for all that are there when it begins.
+//!
+//! Only one write runs at a time (`Shared::writing`), and appending never waits for it. After a write has failed, no
+//! other one follows: the failure ends the process while the lock is held.
 
 use super::{locked, Journal, Place, Shared, Ticket};
 use crate::files::drive::Lost;
 use crate::work::own_call::OwnCall;
 
-/// What is left of a write's memory for the next one.
+/// The most memory of a write's buffer that is kept for the next one.
 const KEPT: usize = 64 << 10;
 
 impl Journal {
-    /// Has all before a ticket in a file: there it is also where the process ends now.
+    /// Returns after everything before the ticket is in a file, where it survives the end of the process.
     pub fn write(&self, ticket: Ticket) -> Result<(), Lost> {
         match self.is_written(ticket) {
             true => Ok(()),
@@ -16,8 +19,8 @@ impl Journal {
         }
     }
 
-    /// Has all in a file that was appended until now: a turn has less to write then. That comes with the lock of the book, and this
-    /// without: so where the disk stalls nobody waits for that lock.
+    /// Writes everything appended so far. Called before a roll, which holds the lock of the book: then the roll has
+    /// little left to write, and posts do not wait for the book if the disk stalls here.
     pub fn write_all(&self) -> Result<(), Lost> {
         self.write(self.now())
     }
@@ -29,28 +32,30 @@ impl Journal {
 
 #[cfg(test)]
 impl Journal {
-    /// Nobody appends until this is dropped.
+    /// Blocks appends until it is dropped.
     pub fn hold_appends(&self) -> impl Sized + '_ {
         locked(&self.shared.place)
     }
 }
 
 impl Shared {
-    /// For who writes into the segment by himself: no other write is under way.
+    /// For a caller that writes into the segment itself: no other write runs meanwhile.
     pub fn alone<T>(&self, writes: impl FnOnce(&mut Place) -> T) -> T {
         let _writing = locked(&self.writing);
         writes(&mut locked(&self.place))
     }
 
-    /// Writes all that was appended until now, and says so to those that wait: what `see` says of the place up to there.
+    /// Writes everything appended so far and tells the callers that wait for it. Returns what `see` returns for the
+    /// state up to there.
     pub fn written<T>(&self, see: impl FnOnce(&mut Place) -> T) -> Result<T, Lost> {
         let (seen, ticket) = self.put_appended(see)?;
         self.written.reach(ticket);
         Ok(seen)
     }
 
-    /// Writes all that was appended until now: what `see` says of the place up to there, and its ticket. Who appends meanwhile does not
-    /// wait. Where that fails the process ends while nobody else can write: what is behind a hole is there for no start.
+    /// Writes everything appended so far, and returns its ticket and what `see` returns for the state up to there.
+    /// Appends do not wait. A failure ends the process before any other thread can write: a start does not find what
+    /// follows a hole.
     fn put_appended<T>(&self, see: impl FnOnce(&mut Place) -> T) -> Result<(T, u64), Lost> {
         let mut bytes = locked(&self.writing);
         let mut place = locked(&self.place);
@@ -60,7 +65,7 @@ impl Shared {
         if !bytes.is_empty() {
             let written = write.put(&self.disk, &bytes);
             written.map_err(|fault| self.disk.fail(fault))?;
-            locked(&self.place).segment.has_ahead(write.ahead); // it is the same: a turn waits for this
+            locked(&self.place).segment.has_ahead(write.ahead); // still the same segment, since a roll waits for `writing`
             bytes.clear();
             bytes.shrink_to(KEPT);
         }
@@ -71,7 +76,7 @@ impl Shared {
 impl OwnCall for Shared {
     fn make(&self) -> u64 {
         let put = self.put_appended(|_| ());
-        put.map_or(0, |((), ticket)| ticket) // if it fails the process ends: only a folder is written so
+        put.map_or(0, |((), ticket)| ticket) // a failure ends the process, since only a folder is written in this way
     }
 
     fn tell(&self, reached: u64) {

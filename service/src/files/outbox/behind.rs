@@ -1,4 +1,5 @@
-//! Waiting requests behind the first one, for a sink that takes several in one go.
+//! Reads the waiting requests after the first one, for a sink that takes several in one transaction
+//! (`sinks/delivery/together`).
 
 use super::state::{Batch, Front};
 use super::{rows, segment, Outbox};
@@ -8,8 +9,8 @@ use crate::work::blocking;
 use std::path::{Path, PathBuf};
 
 impl Outbox {
-    /// Those behind the first, by their numbers: so many, of so many bytes together. One that can't be read ends them; that is
-    /// told once it is the first.
+    /// The requests after the first, with their numbers, up to `most` requests and `bytes` bytes. Stops at one that
+    /// can't be read; that is reported when it becomes the first.
     pub async fn behind_first(&self, most: usize, bytes: usize) -> Vec<(u64, Vec<u8>)> {
         let batches = locked(&self.state).of_one_epoch(most);
         let (disk, folder) = (self.disk.clone(), self.folder.clone());
@@ -25,7 +26,7 @@ fn read(disk: &Disk, folder: &Path, all: Vec<Batch>, most: usize, mut bytes: usi
         let path = segment::path(folder, batch.segment);
         Items { disk, path, front: batch.front(), left: batch.count }
     });
-    // None is skipped: what is behind one that can't be read is no next one.
+    // None is skipped: the requests have to be consecutive.
     let next = items.skip(1).zip(first + 1..).map_while(|(item, wanted)| (item.0 == wanted).then_some(item));
     let in_bounds = next.take(most).map_while(|(number, body)| {
         bytes = bytes.checked_sub(body.len())?;
@@ -34,7 +35,7 @@ fn read(disk: &Disk, folder: &Path, all: Vec<Batch>, most: usize, mut bytes: usi
     in_bounds.collect()
 }
 
-/// The requests of a batch, which lie behind one another.
+/// The requests of a batch, which are adjacent in the file.
 struct Items<'a> {
     disk: &'a Disk,
     path: PathBuf,

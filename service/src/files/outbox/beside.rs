@@ -1,4 +1,5 @@
-//! Units that decide nothing of a metric (`otlp/finer_units/units`): by its series alone no start could tell them from others.
+//! Secondary units of metrics, which do not influence the unit of a metric (`otlp/finer_units/units`). They are
+//! recorded here because a start can't tell them from their series alone.
 
 use super::changes::{Change, UnitOfMetric};
 use super::Outbox;
@@ -10,7 +11,7 @@ impl Outbox {
         locked(&self.state).facts.beside.clone()
     }
 
-    /// Ordered before all that follows; in a folder it is durable when this returns.
+    /// Written before anything that follows; in a folder it is durable when this returns.
     pub fn put_beside(&self, units: &[UnitOfMetric]) -> Result<(), Fault> {
         self.change(|state| {
             let new = units.iter().filter(|unit| !state.facts.beside.contains(*unit));
@@ -20,7 +21,7 @@ impl Outbox {
         .map(drop)
     }
 
-    /// From now on these are as others.
+    /// Makes these units count as any others again.
     pub fn leave_beside(&self, units: &[UnitOfMetric]) -> Result<(), Fault> {
         if units.is_empty() {
             return Ok(());

@@ -1,4 +1,4 @@
-//! What an outbox has, brought into another that goes on from it.
+//! Moves the contents of an outbox into a new one that continues it, for `store/moving`.
 
 use super::changes::{Group, UnitOfMetric};
 use super::keys::Keys;
@@ -12,7 +12,7 @@ use crate::runs::{Forgotten, Since};
 use std::collections::BTreeSet;
 use std::sync::Arc;
 
-/// What an outbox begins with that goes on from others.
+/// The start of an outbox that continues others.
 pub struct Beginning {
     /// The number of its first request.
     pub next: u64,
@@ -23,8 +23,7 @@ pub struct Beginning {
     pub forgotten: Forgotten,
 }
 
-/// Requests of a group that wait, in the order of their numbers, as they are in the outbox: so each has its bytes, and its
-/// key, wherever it is.
+/// Consecutive waiting requests of a group, packed as they are: so each keeps its bytes and its key.
 pub struct Waits {
     pub first: u64,
     pub epoch: Arc<str>,
@@ -40,12 +39,12 @@ impl Waits {
 }
 
 impl Outbox {
-    /// The number of the first request that waits; where none does, of the next one.
+    /// The number of the first waiting request, or of the next one if none waits.
     pub fn first_number(&self) -> u64 {
         locked(&self.state).facts.acknowledged + 1
     }
 
-    /// Gives what waits, group by group.
+    /// Passes all waiting requests to `each`, group by group.
     pub fn each_group(&self, mut each: impl FnMut(Waits) -> Result<(), Fault>) -> Result<(), Fault> {
         let batches: Vec<Batch> = locked(&self.state).batches.iter().cloned().collect();
         batches.into_iter().try_for_each(|batch| each(self.waits(batch)?))
@@ -62,7 +61,7 @@ impl Outbox {
         Ok(Waits { first, epoch: batch.epoch, since: batch.since, bodies })
     }
 
-    /// Begins with this, in an outbox that has had nothing yet. Ordered before all that follows, and all or none of it.
+    /// Fills a new outbox, all or nothing. Written before anything that follows.
     pub fn begin_with(&self, beginning: Beginning) -> Result<(), Fault> {
         self.renew(|state| {
             (state.facts.next, state.facts.acknowledged) = (beginning.next, beginning.next - 1);
@@ -72,7 +71,7 @@ impl Outbox {
         })
     }
 
-    /// Goes on with requests of another outbox, whose series are known here already: the next ones in its order.
+    /// Appends the next requests of the other outbox, whose series are known here already.
     pub fn go_on_with(&self, waits: Waits) -> Result<(), Fault> {
         let mut writer = locked(&self.writer);
         let group = {

@@ -1,4 +1,4 @@
-//! What can become of an outbox.
+//! The changes of an outbox. Each is one record, except a group (`rows`).
 
 use super::keys::Keys;
 use super::table::Heard;
@@ -7,7 +7,7 @@ use crate::runs::Run;
 use std::ops::Range;
 use std::sync::Arc;
 
-/// The name of a metric, and that of a unit.
+/// The names of a metric and of its unit.
 pub type UnitOfMetric = (String, String);
 
 #[derive(Debug)]
@@ -18,7 +18,7 @@ pub enum Change {
         segment: u64,
         items: Range<u64>,
     },
-    /// The record of the first waiting request has this length.
+    /// `length` is that of the record of the first waiting request.
     Acknowledge {
         number: u64,
         length: u64,
@@ -29,7 +29,7 @@ pub enum Change {
     Beside(Vec<UnitOfMetric>),
 }
 
-/// Of each series who posts it, where that is known.
+/// The owner of each series, if it is known.
 pub type Owners = Vec<Option<Arc<str>>>;
 
 /// What one checkpoint flushed.
@@ -39,17 +39,17 @@ pub struct Group {
     pub first: u64,
     pub epoch: Arc<str>,
     pub since: u64,
-    /// The same by a clock that nobody sets, where this run has made it.
+    /// When that was by a clock that is never set, if this run made the group.
     pub heard: Heard,
-    /// Posts of the journal's segments before it are in this group or in earlier ones.
+    /// Posts in the journal's segments before this one are in this group or an earlier one.
     pub journal: u64,
-    /// What it does to series, in the order of their ids.
+    /// What the group does to each series, by ascending id.
     pub ends: Vec<End>,
-    /// The keys of those that are new, which have the next ids: the last of these.
+    /// The keys of new series, which get the next ids. Their entries are the last ones of `ends`.
     pub new: Keys,
-    /// Who posts each of these.
+    /// The owners of the new series.
     pub owners: Owners,
-    /// What posts had last of series, by their ids: also of those that are held, and so in no group yet.
+    /// The digests of the last posts, by series id; also for series of quarantined senders, which are in no group yet.
     pub recent: Vec<(u32, Recent)>,
 }
 
@@ -57,7 +57,7 @@ pub struct Group {
 #[derive(Debug)]
 pub struct End {
     pub id: u32,
-    /// Where its last point ends.
+    /// The end of its last point.
     pub end: u64,
     pub run: Option<Arc<Run>>,
 }

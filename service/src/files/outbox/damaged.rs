@@ -1,5 +1,5 @@
-//! Waiting requests that were changed: the delivery stops at the first of them until its file is put back. All else goes
-//! on, and so does each start.
+//! Handles waiting requests that were changed on disk: the delivery stops at the first of them until the file is put
+//! back. Everything else goes on, and each start succeeds.
 
 use super::rows;
 use super::state::Batch;
@@ -7,16 +7,16 @@ use super::{locked, Outbox};
 use crate::files::{segment, Fault};
 use std::time::Duration;
 
-/// How long until it is looked whether the file was put back.
+/// How long until the file is read again.
 const LOOK_AGAIN: Duration = Duration::from_millis(if cfg!(test) { 20 } else { 10_000 });
 
 impl Outbox {
-    /// Why the first waiting request can't be delivered, where it was changed.
+    /// Why the first waiting request can't be delivered, if it was changed.
     pub fn stuck(&self) -> Option<String> {
         locked(&self.stuck).clone()
     }
 
-    /// Notes that the first waiting request was changed, or was not: in the log once.
+    /// Records that the first waiting request is changed, logs it once, and waits before the next try.
     pub(super) async fn note_changed(&self, fault: &Fault) {
         let text = fault.to_string();
         if locked(&self.stuck).replace(text.clone()).as_ref() != Some(&text) {
@@ -33,7 +33,7 @@ impl Outbox {
         }
     }
 
-    /// Reads each waiting request, and gives a fault for each that can't be delivered.
+    /// Reads each waiting request and returns a fault for each that can't be delivered.
     pub fn find_changed(&self) -> Result<Vec<Fault>, Fault> {
         let batches: Vec<Batch> = locked(&self.state).batches.iter().cloned().collect();
         let mut changed = Vec::new();
@@ -55,7 +55,7 @@ impl Outbox {
                 }
                 Err(fault) => return Err(fault),
             };
-            // Where none is found each of the others is as that one.
+            // If no whole record follows, the other requests of the batch count as changed too.
             batch.pass(1, next.unwrap_or(batch.at));
         }
         Ok(())

@@ -1,37 +1,37 @@
-//! Under which epochs a slot's owners made its requests, one after the other.
+//! The epochs under which a shard's owners made its waiting requests.
 //!
-//! A store that went back, as one that was put back from a dump, has numbers of requests again that a sink has already. So each
-//! owner of a slot draws an epoch: no key is used twice. A sink that sees an epoch for the first time knows by the one before, and
-//! by the number at which that ended, whether it goes on from what the sink has.
+//! A store that was restored from a backup repeats request numbers that a sink already has. So each owner of a shard
+//! draws an epoch, and no key is used twice. A sink that meets a new epoch learns from the previous epoch, and from the
+//! number at which that one ended, whether the requests continue what it has.
 
 use serde::{Deserialize, Serialize};
 
-/// Oldest first: each epoch, and the number of the first request under it. Empty of a folder, whose epoch stays.
+/// Oldest first: each epoch and the number of its first request. Empty for a folder, whose epoch stays the same.
 #[derive(Clone, Debug, Default, PartialEq, Eq, Serialize, Deserialize)]
 pub struct Epochs(Vec<(String, u64)>);
 
-/// An epoch, and from which it goes on.
+/// An epoch, and what it continues.
 #[derive(Clone, Copy, Debug, PartialEq, Eq)]
 pub struct GoesOn<'a> {
     pub epoch: &'a str,
     pub before: &'a str,
-    /// The last request under the one before, or under earlier ones.
+    /// The last request under the previous epoch or an earlier one.
     pub number: u64,
 }
 
 impl Epochs {
-    /// The requests of the next owner begin at a number, while the sink has all up to another. What no slot has had before goes on
-    /// from `root`.
+    /// Begins an owner's epoch at request `next`, while the sink has all requests up to `acknowledged`. The first owner
+    /// of a shard continues from `root`.
     pub fn begin(&mut self, root: &str, epoch: &str, next: u64, acknowledged: u64) {
         if self.0.is_empty() {
             self.0.push((root.into(), 0));
         }
-        // An owner that has made none is as if it had never been.
+        // An owner that made no request leaves no trace.
         while self.0.len() > 1 && self.0.last().is_some_and(|(_, first)| *first == next) {
             self.0.pop();
         }
         self.0.push((epoch.into(), next));
-        // The sink knows of all up to the one of the last request that it has.
+        // The sink knows all epochs up to that of the last request that it has.
         let known = self.0.iter().rposition(|(_, first)| *first <= acknowledged).unwrap_or(0);
         self.0.drain(..known.min(self.0.len() - 2));
     }
@@ -52,7 +52,7 @@ mod tests {
         epochs.each().map(|one| (one.before, one.epoch, one.number)).collect()
     }
 
-    /// Owners with and without requests, and a sink that has more and more of them.
+    /// Owners with and without requests, and a sink that has acknowledged more and more of them.
     #[test]
     fn each_epoch_goes_on_from_the_last_one_with_requests() {
         let mut epochs = Epochs::default();

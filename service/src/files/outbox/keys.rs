@@ -1,5 +1,5 @@
-//! Keys of series with their digests. Rows of a list that begin with a key are read side by side, some at a time: keys are long, and
-//! each is digested and packed.
+//! Reads lists whose rows begin with a series key, in parallel and in parts: keys are long, and each is digested and
+//! packed.
 
 use super::texts::{Texts, PART};
 use crate::otlp::series::{Digest, Digests, SeriesKey};
@@ -10,7 +10,7 @@ use serde_json::value::RawValue;
 use std::fmt;
 use std::marker::PhantomData;
 
-/// In the order of their ids.
+/// Series keys with their digests, by id.
 #[derive(Debug, Default)]
 pub struct Keys {
     pub texts: Texts,
@@ -24,7 +24,7 @@ impl Keys {
     }
 }
 
-/// Shows the rows of a list, those of a part at once: their keys, and what is made of each.
+/// Passes the rows of a list to `show`, part by part: the keys, and what `of` makes of each row.
 pub fn each_part<'de, R, V, D>(
     deserializer: D,
     of: fn(R) -> (SeriesKey, V),
@@ -44,7 +44,7 @@ struct Rows<R, V, F> {
     row: PhantomData<R>,
 }
 
-/// As they are written, and what was read of them: none where one is of another form.
+/// Some rows as they are written, and what was read of them; none if a row has another form.
 struct Part<'de, V> {
     rows: Vec<&'de RawValue>,
     read: Option<(Keys, Vec<V>)>,
@@ -134,7 +134,7 @@ where
 mod tests {
     use super::*;
 
-    /// The keys of these rows, and what else they say.
+    /// The keys of these rows, and their numbers.
     fn read(text: &str) -> Result<(Keys, Vec<u64>), serde_json::Error> {
         let (mut all, mut says) = (Keys::default(), Vec::new());
         let of = |row: (SeriesKey, u64)| row;

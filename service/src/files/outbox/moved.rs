@@ -1,4 +1,5 @@
-//! Series that leave an outbox, and those whose ends are put back.
+//! Forgets series, and puts their ends back, for `keeper/forget`. A change that no record describes is recorded by the
+//! snapshot of a new segment.
 
 use super::changes::Change;
 use super::state::State;
@@ -9,12 +10,13 @@ use crate::otlp::series::SeriesKey;
 use std::collections::BTreeSet;
 
 impl Outbox {
-    /// These end here from now on, where they ended later. Durable when this returns, and all or none of them.
+    /// Sets the end of each of these series to `to` if it ends later. Durable when this returns, for all of them or
+    /// none.
     pub fn put_back(&self, series: &[SeriesKey], to: u64) -> Result<(), Fault> {
         self.renew(|state| state.put_back(series, to))
     }
 
-    /// A new segment's snapshot has what is changed.
+    /// Makes a change that only the snapshot of a new segment records.
     pub(super) fn renew(&self, change: impl FnOnce(&mut State)) -> Result<(), Fault> {
         let mut writer = locked(&self.writer);
         writer.begin(&self.disk)?;
@@ -24,7 +26,7 @@ impl Outbox {
         Ok(())
     }
 
-    /// How many series end after this time, and the last of them.
+    /// How many series end after this time, and the one that ends last.
     pub fn ahead_of(&self, time: u64) -> (usize, Option<SeriesKey>) {
         let state = locked(&self.state);
         let ends = state.series.iter().map(|(id, known)| (known.series.frontier, id));
@@ -39,13 +41,13 @@ impl Outbox {
         known.series.get(&series.digest()).is_some_and(|known| known.series.frontier > time)
     }
 
-    /// Leaves these out.
+    /// Forgets these series.
     pub fn leave_these(&self, series: &[SeriesKey]) -> Result<(), Fault> {
         let these = |all: &Table| series.iter().filter_map(|key| all.id(key)).collect();
         self.leave_out(these).map(drop)
     }
 
-    /// Which ones these were.
+    /// Forgets the chosen series and returns them.
     pub(super) fn leave_out(
         &self,
         to_leave: impl FnOnce(&Table) -> BTreeSet<u32>,

@@ -1,4 +1,7 @@
-//! What an earlier run left in the outbox.
+//! Opens the outbox: reads what an earlier run left, closes it, and begins a new segment.
+//!
+//! `files/folder` and `files/drive/slot` call it at a start. Every request that the sink does not have is there, or the
+//! start fails with a fault.
 
 use super::reading::Reading;
 use super::rows;
@@ -15,7 +18,7 @@ use std::sync::{Arc, Mutex};
 use tokio::sync::Notify;
 
 impl Outbox {
-    /// For who only asks, until it is begun.
+    /// Reads an outbox, which is for reading only until it is begun.
     pub(in crate::files) fn read(
         disk: &Disk,
         folder: &Path,
@@ -38,16 +41,16 @@ impl Outbox {
         let numbers = segment::numbers(disk, folder)?;
         let last = numbers.last().copied();
         if let Some(last) = last {
-            Reading::open(disk, folder, last)?; // nothing is written to one of another version
+            Reading::open(disk, folder, last)?; // fails for another version, before anything is written to it
         }
-        // Each is begun once the one before it is durable.
+        // Each segment was begun after the one before it was durable.
         segment::settle(disk, folder, last.unwrap_or(0), |_| 0)?;
         let EarlierRun { mut state, has_requests, ended, dropped } = read_all(disk, folder, &numbers, epoch)?;
         state.facts.epoch = epoch.into();
-        // A segment without a request is replaced: starts that end at once would leave one each.
+        // A last segment without requests is replaced: otherwise each start that ends at once would leave one.
         let number = last.map_or(1, |last| last + u64::from(has_requests));
         let segment = Segment::create(disk, folder, Which::Outbox, number, Ahead::Nothing, None)?;
-        // What was read is durable.
+        // Everything that was read is durable.
         let settled = AtomicU64::new(state.facts.next);
         Ok(Outbox {
             disk: disk.clone(),
@@ -70,7 +73,7 @@ impl Outbox {
         Ok(self)
     }
 
-    /// Begins its segment, before which nothing can be written.
+    /// Begins the new segment; nothing can be written before.
     pub(in crate::files) fn begin(&self) -> Result<(), Fault> {
         let mut writer = locked(&self.writer);
         let snapshot = locked(&self.state).snapshot();
@@ -83,16 +86,16 @@ impl Outbox {
     }
 }
 
-/// What was left.
+/// What an earlier run left.
 struct EarlierRun {
     state: State,
-    /// Whether the last segment has requests, taken or not.
+    /// Whether the last segment has requests, acknowledged or not.
     has_requests: bool,
     ended: (PathBuf, u64),
     dropped: Vec<Dropped>,
 }
 
-/// Reads the segments, and closes the last of them.
+/// Reads all segments and closes the last one.
 fn read_all(disk: &Disk, folder: &Path, numbers: &[u64], epoch: &str) -> Result<EarlierRun, Fault> {
     let Some((last, earlier)) = numbers.split_last() else {
         return Ok(EarlierRun {
@@ -117,7 +120,7 @@ fn read_all(disk: &Disk, folder: &Path, numbers: &[u64], epoch: &str) -> Result<
     let has_requests = !state.batches.is_empty();
     batches.extend(std::mem::take(&mut state.batches));
     state.bytes = 0;
-    // The sink has all that was in a segment that was deleted, and a loss of power may bring any of them back.
+    // The sink has all requests of deleted segments, and a loss of power may bring any of these segments back.
     let taken = state.facts.acknowledged;
     let mut next = taken + 1;
     for batch in batches.into_iter().filter(|batch| batch.first + batch.count > taken + 1) {
@@ -134,19 +137,19 @@ fn read_all(disk: &Disk, folder: &Path, numbers: &[u64], epoch: &str) -> Result<
     }
 }
 
-/// A request is missing that the sink does not have.
+/// The fault for a missing request that the sink does not have.
 fn lost(folder: &Path, numbers: &[u64], last: &Reader) -> Fault {
     let what = "a request is missing that the sink does not have: put all of its folder back";
     segment::check_row(folder, numbers).err().unwrap_or_else(|| last.damaged(0, what))
 }
 
-/// What of a batch still waits.
+/// The part of a batch that still waits.
 fn skip_taken(disk: &Disk, folder: &Path, mut batch: Batch, acknowledged: u64) -> Result<Batch, Fault> {
     let path = segment::path(folder, batch.segment);
     while batch.first <= acknowledged {
         match rows::packed_item(disk, &path, &batch.front()) {
             Ok((_, length)) => batch.pass(1, batch.at + length),
-            // One that the sink has was changed: the next one is looked for.
+            // This request was changed, but the sink has it: search for the next one.
             Err(Fault::Damaged { .. }) => {
                 let next = rows::find_item(disk, &path, batch.at..batch.end, acknowledged + 1)?;
                 batch.pass(acknowledged + 1 - batch.first, next.unwrap_or(batch.at));

@@ -1,4 +1,4 @@
-//! Which series each sender has.
+//! Lists which series each sender has: for `keeper/fill/prime`, which seeds a fresh book, and for operators.
 
 use super::texts::{begin_of, Texts};
 use super::{locked, Outbox};
@@ -6,14 +6,14 @@ use crate::otlp::series::SeriesKey;
 use std::collections::{BTreeMap, HashMap};
 use std::sync::Arc;
 
-/// Series by their owners, for who reads their keys in parts: all of them together may be very long.
+/// Series by owner. Keys are read in parts, since together they may be very long.
 pub struct Owned {
-    /// Each by its id, with where it ends.
+    /// The ids of the owner's series, and where each ends.
     pub all: BTreeMap<Arc<str>, Vec<(u32, u64)>>,
     texts: Texts,
 }
 
-/// How the key of a series begins, and that.
+/// The sorted part of a key, and the id and end of the series.
 type Begun = (Box<[u8]>, (u32, u64));
 
 impl Owned {
@@ -25,7 +25,7 @@ impl Owned {
 }
 
 impl Outbox {
-    /// Those whose owners are known, in the order of their keys as far as these are looked at.
+    /// All series with a known owner, sorted by as much of their keys as `begin_of` gives.
     pub fn owned(&self) -> Owned {
         let (those, texts) = self.those(|series| series.owner.is_some());
         let those = those.into_iter().map(|(id, series)| (id, (id, series))).collect();
@@ -38,13 +38,13 @@ impl Outbox {
             by_begin.entry(owner).or_default().push((begin, series));
         }
         let in_order = |(owner, mut series): (_, Vec<Begun>)| {
-            series.sort(); // they mostly are, which this way of sorting is quick with
+            series.sort(); // already sorted for the most part, which this sort handles fast
             (owner, series.into_iter().map(|(_, series)| series).collect())
         };
         Owned { all: by_begin.into_iter().map(in_order).collect(), texts }
     }
 
-    /// Of those whose owner is known: each is, a moment after its first group.
+    /// Counts the series with a known owner: an owner is known soon after the first group with the series.
     pub fn series_by_owner(&self) -> HashMap<Arc<str>, u64> {
         let mut counts = HashMap::new();
         for (_, known) in locked(&self.state).series.iter() {

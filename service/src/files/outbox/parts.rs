@@ -1,14 +1,14 @@
-//! A snapshot or a commit that is longer than a record may be: all but its end is ahead of it, in records of parts. One of
-//! over 2 GiB has some 100,000 series whose keys have 40 KB and share little.
+//! Splits a snapshot or a commit that is longer than a record may be: everything but its end is in part records before
+//! it. A snapshot of over 2 GiB has for example 100,000 series with keys of 40 KB that share little.
 
 use super::rows::PART;
 use crate::files::records::{put, Next, Reader, LARGEST};
 use crate::files::Fault;
 
-/// So many bytes have room in a record.
+/// The bytes that one record has room for.
 const ROOM: usize = if cfg!(test) { 200 } else { LARGEST - 1 };
 
-/// Appends a record, and what has no room in it ahead of it.
+/// Appends a record, with parts before it if it is too long.
 pub fn put_long(out: &mut Vec<u8>, kind: u8, mut bytes: &[u8]) {
     while let Some((part, rest)) = bytes.split_at_checked(ROOM).filter(|(_, rest)| !rest.is_empty()) {
         put(out, PART, &[part]);
@@ -17,7 +17,7 @@ pub fn put_long(out: &mut Vec<u8>, kind: u8, mut bytes: &[u8]) {
     put(out, kind, &[bytes]);
 }
 
-/// The next record, with what is ahead of it. Where the file stops or ends behind parts alone, so it does for who reads.
+/// The next record, with the parts before it. If the file stops or ends after parts alone, the caller gets just that.
 pub fn next(reader: &mut Reader) -> Result<Next, Fault> {
     let mut whole = Vec::new();
     loop {

@@ -1,7 +1,7 @@
-//! A segment of the outbox that an earlier run left.
+//! Reads the segments of an earlier run, for `open`.
 //!
-//! Of closed segments only the heads of groups are read, and their commits; the bodies are passed over, and checked
-//! when they are delivered. The last segment is read whole, for a crash may have torn its last group.
+//! In closed segments only the heads and commits of groups are read. The bodies are skipped, and checked when they are
+//! delivered. The last segment is read in full, since a crash may have torn its last group.
 
 use super::changes::{Change, Group};
 use super::parts;
@@ -18,16 +18,16 @@ use std::sync::Arc;
 
 const NOT_WRITTEN: &str = "is no record that is written here: put a copy of this file in its place";
 
-/// A segment that is read.
+/// A segment that is being read.
 pub(super) struct Reading {
     disk: Disk,
     pub reader: Reader,
     number: u64,
-    /// The last epoch, which most groups share.
+    /// The last epoch read, which most groups share.
     epoch: Arc<str>,
 }
 
-/// The records behind the head of a group.
+/// The records after the head of a group.
 enum Items {
     Whole {
         journal: u64,
@@ -35,7 +35,7 @@ enum Items {
         from: u64,
         to: u64,
     },
-    /// They end here.
+    /// The offset at which they end early.
     Torn(u64),
 }
 
@@ -79,7 +79,7 @@ impl Reading {
         (count > 0).then_some(Batch { first, count, epoch, since, segment: self.number, at, end })
     }
 
-    /// Goes behind a group's commit. With `whole` each item is read.
+    /// Moves to the end of a group's commit. With `whole`, reads each item.
     fn items(&mut self, head: &GroupHead, whole: bool) -> Result<Items, Fault> {
         let from = self.reader.at;
         let mut number = head.first;
@@ -110,8 +110,8 @@ impl Reading {
         }
     }
 
-    /// The items of a group of the last segment, which may be torn. Where they are durable and one was changed, all else is
-    /// known by the commit: the delivery stops at that one, and says so.
+    /// The items of a group in the last segment, which may be torn. If they are durable and one was changed, the commit
+    /// still gives everything else: the start goes on, and the delivery stops at that request and reports it.
     fn last_items(&mut self, head: &GroupHead) -> Result<Items, Fault> {
         let from = self.reader.at;
         let torn = match self.items(head, true)? {
@@ -128,7 +128,7 @@ impl Reading {
         }
     }
 
-    /// The state that the last segment tells, and where it has to be closed, where it was not.
+    /// The state after the last segment, and where to close that segment if it is not closed.
     pub fn read_last(&mut self) -> Result<(State, Option<u64>), Fault> {
         let Next::Record { at, kind: rows::SNAPSHOT, bytes } = parts::next(&mut self.reader)? else {
             return Err(self.reader.damaged(self.reader.at, CHANGED));
@@ -180,7 +180,7 @@ impl Reading {
         let wrong = || self.reader.damaged(at, NOT_WRITTEN);
         match kind {
             HEADER => return Err(wrong()),
-            // Which requests still wait is found once all segments are read.
+            // Which requests still wait is known only after all segments have been read.
             rows::ACK => {
                 state.facts.acknowledged = bytes.try_into().map(u64::from_le_bytes).map_err(|_| wrong())?
             }

@@ -1,21 +1,21 @@
-//! What posts had last of a series, by digests, so that a repeat is known as one; and of a new one who posts it.
+//! Digests of the last posts of each series, by which a repeat is recognised, and the owners of new series.
 //!
-//! A digest decides of nothing that is added: it is looked at only after the book has refused a point as out of order. Nobody
-//! gains anything by two points of one digest: who sends both hides a late point of a series of his own from himself.
+//! A digest never decides what is added: it is compared only after the book has refused a point as out of order. A
+//! sender that makes two points with the same digest hides only a late point of its own series.
 
 use crate::otlp::series::Digest;
 use std::collections::HashMap;
 use std::sync::Arc;
 
-/// Of a series' points in one post, one after the other; nothing where there is none. It has 48 bits: two of them and a number of
-/// 32 take 16 bytes.
+/// A digest of the points that one post has of a series, in order; zero if there are none. It has 48 bits, so that two
+/// of them and a 32-bit id take 16 bytes.
 #[derive(Clone, Copy, Debug, Default, PartialEq, Eq)]
 pub struct PointsDigest([u16; 3]);
 
 impl PointsDigest {
     pub const NONE: PointsDigest = PointsDigest([0; 3]);
 
-    /// Of these points and of one more, by its words after its series' number.
+    /// The digest with one more point, given by its words after the series number.
     pub fn and(self, point: &[u64]) -> PointsDigest {
         let digest = point.iter().fold(u64::from(self), |digest, word| mixed(digest ^ word));
         PointsDigest::from(digest.max(1))
@@ -26,7 +26,7 @@ impl PointsDigest {
     }
 }
 
-/// Each bit depends on all others, and no two numbers become one: the last step of Murmur3, which is as it is on all
+/// The last step of Murmur3: each bit depends on all others, and the mapping is one to one. It is the same on all
 /// instances and after each start.
 fn mixed(number: u64) -> u64 {
     let number = (number ^ number >> 33).wrapping_mul(0xff51_afd7_ed55_8ccd).wrapping_add(1);
@@ -46,22 +46,22 @@ impl From<PointsDigest> for u64 {
     }
 }
 
-/// Of a series: what the last post had of it, and the one before.
+/// The digests of the last post of a series, and of the one before.
 #[derive(Clone, Copy, Debug, Default, PartialEq, Eq)]
 pub struct Recent(pub [PointsDigest; POSTS_KNOWN]);
 
 impl Recent {
-    /// A post has this point of the series, and none before.
+    /// A new post has this as its first point of the series.
     pub fn begin(&mut self, point: &[u64]) {
         *self = Recent([PointsDigest::default().and(point), self.0[0]]);
     }
 
-    /// It has one more.
+    /// The same post has one more point of the series.
     pub fn go_on(&mut self, point: &[u64]) {
         self.0[0] = self.0[0].and(point);
     }
 
-    /// What is known where `later` was known since, and nothing of what was before that.
+    /// Combines what was known with what became known later, on its own.
     pub fn then(self, later: Recent) -> Recent {
         match later.0 {
             [last, before] if before.is_none() && !last.is_none() => Recent([last, self.0[0]]),
@@ -74,27 +74,27 @@ impl Recent {
         self.0[0].is_none()
     }
 
-    /// Those that there are.
+    /// The digests that are known.
     pub fn digests(self) -> impl Iterator<Item = PointsDigest> {
         self.0.into_iter().filter(|digest| !digest.is_none())
     }
 }
 
-/// How many posts are known of a series.
+/// How many posts of a series are remembered.
 pub const POSTS_KNOWN: usize = 2;
 
 /// What posts say of a series that may be in no group yet.
 #[derive(Clone, Debug, Default, PartialEq, Eq)]
 pub struct Noted {
-    /// Who posts it, where that is known.
+    /// The sender, if it is known.
     pub owner: Option<Arc<str>>,
     pub recent: Recent,
 }
 
-/// Of series that posts had points of, as it was when a group was taken.
+/// The digests and owners of posted series, as of the moment when a group was taken.
 #[derive(Clone, Debug, Default)]
 pub struct Recents {
-    /// Of this numbering are the ids.
+    /// The numbering that the ids belong to.
     pub numbering: u64,
     pub by_id: Vec<(u32, Recent)>,
     pub by_digest: HashMap<Digest, Noted>,

@@ -1,19 +1,19 @@
-//! The outbox's records.
+//! Codes the records of the outbox.
 //!
 //! | kind | bytes |
 //! |---|---|
 //! | 16 snapshot, the first of a segment | packed `Snapshot`; its series have the ids 0, 1, .. |
 //! | 17 group | number of its first item, of items, of bytes that these take, seconds since 1970 (u64 each), epoch |
 //! | 18 item | number (u64), packed body |
-//! | 19 commit, behind the items of its group | number of its first item, of items, the journal's segment (u64 each), packed `Ends` |
+//! | 19 commit, after the items of its group | number of its first item, of items, the journal's segment (u64 each), packed `Ends` |
 //! | 20 ack | number (u64) |
 //! | 21 quarantine, 22 lift | the sender's name |
 //! | 23 forget | packed `[id, ..]` |
 //! | 24 beside | packed `[[metric, unit], ..]` |
-//! | 25 part | the first bytes of the snapshot or the commit behind it, where that is longer than a record (`parts`) |
+//! | 25 part | the first bytes of the snapshot or the commit that follows, if that is longer than a record (`parts`) |
 //!
-//! Packed is deflated; but bodies it is JSON. A series has the id of the snapshot, or the next free one from the
-//! commit that first has it.
+//! Packed means deflated; what is packed is JSON, except bodies. A series has the id that the snapshot gives it, or the
+//! next free one from the commit that first has it.
 
 use super::changes::{Change, End, Group, Owners};
 use super::keys::{each_part, Keys};
@@ -49,14 +49,14 @@ pub const FORGET: u8 = OWN + 7;
 pub const BESIDE: u8 = OWN + 8;
 pub const PART: u8 = OWN + 9;
 
-/// How much is done to pack.
+/// The compression level.
 const LEVEL: u32 = 5;
-/// A piece of what is packed in pieces has so many bytes, or somewhat fewer or more.
+/// The approximate bytes of a piece that is compressed by itself.
 pub const PIECE: usize = if cfg!(test) { 4 << 10 } else { 256 << 10 };
 
-/// Most JSON is no more times as long as it is packed.
+/// Most packed JSON unpacks to no more than this many times its length.
 const TIMES_AS_LONG: usize = 32;
-/// So much room is asked for at most. What is not used of it takes no memory.
+/// The most room that is reserved at once. Unused room takes no memory.
 const MOST_AT_ONCE: usize = if cfg!(test) { 64 << 10 } else { 256 << 20 };
 
 /// What a group did to series.
@@ -64,13 +64,13 @@ const MOST_AT_ONCE: usize = if cfg!(test) { 64 << 10 } else { 256 << 20 };
 struct Ends<N> {
     /// Id and frontier.
     known: Vec<(u32, u64)>,
-    /// Key, frontier and owner of those that get the next ids.
+    /// Key, frontier and owner of the new series, which get the next ids.
     new: N,
     runs: Vec<RunRow>,
     recent: Vec<RecentRow>,
 }
 
-/// Rows of new series, written one by one: their keys are long.
+/// Rows of new series, written one by one because their keys are long.
 struct NewRows<'g>(&'g Texts, &'g [End], &'g [Option<Arc<str>>]);
 
 #[derive(Default)]
@@ -80,13 +80,13 @@ struct NewRead {
     owners: Owners,
 }
 
-/// A group's records, and where in them its items are.
+/// The records of a group, and where its items are in them.
 pub struct GroupBytes {
     pub records: Vec<u8>,
     pub items: Range<usize>,
 }
 
-/// What is before the items of a group.
+/// The record before the items of a group.
 pub struct GroupHead {
     pub first: u64,
     pub count: u64,
@@ -99,7 +99,7 @@ pub fn deflated(bytes: &[u8]) -> Vec<u8> {
     deflated_by(Compression::new(LEVEL), |out| out.write_all(bytes))
 }
 
-/// The same in less time, and somewhat longer.
+/// Faster than `deflated`, and somewhat longer.
 pub fn deflated_fast(bytes: &[u8]) -> Vec<u8> {
     deflated_by(Compression::fast(), |out| out.write_all(bytes))
 }
@@ -107,7 +107,7 @@ pub fn deflated_fast(bytes: &[u8]) -> Vec<u8> {
 fn deflated_by(level: Compression, write: impl FnOnce(&mut dyn Write) -> io::Result<()>) -> Vec<u8> {
     let mut packer = BufWriter::new(DeflateEncoder::new(Vec::new(), level));
     let packed = write(&mut packer).and_then(|()| packer.into_inner()?.finish());
-    // Nothing fails that writes to memory.
+    // Writing to memory does not fail.
     packed.unwrap_or_default()
 }
 
@@ -118,11 +118,11 @@ pub fn inflated(bytes: &[u8]) -> Option<Vec<u8>> {
 }
 
 pub fn packed(value: &impl Serialize) -> Vec<u8> {
-    // These types have no key that is not a text, and so can be written.
+    // The keys of these types are all strings, so this can't fail.
     deflated_by(Compression::new(LEVEL), |out| Ok(serde_json::to_writer(out, value)?))
 }
 
-/// What is written of these pieces, one behind the other, side by side: an end of all is behind them.
+/// Writes and compresses the pieces in parallel and concatenates them; an empty last block ends the stream.
 pub fn packed_pieces<P: Send>(
     pieces: impl Iterator<Item = P>,
     write: impl Fn(P) -> Vec<u8> + Sync,
@@ -133,11 +133,11 @@ pub fn packed_pieces<P: Send>(
     out
 }
 
-/// Deflated up to a full byte, and more may follow. A start waits for it, and in more time it would be little shorter.
+/// Ends at a full byte, and more may follow. Fast, because a start waits for it; a better level would gain little.
 fn deflated_piece(bytes: &[u8]) -> Vec<u8> {
     let mut packer = DeflateEncoder::new(Vec::new(), Compression::fast());
     let packed = packer.write_all(bytes).and_then(|()| packer.flush());
-    packed.map_or_else(|_| Vec::new(), |()| std::mem::take(packer.get_mut())) // as above
+    packed.map_or_else(|_| Vec::new(), |()| std::mem::take(packer.get_mut())) // can't fail, as above
 }
 
 pub fn unpacked<T: DeserializeOwned>(bytes: &[u8]) -> Option<T> {
@@ -145,7 +145,7 @@ pub fn unpacked<T: DeserializeOwned>(bytes: &[u8]) -> Option<T> {
     serde_json::from_str(std::str::from_utf8(&text).ok()?).ok()
 }
 
-/// The same as `inflated` in less time, since nothing is moved; none where it needs more room than most.
+/// Faster than `inflated`, since no bytes are moved; none if more room is needed than is reserved.
 fn inflated_at_once(bytes: &[u8]) -> Option<Vec<u8>> {
     let room = bytes.len().checked_mul(TIMES_AS_LONG).filter(|room| *room <= MOST_AT_ONCE)?;
     let mut out = Vec::with_capacity(room);
@@ -226,7 +226,7 @@ pub fn head_of(mut bytes: &[u8]) -> Option<GroupHead> {
     Some(GroupHead { first, count, length, since, epoch })
 }
 
-/// The journal's segment of a commit, where it is that of the group; and its packed ends.
+/// The journal segment and the packed ends of a commit; none if the commit belongs to another group.
 pub fn commit_of<'a>(mut bytes: &'a [u8], head: &GroupHead) -> Option<(u64, &'a [u8])> {
     let rest = &mut bytes;
     let is_its = take_number(rest)? == head.first && take_number(rest)? == head.count;
@@ -234,7 +234,7 @@ pub fn commit_of<'a>(mut bytes: &'a [u8], head: &GroupHead) -> Option<(u64, &'a 
     is_its.then_some((journal, *rest))
 }
 
-/// As a `Group` has it.
+/// The fields of a `Group` that `Ends` has.
 pub struct EndsRead {
     pub ends: Vec<End>,
     pub new: Keys,
@@ -242,7 +242,7 @@ pub struct EndsRead {
     pub recent: Vec<(u32, Recent)>,
 }
 
-/// What a group did, after all that these know.
+/// What a group did, given the series that were known before it.
 pub fn ends_of(bytes: &[u8], series: &Table) -> Option<EndsRead> {
     let Ends { known, new, runs, recent } = unpacked::<Ends<NewRead>>(bytes)?;
     let runs = runs.into_iter().map(|row| (row.0, row));
@@ -274,7 +274,7 @@ pub fn record(change: &Change) -> Vec<u8> {
     out
 }
 
-/// The change of a record that is of no group, and no ack, behind all that these know.
+/// The change of a record that is neither part of a group nor an ack, given the series that were known before it.
 pub fn change_of(kind: u8, bytes: &[u8], series: &Table) -> Option<Change> {
     let was_given = |id: &u32| *id < series.next_id();
     let name = || Some(std::str::from_utf8(bytes).ok()?.to_string());
@@ -290,13 +290,13 @@ pub fn change_of(kind: u8, bytes: &[u8], series: &Table) -> Option<Change> {
     })
 }
 
-/// The body of a waiting request, as it was committed.
+/// The body of a waiting request, checked against its checksum.
 pub fn read_item(disk: &Disk, path: &Path, front: &Front) -> Result<Vec<u8>, Fault> {
     let (packed, _) = packed_item(disk, path, front)?;
     inflated(&packed).ok_or_else(|| changed(path, front))
 }
 
-/// A waiting request, packed as it is there, and the length of its record, of which each byte is as it was.
+/// A waiting request, packed as it is and checked against its checksum, and the length of its record.
 pub fn packed_item(disk: &Disk, path: &Path, front: &Front) -> Result<(Vec<u8>, u64), Fault> {
     let number = front.waiting.number.to_le_bytes();
     let read = records::read_at(disk, path, front.at)?;
@@ -305,7 +305,7 @@ pub fn packed_item(disk: &Disk, path: &Path, front: &Front) -> Result<(Vec<u8>, 
     Ok((bytes.split_off(number.len()), length))
 }
 
-/// Where the record of a request begins, between these places; `None` where none is whole.
+/// Searches the range for the record of a request; none if it has no whole one.
 pub fn find_item(disk: &Disk, path: &Path, places: Range<u64>, number: u64) -> Result<Option<u64>, Fault> {
     let mut bytes = vec![0; (places.end - places.start) as usize];
     let read = disk.open(path)?.read_exact_at(&mut bytes, places.start);
@@ -321,7 +321,7 @@ pub fn find_item(disk: &Disk, path: &Path, places: Range<u64>, number: u64) -> R
     Ok(found.map(|at| places.start + at as u64))
 }
 
-/// The length of its record.
+/// The length of the record of a request.
 pub fn item_length(disk: &Disk, path: &Path, front: &Front) -> Result<u64, Fault> {
     let mut head = [0; HEAD];
     let read = disk.open(path)?.read_exact_at(&mut head, front.at);
@@ -342,7 +342,7 @@ fn changed(path: &Path, front: &Front) -> Fault {
 mod tests {
     use super::*;
 
-    /// Also what is many times as long, and what is too long for it.
+    /// Including texts that compress well, and ones that are too long for it.
     #[test]
     fn what_is_inflated_at_once_is_the_same() {
         let times = |text: &str, times| text.repeat(times);

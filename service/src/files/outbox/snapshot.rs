@@ -1,4 +1,7 @@
-//! What a segment begins with: all that the outbox knows, but its requests.
+//! The snapshot at the head of each segment: everything that the outbox knows, except the requests.
+//!
+//! A start reads the last segment's snapshot and the records after it; of earlier segments it needs only waiting
+//! requests.
 
 use super::keys::each_part;
 use super::parts::put_long;
@@ -13,15 +16,15 @@ use serde::{Deserialize, Deserializer, Serialize};
 use std::ops::Range;
 use std::sync::Arc;
 
-/// To be written without the lock.
+/// A copy of the state, to write without the lock.
 pub struct Snapshot {
     pub facts: Facts,
-    /// By their ids, none is left out.
+    /// By id, without gaps.
     pub series: Vec<Series>,
     pub texts: Texts,
 }
 
-/// As it is written.
+/// The JSON of a snapshot.
 #[derive(Deserialize)]
 struct Content {
     facts: Facts,
@@ -33,19 +36,19 @@ struct Content {
 /// A part of what is written.
 enum Piece {
     Text(Vec<u8>),
-    /// Of the series with these ids.
+    /// The rows of the series with these ids.
     Rows(Range<u32>),
 }
 
-/// Key, frontier, seconds since 1970 when last seen, owner.
+/// Key, frontier, when last seen (seconds since 1970), owner.
 type Row<T> = (SeriesKey, u64, u64, Option<T>);
 
 fn row(key: SeriesKey, series: &Series) -> Row<&str> {
     (key, series.frontier, u64::from(series.seen), series.owner.as_deref())
 }
 
-/// The run of a series: its id, its start, how far its frontier is after the last point, that point's words, its interval, and
-/// start and last time of the run before.
+/// The run of a series: its id, its start, how far the frontier is after the last point, that point's values, the
+/// interval, and the start and last time of the previous run.
 #[derive(Serialize, Deserialize)]
 pub struct RunRow(pub u32, u64, u64, Vec<u64>, u64, (u64, u64));
 
@@ -63,12 +66,12 @@ impl RunRow {
     }
 }
 
-/// The id of a series, and the digests of what the last two posts had of it.
+/// The id of a series, and the digests of its points in the last two posts.
 #[derive(Serialize, Deserialize)]
 pub struct RecentRow(pub u32, u64, u64);
 
 impl RecentRow {
-    /// None where nothing is known.
+    /// None if no digest is known.
     pub fn of(id: u32, recent: Recent) -> Option<RecentRow> {
         let [last, before] = recent.0.map(u64::from);
         (last != 0).then_some(RecentRow(id, last, before))
@@ -114,7 +117,7 @@ impl Snapshot {
                     out.push(b',');
                     out.extend_from_slice(json(&row(key, series)).as_bytes());
                 }
-                out.split_off(usize::from(ids.start == 0)) // nothing is ahead of the first
+                out.split_off(usize::from(ids.start == 0)) // no comma before the first
             }
         }
     }
@@ -134,7 +137,7 @@ impl Snapshot {
 }
 
 fn json(value: &impl Serialize) -> String {
-    // These types have no key that is not a text, and so can be written.
+    // The keys of these types are all strings, so this can't fail.
     serde_json::to_string(value).unwrap_or_default()
 }
 

@@ -1,4 +1,7 @@
-//! What the outbox knows, in memory: some bytes a series, and some a group, but none a waiting request.
+//! The outbox in memory: some bytes for each series and each group, and nothing for a single waiting request.
+//!
+//! `written` applies a change after its record is in the segment, and `reading` applies the same change at a start, so
+//! both arrive at the same state.
 
 use super::changes::{Change, Group, UnitOfMetric};
 use super::epochs::Epochs;
@@ -13,12 +16,12 @@ use std::collections::{BTreeSet, HashSet, VecDeque};
 use std::sync::Arc;
 use std::time::Duration;
 
-/// How long ago something was.
+/// A minimum age.
 #[derive(Clone, Copy)]
 pub struct Age {
-    /// Before this second since 1970.
+    /// Before this time, in seconds since 1970.
     pub before: u64,
-    /// And by a clock that nobody sets, where it was in this run.
+    /// And this long ago by a clock that is never set, if it happened in this run.
     pub age: Duration,
 }
 
@@ -29,7 +32,7 @@ impl Age {
 }
 
 impl Table {
-    /// Those that may be forgotten, but these.
+    /// The ids of the series that may be forgotten, except those in `keep`.
     pub fn old(&self, age: Age, keep: &HashSet<Digest>) -> impl Iterator<Item = u32> + '_ {
         let keep: HashSet<u32> = keep.iter().filter_map(|digest| self.id_of(digest)).collect();
         let old = self.iter().filter(move |(id, known)| known.may_be_forgotten(age) && !keep.contains(id));
@@ -38,7 +41,7 @@ impl Table {
 }
 
 impl KnownSeries {
-    /// One that ends ahead of the clock stays: else no run of it that begins before that would count.
+    /// A series that ends ahead of the clock stays: otherwise runs of it that begin before its end would never count.
     fn may_be_forgotten(&self, age: Age) -> bool {
         u64::from(self.series.seen) < age.before
             && self.series.frontier / 1_000_000_000 < age.before
@@ -46,7 +49,7 @@ impl KnownSeries {
     }
 }
 
-/// Requests of a group that wait, in the order of their numbers.
+/// Consecutive waiting requests of one group.
 #[derive(Clone, Debug)]
 pub struct Batch {
     pub first: u64,
@@ -54,7 +57,7 @@ pub struct Batch {
     pub epoch: Arc<str>,
     pub since: u64,
     pub segment: u64,
-    /// Where the record of the first begins, and where that of the last ends.
+    /// The offset of the first record, and the end of the last one.
     pub at: u64,
     pub end: u64,
 }
@@ -65,13 +68,13 @@ impl Batch {
         Front { waiting, segment: self.segment, at: self.at }
     }
 
-    /// So many of them wait no more; the record of the next one begins there.
+    /// Removes the first `count` requests; the next record begins at `at`.
     pub fn pass(&mut self, count: u64, at: u64) {
         (self.first, self.count, self.at) = (self.first + count, self.count - count, at);
     }
 }
 
-/// Where the first waiting request is.
+/// The position of the first waiting request.
 #[derive(Clone, Debug)]
 pub struct Front {
     pub waiting: Waiting,
@@ -79,14 +82,14 @@ pub struct Front {
     pub at: u64,
 }
 
-/// What is known beside series and requests.
+/// Everything known except series and requests.
 #[derive(Clone, Default, Serialize, Deserialize)]
 pub struct Facts {
-    /// Of the groups to come, which each start says.
+    /// The epoch of future groups, which each start sets.
     #[serde(skip)]
     pub epoch: Arc<str>,
     pub next: u64,
-    /// The sink has all up to this number.
+    /// The sink has all requests up to this number.
     pub acknowledged: u64,
     pub journal: u64,
     pub quarantined: BTreeSet<String>,
@@ -101,7 +104,7 @@ pub struct State {
     pub facts: Facts,
     pub series: Table,
     pub batches: VecDeque<Batch>,
-    /// Of the waiting requests, on disk.
+    /// The bytes of the waiting requests on disk.
     pub bytes: u64,
 }
 
@@ -120,13 +123,13 @@ impl State {
         self.batches.front().map(Batch::front)
     }
 
-    /// The first of them, whose requests have the epoch of the first.
+    /// The first batches that all have the epoch of the first request.
     pub fn of_one_epoch(&self, most: usize) -> Vec<Batch> {
         let those = self.batches.iter().take_while(|batch| *batch.epoch == *self.epoch());
         those.take(most).cloned().collect()
     }
 
-    /// The series get the ids that they have in a snapshot.
+    /// Renumbers the series first, so that they have the ids that the snapshot gives them.
     pub fn snapshot(&mut self) -> Snapshot {
         self.series.renumber();
         let known = self.series.iter().map(|(_, known)| known.series.clone());
@@ -162,7 +165,8 @@ impl State {
         self.facts.forgotten.note(ends, &mut self.facts.since);
     }
 
-    /// A snapshot has to follow: no record says this. What a run has come to stays, so its next point adds what is more.
+    /// The caller has to write a snapshot next, since no record has this change. Runs keep the values they have
+    /// reached, so a run's next point adds only what is new.
     pub fn put_back(&mut self, series: &[SeriesKey], to: u64) {
         let ids: Vec<u32> = series.iter().filter_map(|key| self.series.id(key)).collect();
         for id in ids {
@@ -171,7 +175,7 @@ impl State {
             };
             if to < series.frontier {
                 series.frontier = to;
-                series.recent = Recent::default(); // what is taken back is no repeat when it comes again
+                series.recent = Recent::default(); // so that the same points may be posted again
             }
             if let Some(run) = &mut series.run {
                 let last = &mut Arc::make_mut(run).last;
@@ -180,7 +184,7 @@ impl State {
         }
     }
 
-    /// A snapshot has to follow: no record names these.
+    /// The caller has to write a snapshot next, since no record has this change.
     pub fn adopt(&mut self, series: Vec<(SeriesKey, Series)>) {
         for (key, mut series) in series {
             series.owner = series.owner.map(|owner| self.series.shared(&owner));

@@ -1,7 +1,7 @@
-//! The series that an outbox knows. In memory they are known by digests of their keys: of these texts there are some hundred
-//! bytes a series, and they are asked for seldom.
+//! The series that an outbox knows. In memory they are known by digests of their keys: a key takes some hundred bytes,
+//! and is needed seldom.
 //!
-//! A digest is enough, as it is for the sinks: nobody knows two texts with the same SHA-256, whoever makes them.
+//! A digest is enough, as it is for the sinks: nobody can make two keys with the same SHA-256.
 
 use super::keys::Keys;
 use super::texts::Texts;
@@ -15,12 +15,12 @@ use std::time::{Duration, Instant};
 
 pub struct KnownSeries {
     pub series: Series,
-    /// When a group of this run last had a point of it. A clock that is set says nothing of that.
+    /// When a group of this run last had a point of it. Setting the system's clock does not change this.
     pub heard: Heard,
 }
 
-/// When something was in this run, by a clock that nobody sets, if it was. Each series has one, so it takes four bytes: parts of a
-/// second, for eight years.
+/// When something happened in this run, by a clock that is never set; zero if it did not. Each series has one, so it
+/// takes four bytes: sixteenths of a second, for eight years.
 #[derive(Clone, Copy, Debug, Default)]
 pub struct Heard(u32);
 
@@ -31,10 +31,10 @@ static BEGAN: OnceLock<Instant> = OnceLock::new();
 impl Heard {
     pub fn now() -> Heard {
         let began = BEGAN.get_or_init(Instant::now);
-        Heard(parts(began.elapsed()).saturating_add(1)) // 0 is never
+        Heard(parts(began.elapsed()).saturating_add(1)) // 0 means never
     }
 
-    /// Also where it never was.
+    /// True also if it never happened.
     pub fn is_so_long_ago(self, age: Duration) -> bool {
         self.0 == 0 || Heard::now().0.saturating_sub(self.0) >= parts(age)
     }
@@ -44,23 +44,23 @@ fn parts(time: Duration) -> u32 {
     u32::try_from(time.as_millis() * PARTS_OF_A_SECOND / 1000).unwrap_or(u32::MAX)
 }
 
-/// Seconds since 1970 as a series has them.
+/// Seconds since 1970, in 32 bits.
 pub fn whole_seconds(seconds: u64) -> u32 {
     u32::try_from(seconds).unwrap_or(u32::MAX)
 }
 
-/// Series have ids from 0 on, by which the records of the segment name them.
+/// The ids count up from 0; the records of a segment name series by them.
 #[derive(Default)]
 pub struct Table {
     ids: AHashMap<Digest, u32>,
-    /// By id; none of what was forgotten.
+    /// By id; none for a forgotten series.
     known: Vec<Option<KnownSeries>>,
     keys: Texts,
-    /// What comes is mostly in the order of its keys.
+    /// New keys mostly come in sorted order, which this makes use of.
     digests: Digests,
-    /// Each is in memory once.
+    /// Each owner's name is in memory once.
     owners: HashSet<Arc<str>>,
-    /// How often series were given new ids.
+    /// How often series were renumbered.
     numbering: u64,
 }
 
@@ -71,7 +71,7 @@ impl Table {
 
     /// The id of the next new series.
     pub fn next_id(&self) -> u32 {
-        self.known.len() as u32 // there is no memory for 2^32
+        self.known.len() as u32 // memory can't hold 2^32
     }
 
     pub fn id(&self, key: &SeriesKey) -> Option<u32> {
@@ -94,22 +94,22 @@ impl Table {
         self.known.get_mut(id as usize)?.as_mut()
     }
 
-    /// All, in the order of their ids.
+    /// All series by ascending id.
     pub fn iter(&self) -> impl Iterator<Item = (u32, &KnownSeries)> {
         (0..).zip(&self.known).filter_map(|(id, known)| Some((id, known.as_ref()?)))
     }
 
-    /// The keys of these ids. It is quick where they ascend.
+    /// The keys of these ids. Fast if they ascend.
     pub fn keys<'t>(&'t self, ids: impl Iterator<Item = u32> + 't) -> impl Iterator<Item = SeriesKey> + 't {
         self.keys.of(ids)
     }
 
-    /// All keys, by ids, for who has not the lock.
+    /// All keys by id, for use without the lock.
     pub fn texts(&self) -> Texts {
         self.keys.clone()
     }
 
-    /// Has the next id, or where it is known already the one that it has.
+    /// Gives the series the next id, or keeps the one that it has.
     pub fn put(&mut self, key: SeriesKey, known: KnownSeries) -> u32 {
         let next = self.next_id();
         let id = *self.ids.entry(self.digests.of(&key)).or_insert(next);
@@ -122,7 +122,7 @@ impl Table {
         id
     }
 
-    /// The same of many.
+    /// `put` for many series.
     pub fn put_all(&mut self, keys: &Keys, known: impl IntoIterator<Item = KnownSeries>) {
         let each: AHashSet<&Digest> = keys.digests.iter().collect();
         let are_new =
@@ -138,7 +138,7 @@ impl Table {
         }
     }
 
-    /// Where each of these ended.
+    /// Forgets these series and returns where each ended.
     pub fn forget(&mut self, ids: &[u32]) -> Vec<(Digest, u64)> {
         let forgotten = ids.iter().filter_map(|id| Some((*id, self.known.get_mut(*id as usize)?.take()?)));
         let ends: AHashMap<u32, u64> = forgotten.map(|(id, known)| (id, known.series.frontier)).collect();
@@ -153,7 +153,7 @@ impl Table {
         forgotten
     }
 
-    /// Gives them new ids, without those of what was forgotten.
+    /// Gives the series new ids without gaps.
     pub fn renumber(&mut self) {
         if self.ids.len() < self.known.len() {
             let old = std::mem::take(self);
@@ -167,12 +167,12 @@ impl Table {
         }
     }
 
-    /// Another one where series have other ids.
+    /// Changes when series get other ids.
     pub fn numbering(&self) -> u64 {
         self.numbering
     }
 
-    /// An owner's name.
+    /// The shared copy of an owner's name.
     pub fn shared(&mut self, owner: &str) -> Arc<str> {
         if let Some(known) = self.owners.get(owner) {
             return known.clone();
@@ -200,13 +200,13 @@ mod tests {
         }
     }
 
-    /// Of each id its key, and what is known.
+    /// The key of each id, and when it was last seen.
     fn all(table: &Table) -> Vec<(SeriesKey, u32)> {
         let seen = table.iter().map(|(_, known)| known.series.seen);
         table.keys(0..table.next_id()).zip(seen).collect()
     }
 
-    /// Of these there are a million.
+    /// There may be a million of these.
     #[test]
     fn what_is_known_of_a_series_takes_few_bytes() {
         assert!(size_of::<Option<KnownSeries>>() <= 64);
@@ -221,7 +221,7 @@ mod tests {
         assert!(now.is_so_long_ago(Duration::from_millis(100)));
     }
 
-    /// Also where one is known already, or is among them twice.
+    /// Including a series that is known already, or is in the list twice.
     #[test]
     fn many_at_once_are_as_one_by_one() {
         let new: Vec<usize> = (0..300).collect();

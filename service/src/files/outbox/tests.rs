@@ -1,5 +1,5 @@
-//! What is kept comes back; `brought` is an outbox that goes on from another, `damage` has what goes wrong, `many` more series
-//! than are packed together, `model` any order of calls, `size` bytes and times.
+//! What is committed is read back. `brought` continues another outbox, `damage` tests what goes wrong, `many` has more
+//! series than one block of keys, `model` tries any order of calls, `size` checks bytes and times.
 
 mod brought;
 mod damage;
@@ -17,10 +17,10 @@ use std::fs::File;
 use std::path::Path;
 use std::sync::atomic::{AtomicBool, AtomicUsize};
 
-/// Of everything.
+/// Every series is old enough.
 const AT_ONCE: Age = Age { before: u64::MAX, age: Duration::ZERO };
 
-/// Bodies of these tests: `[[[key, end], ..], filling]`.
+/// The bodies in these tests: `[[[key, end], ..], filling]`.
 fn body(ends: &[(&str, u64)], filling: &str) -> Vec<u8> {
     serde_json::to_vec(&(ends, filling)).unwrap()
 }
@@ -48,7 +48,7 @@ fn open(path: &Path) -> Outbox {
     open_on(&Disk::default(), path, "e", SEGMENT).unwrap()
 }
 
-/// Who posts which of the series.
+/// The owner of each series.
 fn owned(owners: &[(&str, &str)]) -> Recents {
     let noted = |owner: &str| Noted { owner: Some(owner.into()), ..Noted::default() };
     let by_digest = owners.iter().map(|(key, owner)| (key_of(key).digest(), noted(owner)));
@@ -60,7 +60,7 @@ fn commit_owned(outbox: &Outbox, bodies: &[Vec<u8>], journal: u64, owners: &[(&s
     outbox.commit_with(bodies, journal, Runs::new(), &owned(owners)).unwrap();
 }
 
-/// As `kill -9` leaves it.
+/// Leaves the files as `kill -9` does.
 fn kill(outbox: Outbox) {
     std::mem::forget(outbox);
 }
@@ -75,7 +75,7 @@ async fn take(outbox: &Outbox) -> (u64, Vec<u8>) {
     (waiting.number, body)
 }
 
-/// All that an outbox answers, but the bodies.
+/// Everything that an outbox answers, except bodies.
 fn view(outbox: &Outbox) -> String {
     let mut series: Vec<_> = outbox.series().into_iter().collect();
     series.sort_by(|one, other| one.0.cmp(&other.0));
@@ -89,7 +89,7 @@ fn view(outbox: &Outbox) -> String {
     )
 }
 
-/// A copy of a folder, with another last segment.
+/// A copy of a folder with another last segment.
 fn copied(from: &Path, last: &[u8]) -> tempfile::TempDir {
     let to = crate::files::power::place();
     for number in segment::numbers(&Disk::default(), from).unwrap() {
@@ -177,7 +177,8 @@ async fn what_waits_keeps_its_epoch() {
     assert_eq!(outbox.epoch(), "f");
 }
 
-/// Else a late repeat is counted again after a renewal, where the clock was set by more than the age of a series.
+/// Otherwise a late repeat would be counted again after a renewal, if the clock was set by more than the age of a
+/// series.
 #[test]
 fn a_clock_that_is_set_forgets_no_series_of_this_run() {
     let folder = tempfile::tempdir().unwrap();
@@ -209,7 +210,7 @@ fn run_of(start: u64, time: u64, words: &[u64]) -> Arc<Run> {
     Arc::new(Run { last, interval: time - start, before: EndedRun { start: 1, time: 2 } })
 }
 
-/// As durable as where the series ends, and by the same record.
+/// As durable as the end of the series, and by the same record.
 #[test]
 fn runs_of_a_group_last() {
     let folder = tempfile::tempdir().unwrap();
@@ -233,7 +234,7 @@ fn runs_of_a_group_last() {
         let bodies = [body(&[("a", 10), ("b", 11), ("c", 12)], "")];
         let saved = outbox.commit_with(&bodies, 2, given, &Recents::default()).unwrap().runs;
         assert_eq!(saved, runs(&[("a", a.clone()), ("b", b.clone())]), "what the group has");
-        // The book is ahead of the run: it has delta points.
+        // The book is ahead of the run: it also has delta points.
         let late = runs(&[("a", late.clone())]);
         outbox.commit_with(&[body(&[("a", 30)], "")], 3, late, &Recents::default()).unwrap();
     }
@@ -242,7 +243,7 @@ fn runs_of_a_group_last() {
         ("b".to_string(), Some((*b).clone())),
         ("c".to_string(), None),
     ];
-    // The first start reads the commits, the others the snapshot that it wrote.
+    // The first start reads the commits, the others read the snapshot that it wrote.
     for start in 0..3 {
         let outbox = open(path);
         assert_eq!(found(&outbox), wanted, "{start}");
@@ -250,7 +251,8 @@ fn runs_of_a_group_last() {
     }
 }
 
-/// By the id of a series where that is known, else by its key; also of one that is in no group, since its sender is quarantined.
+/// By the id of a series if it has one, else by its key; also for a series that is in no group, since its sender is
+/// quarantined.
 #[test]
 fn what_posts_had_last_is_known_over_starts() {
     let folder = tempfile::tempdir().unwrap();
@@ -275,7 +277,7 @@ fn what_posts_had_last_is_known_over_starts() {
         let by_id = vec![(ids[0].unwrap(), recent(7, 0))];
         let given = Recents { numbering, by_id, ..by_digest(&[("b", recent(8, 6))]) };
         outbox.commit_with(&[body(&[("b", 20)], "")], 3, Runs::new(), &given).unwrap();
-        // Ids of another numbering may be others'.
+        // Ids of another numbering may belong to other series.
         let given =
             Recents { numbering: numbering + 1, by_id: vec![(ids[0].unwrap(), recent(1, 1))], ..given };
         outbox
@@ -288,7 +290,7 @@ fn what_posts_had_last_is_known_over_starts() {
             .unwrap();
     }
     let wanted = [[7, 5], [8, 6], [0, 0], [0, 0]];
-    // The first start reads the commits, the others the snapshot that it wrote.
+    // The first start reads the commits, the others read the snapshot that it wrote.
     for start in 0..3 {
         assert_eq!(found(&open(path)), wanted, "{start}");
     }
@@ -303,7 +305,7 @@ fn what_posts_had_last_is_known_over_starts() {
     assert_eq!(found(&open(path)), [[7, 5], [0, 0], [0, 0], [0, 0]]);
 }
 
-/// A run that goes on behind it must not count again.
+/// A run that continues after the series was forgotten must not count again.
 #[test]
 fn what_was_forgotten_is_known_by_when_it_ended() {
     let folder = tempfile::tempdir().unwrap();

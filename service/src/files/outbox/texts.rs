@@ -1,7 +1,8 @@
-//! The keys of series by their ids, packed: neighbours share most of what they say, so one takes some ten bytes in the place
-//! of some hundreds. They are read seldom: at a start, for a snapshot, and where an operator names series.
+//! The keys of series by id, packed. Neighbouring keys share most of their text, so a key takes some ten bytes instead
+//! of hundreds. They are read seldom: at a start, for a snapshot, and when an operator names series.
 //!
-//! They are in a row (`text_row`), and this is deflated: by itself that looks back over 32 KiB alone, and a key may be longer.
+//! They are delta-coded (`text_row`) and then deflated. Deflate alone looks back only 32 KiB, and one key may be
+//! longer.
 
 use super::rows::{deflated_fast, inflated};
 use crate::files::text_row::TextRow;
@@ -9,30 +10,30 @@ use crate::otlp::series::SeriesKey;
 use crate::work::made_in_order;
 use std::sync::Arc;
 
-/// So many are packed together: for one all of them are read.
+/// Keys in a block; to read one, the whole block is unpacked.
 const IN_BLOCK: usize = 64;
-/// So many are read together where somebody wants them in another order: those of a block at once.
+/// How many ids are read together when they are not ascending: those of one block are unpacked once.
 const TOGETHER: usize = 4 * IN_BLOCK;
-/// So many bytes of a key are looked at for its place among others.
+/// How many bytes of a key are compared to sort it.
 const LOOKED_AT: usize = 512;
-/// So many, which is a multiple of that, are read by one thread where there are more.
+/// How many keys one thread reads, if there are more; a multiple of `IN_BLOCK`.
 pub const PART: usize = IN_BLOCK * if cfg!(test) { 3 } else { 8 };
 
-/// A copy shares what is packed.
+/// A clone shares the packed blocks.
 #[derive(Clone, Debug, Default)]
 pub struct Texts {
-    /// Each of `IN_BLOCK` keys.
+    /// `IN_BLOCK` keys each.
     blocks: Vec<Arc<[u8]>>,
-    /// Those behind them, fewer than a block has.
+    /// The keys after these, fewer than a block.
     last: Vec<SeriesKey>,
 }
 
 impl Texts {
     pub fn count(&self) -> u32 {
-        (self.blocks.len() * IN_BLOCK + self.last.len()) as u32 // there is no memory for 2^32
+        (self.blocks.len() * IN_BLOCK + self.last.len()) as u32 // memory can't hold 2^32
     }
 
-    /// The one with the next id.
+    /// Adds the key with the next id.
     pub fn push(&mut self, key: SeriesKey) {
         self.last.push(key);
         if self.last.len() == IN_BLOCK {
@@ -41,7 +42,7 @@ impl Texts {
         }
     }
 
-    /// Those of others, with the next ids. Where these begin a block it stays as it is.
+    /// Adds these keys with the next ids. If the first one begins a block, the blocks are shared as they are.
     pub fn append(&mut self, more: &Texts) {
         match self.last.is_empty() {
             true => {
@@ -52,12 +53,12 @@ impl Texts {
         }
     }
 
-    /// All, in the order of their ids.
+    /// All keys by ascending id.
     pub fn all(&self) -> impl Iterator<Item = SeriesKey> + '_ {
         (0..self.count()).filter_map(self.reader())
     }
 
-    /// Those of these ids. It is quick where most ascend.
+    /// The keys of these ids. Fast if most ids ascend.
     pub fn of<'t>(&'t self, mut ids: impl Iterator<Item = u32> + 't) -> impl Iterator<Item = SeriesKey> + 't {
         let next = move || {
             let some: Vec<u32> = ids.by_ref().take(TOGETHER).collect();
@@ -85,7 +86,7 @@ impl Texts {
         }
     }
 
-    /// What is made of these by their ids, read side by side where they are many. It is quick where they ascend.
+    /// Maps these with their keys; in parallel if they are many. Fast if the ids ascend.
     pub fn each_of<V: Send, T: Send>(
         &self,
         those: Vec<(u32, V)>,
@@ -105,7 +106,7 @@ impl Texts {
         all
     }
 
-    /// How many the blocks take.
+    /// The bytes of all blocks.
     #[cfg(test)]
     pub fn bytes(&self) -> usize {
         self.blocks.iter().map(|block| block.len()).sum()
@@ -115,12 +116,12 @@ impl Texts {
         let Some(packed) = self.blocks.get(block) else {
             return self.last.clone();
         };
-        // What was packed here is read here.
+        // This code packed the block, so it can unpack it.
         inflated(packed).and_then(|bytes| unpacked(&bytes)).unwrap_or_default()
     }
 }
 
-/// As much of a key as says its place among others; that of one which is no longer says it wholly.
+/// The part of a key that is compared to sort it: the whole key if it is short.
 pub fn begin_of(key: &SeriesKey) -> Box<[u8]> {
     let bytes = key.0.as_bytes();
     bytes[..bytes.len().min(LOOKED_AT)].into()
@@ -150,7 +151,7 @@ mod tests {
         texts
     }
 
-    /// Also where two differ within a character, and where one is all of another.
+    /// Including keys that differ within a character, and keys that begin with another key.
     #[test]
     fn keys_come_back_as_they_were() {
         let pieces = ["", "a", "ab", "\u{e9}", "\u{e8}x", "x\u{e8}", "\u{1f600}", "\u{1f601}", "aa", "a\na"];
@@ -179,7 +180,7 @@ mod tests {
         }
     }
 
-    /// So far back nothing is found to be the same by what deflates them.
+    /// This far back, deflate alone finds nothing that repeats.
     #[test]
     fn what_long_keys_share_is_kept_once_a_block() {
         let mut state = 1u64;

@@ -1,4 +1,4 @@
-//! Where an outbox is written.
+//! The segment of the outbox that is being written, and whether writing it is still allowed.
 
 use super::snapshot::Snapshot;
 use crate::files::disk::Disk;
@@ -11,17 +11,17 @@ pub struct Writer {
     pub segment: Segment,
     /// Where the segment's snapshot ends.
     snapshot: u64,
-    /// A write or sync failed: what is on disk is not known, and nothing is tried again until a new start.
+    /// A write or sync failed: what is on disk is unknown, and nothing is written again before a new start.
     pub failed: bool,
 }
 
 impl Writer {
-    /// Of a segment that has no snapshot yet, nor its name. Until it has nothing can be written.
+    /// For a segment without a snapshot and a name; nothing can be written until it has both.
     pub fn new(segment: Segment) -> Writer {
         Writer { segment, snapshot: 0, failed: true }
     }
 
-    /// The segment begins with this; it has another name until it is whole.
+    /// Writes the snapshot first, and names the segment after it is complete.
     pub fn put_snapshot(&mut self, disk: &Disk, folder: &Path, snapshot: &Snapshot) -> Result<(), Fault> {
         let segment = &mut self.segment;
         segment.put(&snapshot.records())?;
@@ -31,13 +31,13 @@ impl Writer {
         disk.order_folder(folder)
     }
 
-    /// Whether another segment is due. What follows a snapshot takes as much as that at least: behind a long one each
-    /// change would else bring the next.
+    /// Whether a new segment is due. The records after the snapshot take at least its length: otherwise each change
+    /// after a long snapshot would bring the next one.
     pub fn is_full(&self, longest: u64) -> bool {
         self.segment.at >= longest.max(2 * self.snapshot)
     }
 
-    /// From here on it has failed, until it is said that it has not.
+    /// Marks the writer as failed until the caller reports success.
     pub fn begin(&mut self, disk: &Disk) -> Result<(), Fault> {
         if !std::mem::replace(&mut self.failed, true) {
             return Ok(());

@@ -1,4 +1,5 @@
-//! What is written to an outbox, and how: a change is a record first.
+//! Writes the outbox. A change is written as a record before it is made in memory, and after a failed write nothing
+//! more is written.
 
 use super::changes::{Change, End, Group, Owners};
 use super::keys::Keys;
@@ -14,26 +15,27 @@ use crate::otlp::series::{Digest, Digests, NotForwarded, SeriesKey};
 use std::collections::HashMap;
 use std::io;
 
-/// What came of a group.
+/// What a commit has done.
 pub struct Committed {
-    /// Those of the runs whose series it has.
+    /// The given runs whose series are in the group.
     pub runs: Runs,
-    /// How many of its new series are of no post that was noted, and one of them: a fault of this program.
+    /// How many new series were in no noted post, and the first of them: a fault of this program.
     pub unowned: (usize, Option<SeriesKey>),
 }
 
-/// Whoever commits a group is who forgets series.
+/// Can't happen: the task that commits groups also forgets series.
 const OTHER_SERIES: &str = "series were forgotten while it was read";
 
 impl Outbox {
-    /// As `commit`, of a group without runs.
+    /// `commit_with` without runs.
     #[cfg(test)]
     pub fn commit(&self, bodies: &[Vec<u8>], journal: u64) -> Result<(), Fault> {
         self.commit_with(bodies, journal, Runs::new(), &Recents::default()).map(drop)
     }
 
-    /// Makes a group durable, whole or not at all; with a drive once it is settled. Posts of the journal's segments before `journal` are in it or in earlier
-    /// ones. Of the runs those count whose series the group has. What is noted of a series that is new here says whose it is.
+    /// Makes a group durable, whole or not at all; in a shard store it is durable after `settle`. Posts in the
+    /// journal's segments before `journal` are in this group or in earlier ones. Runs count only for series in the
+    /// group; `recents` has the owners of new series.
     pub fn commit_with(
         &self,
         bodies: &[Vec<u8>],
@@ -75,7 +77,7 @@ impl Outbox {
         Ok(Committed { runs, unowned })
     }
 
-    /// Makes durable a group of these, which are packed.
+    /// Makes a group of packed requests durable.
     pub(super) fn put_group(
         &self,
         writer: &mut Writer,
@@ -104,7 +106,7 @@ impl Outbox {
         self.change(|state| state.facts.quarantined.contains(sender).then(change)).map(drop)
     }
 
-    /// Writes what is to be changed, and then changes it; whether there was something.
+    /// Writes a change and makes it; false if there was nothing to change.
     pub(super) fn change(&self, make: impl FnOnce(&State) -> Option<Change>) -> Result<bool, Fault> {
         let mut writer = locked(&self.writer);
         let (change, record) = {
@@ -119,8 +121,9 @@ impl Outbox {
         Ok(true)
     }
 
-    /// What is changed then is told by where the bytes begin, and in which segment. It is durable when this returns, with a
-    /// drive once it is settled; but for what the sink has: lost, that is sent again.
+    /// Writes the bytes and makes the change, which may depend on where they begin and on the segment. Durable when
+    /// this returns, or in a shard store after `settle`. Only an acknowledgement need not be: if it is lost, the
+    /// request is sent again.
     fn write(
         &self,
         writer: &mut Writer,
@@ -135,7 +138,7 @@ impl Outbox {
             writer.segment.order()?;
         }
         locked(&self.state).apply(change);
-        // Else a change of this record can't be told from one that was torn.
+        // Without this watermark, a change of the record looks like a torn write.
         writer.segment.mark_last()?;
         self.keep_room(writer);
         if writer.is_full(self.longest) {
@@ -145,12 +148,12 @@ impl Outbox {
         Ok(())
     }
 
-    /// For the next snapshot: whatever that has is in this segment, in more bytes.
+    /// Keeps room for the next snapshot: everything that it will have takes more bytes in this segment.
     pub(super) fn keep_room(&self, writer: &Writer) {
         self.free_space.keep_for_snapshot(writer.segment.at);
     }
 
-    /// Ends the segment and begins another, with a snapshot.
+    /// Ends the segment and begins another one with a snapshot.
     pub(super) fn begin_segment(&self, writer: &mut Writer) -> Result<(), Fault> {
         writer.segment.end()?;
         writer.segment.order()?;
@@ -163,7 +166,7 @@ impl Outbox {
         self.delete_taken(writer)
     }
 
-    /// Deletes the segments that no waiting request is in, once it is durable that the sink has theirs.
+    /// Deletes the segments without waiting requests, after the acknowledgements are durable.
     pub(super) fn sweep(&self) -> Result<(), Fault> {
         let mut writer = locked(&self.writer);
         writer.begin(&self.disk)?;
@@ -193,12 +196,12 @@ impl Group {
     }
 }
 
-/// Where the last points of series end.
+/// The ends of the last points of each series in a group.
 #[derive(Default)]
 struct Ends {
-    /// With its place among the new ones, where it is new.
+    /// The end, and for a new series its index among the new ones.
     of: HashMap<Digest, (u64, Option<u32>)>,
-    /// The others' keys are known: all together may be very long.
+    /// Keys of new series only; keys of all series together may be very long.
     new: Texts,
     begins: Vec<Box<[u8]>>,
     digests: Digests,
@@ -218,7 +221,7 @@ impl Ends {
         *last = end.max(*last);
     }
 
-    /// Puts the new ones in the order of their keys.
+    /// Sorts the new series by key.
     fn sort(&mut self) {
         let begins = std::mem::take(&mut self.begins);
         let mut order: Vec<u32> = (0..self.new.count()).collect();
@@ -231,7 +234,7 @@ impl Ends {
         before.of(order.into_iter()).for_each(|key| self.new.push(key));
     }
 
-    /// What posts had last of series that have an id, now or by this group.
+    /// Digests for all series that have an id or get one with this group.
     fn recent_by_id(&self, recents: &Recents, series: &Table) -> Vec<(u32, Recent)> {
         let new = |digest: &Digest| Some(series.next_id() + self.of.get(digest)?.1?);
         let by_digest = recents.by_digest.iter().filter_map(|(digest, noted)| {
@@ -243,7 +246,8 @@ impl Ends {
         by_id.chain(by_digest).collect()
     }
 
-    /// What they do to these series, and the keys and owners of those that are new; none where other series are known than before.
+    /// What the group does to series, and the keys and owners of the new ones. None if series were added or forgotten
+    /// since they were noted.
     fn by_id(self, runs: &Runs, recents: &Recents, series: &Table) -> Option<(Vec<End>, Keys, Owners)> {
         let mut all = Vec::with_capacity(self.of.len());
         let mut digests = vec![Digest::default(); self.new.count() as usize];
@@ -265,8 +269,8 @@ impl Ends {
     }
 }
 
-/// The outbox is closed, so that the next start can tell a changed record from a torn one everywhere in it. On a drive none
-/// is torn.
+/// Ends the segment, so that the next start can tell a changed record from a torn one everywhere in it. A shard store
+/// tears nothing.
 impl Drop for Outbox {
     fn drop(&mut self) {
         let mut writer = locked(&self.writer);

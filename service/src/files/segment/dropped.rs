@@ -1,15 +1,15 @@
-//! What a start leaves out of a file, and where it is kept.
+//! Keeps a copy of the bytes that a start drops from a file.
 
 use crate::files::disk::{io_fault, Disk};
 use crate::files::torn_tail::CHANGED;
 use crate::files::Fault;
 use std::path::{Path, PathBuf};
 
-/// What a start left out of a file: nobody was told that it is there.
+/// Bytes that a start dropped from a file. No sender was told that they are durable.
 #[derive(Clone, Debug, PartialEq, Eq)]
 pub struct Dropped {
     pub file: PathBuf,
-    /// Where it began, and how many bytes it has up to the last that is not zero.
+    /// The offset of the first byte, and how many bytes there are up to the last that is not zero.
     pub at: u64,
     pub bytes: u64,
     pub kept: PathBuf,
@@ -27,7 +27,8 @@ impl std::fmt::Display for Dropped {
     }
 }
 
-/// Keeps what is in a file from `at` on, but zeros at its end, before it is dropped: in a file beside it, durably.
+/// Copies the bytes from `at` on, without zeros at the end, durably into a file beside this one. In a shard store,
+/// which tears nothing, such bytes are a fault.
 pub fn keep_aside(disk: &Disk, path: &Path, at: u64) -> Result<Option<Dropped>, Fault> {
     let mut rest = disk.open(path)?.read_from(at).map_err(io_fault(path))?;
     let Some(last) = rest.iter().rposition(|byte| *byte != 0) else {
@@ -41,7 +42,7 @@ pub fn keep_aside(disk: &Disk, path: &Path, at: u64) -> Result<Option<Dropped>, 
     let stem = path.file_stem().unwrap_or_default().to_string_lossy();
     let mut kept = path.with_file_name(format!("{stem}-{at}.torn"));
     let mut number = 1;
-    // An earlier start may have ended after it.
+    // An earlier start may have kept the same bytes, and then ended.
     while is_other(disk, &kept, &rest)? {
         number += 1;
         kept = path.with_file_name(format!("{stem}-{at}-{number}.torn"));
@@ -55,7 +56,7 @@ pub fn keep_aside(disk: &Disk, path: &Path, at: u64) -> Result<Option<Dropped>, 
     Ok(Some(dropped))
 }
 
-/// Whether a file is there that has other bytes.
+/// Whether there is a file with other bytes.
 fn is_other(disk: &Disk, path: &Path, bytes: &[u8]) -> Result<bool, Fault> {
     let Some(file) = disk.find(path)? else {
         return Ok(false);

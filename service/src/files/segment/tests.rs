@@ -1,4 +1,4 @@
-//! What is there of a file ahead of its records, and what of an earlier run's is written anew.
+//! What a segment has ahead of its records, and what a start writes again of an earlier run's segments.
 
 use super::super::disk::Call;
 use super::*;
@@ -32,7 +32,7 @@ fn blocks_that_are_taken_ahead_are_no_part_of_the_file() {
     assert!(!can || there.blocks() * 512 >= taken, "{} blocks for {taken}", there.blocks());
 }
 
-/// A write that failed may have changed what shares a block with it.
+/// A failed write may have changed anything in the blocks that it touched.
 #[test]
 fn what_was_durable_once_is_written_anew_where_it_is_near_what_was_not() {
     let folder = tempfile::tempdir().unwrap();

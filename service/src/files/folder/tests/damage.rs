@@ -1,4 +1,4 @@
-//! A slot that is gone, and a journal and an outbox of which one is older.
+//! A missing shard, and a journal and an outbox of which one is older than the other.
 
 use super::*;
 
@@ -34,7 +34,7 @@ fn copied(from: &Path, to: &Path) {
     assert!(done.unwrap().success());
 }
 
-/// Three checkpoints, with a post behind each; the folder's slot is copied ahead of each.
+/// Makes three checkpoints, with a post after each; copies the folder's shard before each.
 fn with_three_commits(place: &Path) {
     let folder = open(place).unwrap();
     let (journal, outbox) = folder.slot().unwrap();
@@ -70,7 +70,7 @@ fn an_older_journal_or_outbox_is_refused_by_the_name_of_what_is_older() {
     open(place.path()).unwrap().slot().unwrap();
 }
 
-/// Else a journal's segment is asked for that was rightly deleted.
+/// Otherwise the start would ask for a segment of the journal that was rightly deleted.
 #[test]
 fn an_outbox_that_was_cut_is_named_wherever_it_was_cut() {
     let place = crate::files::power::place();

@@ -1,4 +1,4 @@
-//! What this user can't have, and what is no folder.
+//! Folders that this user can't use, and paths that are no folders.
 
 use super::*;
 
@@ -27,7 +27,7 @@ fn what_is_no_folder_is_refused_by_name_and_stays() {
     assert!(text.contains("lock is a folder, and has to be a file: remove it"), "{text}");
 }
 
-/// Run by the next test in a process of its own, by a user who is not root.
+/// The next test runs this in a process of its own, as a user who is not root.
 #[test]
 #[ignore]
 fn has_no_rights() {
@@ -37,7 +37,8 @@ fn has_no_rights() {
     println!("refused: {}", unusable(Path::new(&path)));
 }
 
-/// As if root calls `totxegun store move` on the folder of the unit's user, and is refused: that user starts there again.
+/// As when root calls `totxegun store move` on the folder of the service's user and is refused: that user can still
+/// start on it.
 #[test]
 fn what_root_makes_in_a_folder_of_another_user_is_that_user_s() {
     use std::os::unix::fs::chown;
@@ -59,7 +60,7 @@ fn what_root_makes_in_a_folder_of_another_user_is_that_user_s() {
     }
 }
 
-/// Else who has the folder has root give it any file.
+/// Otherwise the folder's owner could have root give away any file.
 #[test]
 fn what_a_link_in_place_of_the_lock_leads_to_is_not_given_away() {
     use std::os::unix::fs::{chown, symlink};

@@ -1,10 +1,10 @@
-//! What points say of runs, ahead of the points: how many do, and of each
+//! Codes what converted points say of their runs, before the points: how many of them do, and for each:
 //!
-//! | what | against |
+//! | field | written as a difference from |
 //! |---|---|
-//! | its place, three times that, and 0 where its run goes on, 1 where it began, 2 where it was noted | one more than the place before |
-//! | of the last two its start | its point's |
-//! | of the last how many words it says, and these | |
+//! | its index, times three, plus 0 if the run goes on, 1 if it began, 2 if it was noted | the previous index plus one |
+//! | for the last two, the start of the run | the point's start |
+//! | for the last, how many values it has, and these | |
 
 use super::super::post::{OfRun, Points};
 use super::{put_number, put_signed, take_number, take_signed};
@@ -34,8 +34,8 @@ pub fn put(out: &mut Vec<u8>, points: &Points) {
     }
 }
 
-/// Takes them off the front of the bytes of points, with how far the start of each is before its point's in the place of its
-/// start. No more is kept at any time than a word for a byte.
+/// Takes them off the front of the bytes. Each start is still the difference from its point's start. Uses at most one
+/// word of memory for a byte.
 pub fn take(bytes: &mut &[u8]) -> Option<Vec<(u32, OfRun)>> {
     let count = take_number(bytes)?;
     let (mut all, mut next) = (Vec::new(), 0u64);
@@ -58,7 +58,7 @@ fn take_words(bytes: &mut &[u8]) -> Option<Vec<u64>> {
     (0..count).map(|_| take_signed(bytes)).collect()
 }
 
-/// Puts what was taken to the points that are behind it. None where there is no such point.
+/// Gives these runs to the points that follow them. None if a point is missing.
 pub fn give(points: &mut Points, read: Vec<(u32, OfRun)>) -> Option<()> {
     for (place, mut of_run) in read {
         let of_point = points.point(place)?[1];

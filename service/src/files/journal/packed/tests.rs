@@ -1,4 +1,4 @@
-//! Points come back as they were, in few bytes; what is no points is refused.
+//! Points are read as they were written, in few bytes; bytes that are no points are refused.
 
 use super::super::post::OfRun;
 use super::*;
@@ -7,10 +7,10 @@ use crate::files::test_random::TestRandom;
 use crate::files::test_runs::runs;
 
 const MINUTE: u64 = 60_000_000_000;
-/// A time of 2026.
+/// A moment in 2026.
 const NOW: u64 = 1_795_000_000_000_000_000;
 
-/// Any 64 bits, more often small ones.
+/// Any 64 bits, small numbers more often.
 fn any(chance: &mut TestRandom) -> u64 {
     let bits = chance.below(1 << 31) << 33 ^ chance.below(1 << 31) << 16 ^ chance.below(1 << 16);
     match chance.below(4) {
@@ -44,7 +44,7 @@ fn the_bytes_are_those_of_the_table() {
     assert_eq!(of(&points), bytes.concat());
 }
 
-/// The same of points some of which are of runs.
+/// Random points, some of which are converted ones.
 fn of_runs(chance: &mut TestRandom) -> Points {
     let mut points = random(chance);
     points.push(any(chance), any(chance), any(chance), [any(chance)]);
@@ -111,7 +111,7 @@ fn random_points_come_back() {
     }
 }
 
-/// So a change is refused, or it is of other points; which it is not says the record's checksum.
+/// So a changed byte is refused, or gives other points; the record's checksum tells that they are other ones.
 #[test]
 fn each_cut_and_each_flipped_byte_is_no_points_or_the_one_form_of_some() {
     let mut chance = TestRandom(2);
@@ -169,7 +169,7 @@ fn a_number_has_one_form() {
     assert_eq!(take_number(&mut &most[..]), Some(u64::MAX));
 }
 
-/// One of the SDKs' default bounds, which are 15.
+/// A histogram with the SDKs' 15 default bounds.
 fn histogram(points: &mut Points, number: u64, end: u64, chance: &mut TestRandom) {
     let mut buckets = [0; 16];
     let near = 2 + chance.below(8) as usize;
@@ -183,7 +183,8 @@ fn sum(points: &mut Points, number: u64, end: u64, chance: &mut TestRandom) {
     points.push(number, end - MINUTE - chance.below(2000), end, [chance.below(5000)]);
 }
 
-/// As the SDKs send them: each instrument has been read a little later, and its series have the same times.
+/// Points as the SDKs send them: each instrument is read a little later than the previous one, and its series share
+/// their times.
 fn usual(count: u64, histograms: impl Fn(u64) -> bool) -> Points {
     let (mut points, mut chance, mut end) = (Points::default(), TestRandom(4), NOW);
     for number in 0..count {

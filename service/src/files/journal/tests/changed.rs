@@ -1,9 +1,9 @@
-//! A segment that somebody changed: what a loss of power can't have done is refused by name, and nothing is deleted.
+//! A segment that somebody changed: what no loss of power can do is refused by name, and nothing is deleted.
 
 use super::*;
 use crate::files::power::place;
 
-/// A segment with two posts, as a killed service leaves it once nothing was posted for a moment.
+/// A segment with two posts, as a killed service leaves it after a moment without posts.
 fn killed(folder: &Path, durability: Durability) -> Vec<u8> {
     let journal = open_on(&Disk::default(), folder, durability).unwrap();
     for text in ["first", "second"] {
@@ -103,7 +103,7 @@ fn a_segment_that_is_missing_or_another_file_is_named() {
     }
 }
 
-/// No commit names it, but the start has noted that it began it.
+/// No commit names this segment, but the start has recorded that it began it.
 #[test]
 fn a_segment_that_a_start_has_begun_is_missed_too() {
     let folder = place();
@@ -130,7 +130,7 @@ fn two_segments_that_were_swapped_are_named() {
     assert!(fault.contains("another file than its name says"), "{fault}");
 }
 
-/// A torn record, as a loss of power leaves it: the service starts, and no byte of it is gone.
+/// A torn record, as a loss of power leaves it: the service starts, and a copy of the bytes is kept.
 #[test]
 fn what_is_dropped_is_kept_aside() {
     let folder = place();
@@ -152,6 +152,6 @@ fn what_is_dropped_is_kept_aside() {
         assert_eq!(journal.dropped(), [dropped]);
         assert_eq!(bytes(&kept), torn[end as usize..]);
         kill(journal);
-        std::fs::write(&path, torn).unwrap(); // as if that start had been killed ahead of its cut
+        std::fs::write(&path, torn).unwrap(); // as if that start had been killed before it cut the file
     }
 }

@@ -94,7 +94,7 @@ fn another_version_and_a_missing_segment_are_refused_by_name() {
     open(folder.path());
 }
 
-/// As a power loss between a turn and the next sync may leave it: the first segment is torn, the second is whole.
+/// As a loss of power between a roll and the next sync may leave it: the first segment is torn, the second is whole.
 fn torn_before_its_last(folder: &Path, durable: bool) {
     let journal = open(folder);
     let held = locked(&journal.shared.syncing);
@@ -129,7 +129,7 @@ fn what_follows_a_torn_segment_goes_with_it_unless_it_was_durable() {
     }
 }
 
-/// A second power loss, by which the name is there again that the start had deleted.
+/// After a second loss of power, the name of a deleted segment is there again.
 #[test]
 fn what_follows_a_torn_segment_is_gone_for_good_before_that_one_is_closed() {
     let folder = tempfile::tempdir().unwrap();

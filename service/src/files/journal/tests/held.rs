@@ -1,4 +1,4 @@
-//! Posts of quarantined senders, in files of their own.
+//! Posts of quarantined senders are parked in their own files.
 
 use super::*;
 use crate::files::power::{copy, place, Shadow};
@@ -18,7 +18,7 @@ fn all(journal: &Journal, first: u64) -> Vec<Post> {
     texts.map(|(sender, text)| of(&sender, &text)).collect()
 }
 
-/// With their senders.
+/// All posts with their senders.
 pub fn all_texts(journal: &Journal, first: u64) -> Vec<(String, String)> {
     let (mut all, mut reading) = (Vec::new(), Reading::default());
     journal
@@ -32,7 +32,7 @@ pub fn all_texts(journal: &Journal, first: u64) -> Vec<(String, String)> {
     all
 }
 
-/// A checkpoint, as a keeper makes it: the first segment that counts after it.
+/// A checkpoint as `keeper` makes it; returns the first segment that counts after it.
 pub fn checkpoint(journal: &Journal, held: &BTreeSet<String>, first: u64) -> u64 {
     let (next, _) = journal.turn();
     journal.shared.sync();
@@ -85,7 +85,7 @@ fn posts_of_quarantined_senders_are_moved_once_and_are_there_until_they_are_flus
     kill(journal);
     let journal = open(first);
     assert_eq!(all(&journal, first), [&expected[..], &[of("b", "5")]].concat());
-    // Released, and posts again; then quarantined anew.
+    // The sender is released and posts again, and is then quarantined again.
     append_of(&journal, "a.held", "66");
     let next = checkpoint(&journal, &names(&["a"]), first);
     assert!(all(&journal, first).contains(&held[1]), "its owners are looked for after the commit");
@@ -102,7 +102,7 @@ fn posts_of_quarantined_senders_are_moved_once_and_are_there_until_they_are_flus
     assert!(!file(folder.path(), "a").exists());
 }
 
-/// In the same segment a number is named once, and in a sender's own file it may be another series.
+/// A segment defines a number once, and in a sender's own file the same number may mean another series.
 #[test]
 fn posts_that_come_while_others_are_moved_keep_their_names() {
     let folder = place();
@@ -149,7 +149,7 @@ fn more_senders_than_files_are_open_at_a_time_and_long_posts_are_moved() {
     assert!(found.contains(&of("s7", &long)) && journal.held().posts == 451);
 }
 
-/// The outbox has no group of the checkpoint: the segments still have the posts.
+/// The outbox has no group of the checkpoint, so the segments still have the posts.
 #[test]
 fn what_was_moved_before_a_commit_that_did_not_come_counts_once() {
     let folder = place();
@@ -158,7 +158,7 @@ fn what_was_moved_before_a_commit_that_did_not_come_counts_once() {
     append_of(&journal, "a", "1");
     let first = checkpoint(&journal, &held, 1);
     journal.forget(first).unwrap();
-    // It was released, and has posted again.
+    // The sender was released, and has posted again.
     append_of(&journal, "a", "22");
     checkpoint(&journal, &held, first);
     kill(journal);
@@ -206,7 +206,7 @@ fn a_file_of_a_sender_that_is_gone_cut_or_changed_is_named() {
     assert!(!named());
 }
 
-/// What each sender has in the journal, in its order.
+/// The posts of each sender in the journal, in order.
 type Queues = BTreeMap<String, Vec<String>>;
 
 fn queues(journal: &Journal, first: u64) -> Queues {
@@ -217,8 +217,8 @@ fn queues(journal: &Journal, first: u64) -> Queues {
     queues
 }
 
-/// A run of checkpoints, of which the power is lost in the last one: the first segment that counts, what it has, and
-/// how much of that was durable.
+/// Runs some checkpoints and loses the power in the last one. Returns the first segment that counts, and the durable
+/// posts from there on.
 fn run(folder: &Path, left: &Path, chance: &mut TestRandom) -> (u64, Queues) {
     std::fs::create_dir(folder).unwrap();
     let shadow = Arc::new(Mutex::new(Shadow::of(folder)));
@@ -254,12 +254,12 @@ fn run(folder: &Path, left: &Path, chance: &mut TestRandom) -> (u64, Queues) {
     let next = journal.turn().0;
     journal.shared.sync();
     held.insert("d".into());
-    end_syncer(&mut journal); // what it does, and when, hangs on the machine's load
+    end_syncer(&mut journal); // its work depends on the load of the machine
     calls.store(chance.below(12), SeqCst);
     let journal = Arc::new(journal);
     let holds = journal.clone();
     std::thread::spawn(move || {
-        let _ = holds.hold(&held, first, next); // the power is lost in it, or after it
+        let _ = holds.hold(&held, first, next); // the power is lost during this call or after it
         let _ = tell.send(());
     });
     told.recv().unwrap();

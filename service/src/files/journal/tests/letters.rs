@@ -1,12 +1,12 @@
-//! Texts as posts of both forms: one of an odd length is points, of which each begins with a letter that has a number.
+//! Builds posts of both forms from texts: a text of odd length becomes points, whose first letters are series numbers.
 
 use super::*;
 use std::collections::HashMap;
 
-/// Letters of a point.
+/// Letters for each point.
 const PIECE: usize = 60;
 
-/// A name for each letter. Numbers begin anew where texts are longer, so that one of them is another letter then.
+/// Defines each letter. The numbering depends on the length of the text, so one number can mean different letters.
 pub struct Letters(u64);
 
 impl Names for Letters {
@@ -24,7 +24,7 @@ impl Letters {
         Letters(text.len() as u64 / 2 % 3)
     }
 
-    /// So much more than a letter is its number.
+    /// The number of a letter is the letter plus this.
     pub fn shift(&self) -> u64 {
         self.0
     }
@@ -52,12 +52,12 @@ fn points(text: &str) -> Points {
     points
 }
 
-/// Reads posts as texts again, one after the other.
+/// Turns posts back into texts, in order.
 #[derive(Default)]
 pub struct Reading(HashMap<u64, Bytes>);
 
 impl Reading {
-    /// Of points it is known that they are those which were written.
+    /// Checks that points are exactly those that were written.
     pub fn text(&mut self, read: &Replayed) -> String {
         self.0.extend(read.named.iter().cloned());
         let text = match &read.post.body {

@@ -1,8 +1,8 @@
-//! Points by number: each segment, and each sender's own file, says what its numbers stand for.
+//! Points by number: each segment, and each sender's own file, defines its numbers.
 
 use super::*;
 
-/// A segment's records, but marks and the header: kind and bytes.
+/// A segment's records without watermarks and header: kind and bytes.
 fn records_of(path: &Path) -> Vec<(u8, Vec<u8>)> {
     let number = path.file_stem().and_then(|stem| stem.to_str()?.parse().ok());
     let reader = records::Reader::open(&Disk::default(), path, Which::Journal, number.unwrap(), None);
@@ -26,7 +26,7 @@ fn of_letters(letters: &[u8]) -> Post {
     Post { sender: "s".into(), foreign: 2, body: Body::Points(points) }
 }
 
-/// What is read of each post: its letters, and which of them were named with it.
+/// For each post what was read: the post, and the numbers that were defined with it.
 fn read(journal: &Journal, first: u64) -> Vec<(Post, Vec<(u64, Bytes)>)> {
     let mut all = Vec::new();
     let posts = journal.posts(first, u64::MAX, |Replayed { post, named }| {
@@ -48,7 +48,7 @@ fn a_segment_says_a_name_once_ahead_of_its_first_points_and_by_the_same_write() 
     let is_alone = Arc::new(AtomicBool::new(false));
     let sees = is_alone.clone();
     let disk = Disk::failing(move |call, path| {
-        // So a kill ahead of this call would leave it.
+        // A kill before this call would leave the definition alone.
         let name = || kinds(path).last() == Some(&NAME);
         sees.fetch_or(call == Call::Write && name(), SeqCst);
         Ok(())
@@ -127,7 +127,7 @@ fn points_without_a_name_are_refused_by_name() {
     assert!(fault.contains(&place), "{fault}");
 }
 
-/// Byte by byte: what was written once is read.
+/// The bytes of the format: a file that was written once stays readable.
 #[test]
 fn a_segment_and_a_file_of_a_sender_go_on_behind_these_bytes() {
     let folder = tempfile::tempdir().unwrap();
@@ -155,7 +155,7 @@ fn a_segment_and_a_file_of_a_sender_go_on_behind_these_bytes() {
     let expected = [("a", "1234"), ("b", "12"), ("a", "123456"), ("a", "points"), ("a", "point")];
     let expected = expected.map(|(sender, text)| (sender.to_string(), text.to_string()));
     assert_eq!(held::all_texts(&journal, 1), expected);
-    // Its file has points from now on.
+    // From now on its file has points.
     let next = held::checkpoint(&journal, &held::names(&["a"]), 1);
     journal.forget(next).unwrap();
     let of_a = expected.into_iter().filter(|(sender, _)| sender == "a");

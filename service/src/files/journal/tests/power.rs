@@ -1,14 +1,14 @@
-//! Losses of power, and another one at each call of the start that follows.
+//! Losses of power, and a second one at each call of the start that follows.
 
 use super::*;
 use crate::files::power::{copy, disk, place, Shadow};
 
-/// The posts of a run up to a loss of power.
+/// The posts of a run, up to a loss of power.
 #[derive(Default)]
 struct Posted {
-    /// From the first segment that counts.
+    /// The posts from the first segment that counts.
     texts: Vec<String>,
-    /// So many of them are durable.
+    /// How many of them are durable.
     durable: usize,
     reach: u64,
 }
@@ -32,7 +32,7 @@ fn run(folder: &Path, left: &Path, durability: Durability, chance: &mut TestRand
             }
             11..=14 => drop(journal.turn()),
             _ => {
-                // A group has all of them.
+                // The outbox has a group with all of them.
                 posted = Posted { reach: journal.turn().0, ..Posted::default() };
                 journal.shared.sync();
                 journal.forget(posted.reach).unwrap();
@@ -56,7 +56,7 @@ fn what_was_durable_is_there_and_of_the_rest_the_first_posts() {
             let (again, left) = (at(&format!("again-{calls}")), at(&format!("left-{calls}")));
             copy(&at("left"), &again);
             let shadow = Arc::new(Mutex::new(Shadow::of(&again)));
-            // The first start has noted its segment.
+            // The first start has recorded its segment.
             let open =
                 |disk: &Disk, folder: &Path| open_begun(disk, folder, durability, posted.reach, Some(1));
             let opened = open(&disk(&shadow, calls), &again);

@@ -1,4 +1,4 @@
-//! Who waits for the disk, and what happens where it fails.
+//! Which calls wait for the disk, and what happens if a sync fails.
 
 use super::*;
 
@@ -49,7 +49,7 @@ async fn who_goes_away_leaves_nobody_waiting() {
         };
         let waiting: Vec<_> = (0..30).map(|_| wait(append(&journal, "one"))).collect();
         tokio::time::sleep(Duration::from_millis(50)).await;
-        // Those that go away before they are told, or while they are.
+        // Some go away before they are told, and some while they are being told.
         let go = |waiting: &[tokio::task::JoinHandle<Result<(), Lost>>]| {
             waiting.iter().skip(2).step_by(3).for_each(|one| one.abort())
         };
@@ -67,7 +67,7 @@ async fn who_goes_away_leaves_nobody_waiting() {
     }
 }
 
-/// Behind a sync that failed the system takes for written what it has in memory alone.
+/// After a failed sync, the kernel takes pages for written that are only in memory.
 #[test]
 fn what_an_earlier_run_wrote_is_written_anew_before_it_is_believed() {
     let folder = tempfile::tempdir().unwrap();
@@ -94,7 +94,7 @@ fn what_an_earlier_run_wrote_is_written_anew_before_it_is_believed() {
     assert_eq!(texts(&journal, 2), ["b", "c"]);
 }
 
-/// The posts that it is of may be durable for long.
+/// The posts that it replaces may have been durable for long.
 #[test]
 fn what_is_held_is_durable_before_it_counts_where_posts_are_only_written() {
     let folder = tempfile::tempdir().unwrap();
@@ -139,7 +139,7 @@ async fn after_a_failed_sync_nobody_is_told_and_nothing_is_tried_again() {
     std::mem::forget(journal);
 }
 
-/// Behind a sync that failed the next one says yes to what the disk has not, whoever asks for it.
+/// After a failed sync the next one reports success for bytes that the disk does not have, whichever thread calls it.
 #[tokio::test(flavor = "multi_thread")]
 async fn after_a_failed_sync_of_what_is_held_nobody_is_told_either() {
     let folder = tempfile::tempdir().unwrap();
@@ -166,7 +166,7 @@ async fn after_a_failed_sync_of_what_is_held_nobody_is_told_either() {
     std::mem::forget(journal);
 }
 
-/// Run by the next test in a process of its own.
+/// The next test runs this in a process of its own.
 #[test]
 #[ignore]
 fn ends_by_its_disk() {
@@ -242,7 +242,7 @@ fn what_an_earlier_run_wrote_is_synced_before_it_is_believed() {
     }
 }
 
-/// Else whoever asks how the service is waits for the disk too, and nobody sees that it stalls.
+/// Otherwise a status request would wait for the disk too, and a stall would stay unseen.
 #[test]
 fn sizes_are_told_while_a_write_stalls_and_how_long_it_does() {
     let folder = tempfile::tempdir().unwrap();

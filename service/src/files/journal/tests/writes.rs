@@ -1,16 +1,16 @@
-//! When what was appended gets into the file, and what happens where that fails.
+//! When appended posts get into the file, and what happens if a write fails.
 
 use super::*;
 use std::future::{poll_fn, Future};
 use std::task::Poll;
 use std::time::Instant;
 
-/// Puts a post behind the others, and writes nothing.
+/// Appends a post and writes nothing.
 fn append_only(journal: &Journal, text: &str) -> Ticket {
     journal.append(&post(text), &Letters::of(text))
 }
 
-/// What a start would find where the process ended now.
+/// What a start would find if the process ended now.
 fn there(folder: &Path) -> Vec<String> {
     let copy = tempfile::tempdir().unwrap();
     crate::files::power::copy(folder, &copy.path().join("copy"));
@@ -46,7 +46,7 @@ async fn one_write_is_for_all_that_was_appended_and_nobody_is_told_before() {
     assert_eq!(there(folder.path()), ["a", "b", "c", "d"]);
 }
 
-/// Else each post would take a write, and who posts on another thread would wait for it.
+/// Otherwise each post would take its own write, and posts of other threads would wait for it.
 #[tokio::test]
 async fn posts_that_are_ready_on_a_thread_are_written_together() {
     let folder = tempfile::tempdir().unwrap();
@@ -64,7 +64,7 @@ async fn posts_that_are_ready_on_a_thread_are_written_together() {
     assert_eq!(writes.load(SeqCst), before + 1);
 }
 
-/// Else it would be in memory alone until somebody posts.
+/// Otherwise the post would stay in memory until the next one comes.
 #[tokio::test]
 async fn what_was_appended_is_written_also_where_its_sender_goes_away() {
     let folder = tempfile::tempdir().unwrap();
@@ -74,7 +74,7 @@ async fn what_was_appended_is_written_also_where_its_sender_goes_away() {
     let waits = poll_fn(|context| Poll::Ready(waiting.as_mut().poll(context).is_pending())).await;
     assert!(waits, "it lets others append first");
     drop(waiting);
-    let until = Instant::now() + Duration::from_millis(500); // by then nobody would have come to sync it
+    let until = Instant::now() + Duration::from_millis(500); // earlier than the sync thread would come by itself
     while !journal.shared.written.has(ticket.0) && Instant::now() < until {
         std::thread::sleep(Duration::from_millis(1));
     }
@@ -104,7 +104,7 @@ fn whatever_comes_next_writes_what_was_appended_first() {
     }
 }
 
-/// Who appends has the lock of the book. A segment has no room ahead of it then for so many bytes.
+/// Appenders hold the lock of the book. The segment has no room ahead for so many bytes.
 #[test]
 fn who_appends_waits_for_no_call_of_the_disk() {
     for durability in [Durability::Process, Durability::Disk] {
@@ -134,7 +134,7 @@ fn who_appends_waits_for_no_call_of_the_disk() {
     }
 }
 
-/// Else the segment would end ahead of what is still written into it. The first write alone is held.
+/// Otherwise the segment would end before what is still being written into it. The disk blocks only the first write.
 #[test]
 fn a_turn_waits_for_a_write_that_is_under_way() {
     let folder = tempfile::tempdir().unwrap();
@@ -165,8 +165,8 @@ fn a_turn_waits_for_a_write_that_is_under_way() {
     assert_eq!(there(folder.path()), ["a", "b"]);
 }
 
-/// A disk of which the first write into a segment fails once `fails` is true, how many come from there on, and what has ended
-/// the process.
+/// A disk whose first write into a segment fails after `fails` is set, the number of writes from then on, and the fault
+/// that ended the process.
 struct Failing {
     fails: Arc<AtomicBool>,
     writes: Arc<AtomicUsize>,
@@ -193,8 +193,8 @@ fn append_another(journal: &Journal) {
     append(journal, "b");
 }
 
-/// In a journal with a post in an earlier segment, of which the last record is marked, `writes` fails: then nobody writes any
-/// more. What is behind a hole is there for no start.
+/// Lets `writes` fail in a journal with a post in an earlier segment and a watermark after the last record: no other
+/// write may follow, because a start finds nothing after a hole.
 fn nobody_writes_after(writes: fn(&Journal)) {
     let folder = tempfile::tempdir().unwrap();
     let (disk, failing) = failing();
@@ -227,13 +227,13 @@ fn after_a_failed_write_nobody_else_writes() {
     nobody_writes_after(append_another);
 }
 
-/// That the first segment is in groups.
+/// The record that the first segment is committed to the outbox.
 #[test]
 fn after_a_failed_mark_nobody_writes() {
     nobody_writes_after(|journal| drop(journal.forget(2)));
 }
 
-/// Of what is held of a quarantined sender.
+/// The record of parked posts.
 #[test]
 fn after_a_failed_note_nobody_writes() {
     nobody_writes_after(|journal| drop(journal.hold(&[post("a").sender].into(), 1, 2)));

@@ -1,8 +1,8 @@
-//! An outbox that goes on from another has what that one had, under the same keys.
+//! An outbox that continues another one has everything of it, under the same keys.
 
 use super::*;
 
-/// What waits: number, epoch, body.
+/// The waiting requests: number, epoch, body.
 async fn waiting(outbox: &Outbox) -> Vec<(u64, String, Vec<u8>)> {
     let mut all = Vec::new();
     while outbox.waiting().0 > 0 {

@@ -1,4 +1,4 @@
-//! Groups that are cut or changed, and calls on the disk that fail.
+//! Groups that are cut or changed, and disk calls that fail.
 
 use super::*;
 use crate::files::records::{self, MARK_LENGTHS};
@@ -14,13 +14,13 @@ async fn a_group_that_is_cut_anywhere_is_not_there() {
     let after = view(&outbox);
     kill(outbox);
     let all = std::fs::read(last_segment(folder.path())).unwrap();
-    // Behind its last record is the mark of it.
+    // The last record is followed by its watermark.
     let all = &all[..all.len() - MARK_LENGTHS[0]];
     for cut in begin..=all.len() {
         for zeros in [0, 600] {
             let found = [&all[..cut], &vec![0; zeros]].concat();
             let torn = copied(folder.path(), &found);
-            // Where its last bytes are zeros, zeros make it whole.
+            // If the group's last bytes are zeros, the added zeros complete it.
             let expected = if found.starts_with(all) { &after } else { &before };
             assert_eq!(view(&open(torn.path())), *expected, "{cut} {zeros}");
         }
@@ -32,7 +32,7 @@ async fn a_group_that_is_cut_anywhere_is_not_there() {
     assert_eq!(take(&outbox).await, (2, body(&[("d", 2)], "another")));
 }
 
-/// It is refused before a start writes to it.
+/// A segment of another version is refused before a start writes to it.
 #[test]
 fn a_last_segment_of_another_version_stays_as_it_is() {
     let folder = tempfile::tempdir().unwrap();
@@ -65,7 +65,7 @@ fn a_group_whose_middle_was_lost_is_not_there_though_its_commit_is() {
     assert_eq!(view(&open(torn.path())), before);
 }
 
-/// How a changed segment is found: at the start, or at the delivery of the request that was changed.
+/// A changed segment is found at a start, or when the changed request is delivered.
 async fn is_named(path: &Path, first: &[u8]) -> bool {
     let outbox = match open_on(&Disk::default(), path, "e", SEGMENT) {
         Err(Fault::Damaged { .. }) => return true,
@@ -112,7 +112,7 @@ async fn a_changed_byte_is_named_at_the_start_or_at_the_delivery_and_nothing_is_
         assert!(left.starts_with(&changed[..end]), "byte {at}");
     }
     drop(open(folder.path()));
-    // The first segment is closed now, and its bodies are passed over.
+    // Now the first segment is closed, and its bodies are skipped.
     let all = std::fs::read(&path).unwrap();
     for at in 0..all.len() {
         let mut changed = all.clone();
@@ -159,7 +159,7 @@ async fn a_changed_request_stops_its_delivery_alone_until_its_file_is_back() {
     std::os::unix::fs::FileExt::write_all_at(&file, &sound[part.clone()], part.start as u64).unwrap();
     assert_eq!(second.await.unwrap(), (2, bodies[1].clone()));
     assert_eq!((take(&outbox).await.0, outbox.stuck()), (3, None));
-    // The length of the first, which the sink has.
+    // The length of the first request, which the sink has.
     let (_copy, outbox) = with_change_at(places[0] - 17);
     assert!(outbox.find_changed().unwrap().is_empty());
     assert_eq!(take(&outbox).await, (2, bodies[1].clone()));
@@ -188,7 +188,7 @@ fn after_a_failed_sync_nothing_is_tried_again() {
     assert_eq!(calls.load(SeqCst), done);
 }
 
-/// Behind a sync that failed the next one says yes to what the disk has not.
+/// After a failed sync the next one reports success for bytes that the disk does not have.
 #[test]
 fn after_a_failed_sync_no_segment_is_deleted_and_none_goes_on() {
     type Succeeds = fn(&Outbox) -> bool;
@@ -209,7 +209,7 @@ fn after_a_failed_sync_no_segment_is_deleted_and_none_goes_on() {
     }
 }
 
-/// Each call fails once, in turn; a start then shows what was before, or what was to be.
+/// Each call fails once, in turn; a start then finds the state before or after the change.
 #[test]
 fn whichever_call_fails_a_start_finds_the_state_before_or_behind() {
     for fail in 0.. {
@@ -241,7 +241,7 @@ fn whichever_call_fails_a_start_finds_the_state_before_or_behind() {
     }
 }
 
-/// Whether one group more is there, whole.
+/// Whether there is one more group, whole.
 fn outbox_view_behind(outbox: &Outbox, commits: u64) -> bool {
     (outbox.waiting().0, outbox.journal()) == (commits, commits + 1)
         && outbox.series().get(&key_of("a")).is_some_and(|known| known.frontier == commits)

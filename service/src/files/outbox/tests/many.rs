@@ -5,7 +5,7 @@ use crate::files::records;
 
 const MANY: u64 = 700;
 
-/// Where each ends that is there, in an outbox of these.
+/// The end of each series in an outbox of these.
 fn wanted(ends: &[(u64, u64)]) -> HashMap<SeriesKey, u64> {
     let named = |(number, end): &(u64, u64)| (key_of(&format!("[\"s{number}\"]")), *end);
     ends.iter().map(named).collect()
@@ -30,7 +30,7 @@ fn found(outbox: &Outbox) -> HashMap<SeriesKey, u64> {
     all.collect()
 }
 
-/// Also behind a snapshot in which they have other ids, since some were forgotten.
+/// Also after a snapshot that gave series other ids, because some were forgotten.
 #[test]
 fn many_series_come_back_with_their_keys() {
     let folder = tempfile::tempdir().unwrap();
@@ -48,7 +48,7 @@ fn many_series_come_back_with_their_keys() {
         let left: Vec<SeriesKey> = wanted(&all[..100]).into_keys().collect();
         outbox.leave_these(&left).unwrap();
         assert_eq!(found(&outbox), wanted(&all[100..]), "start {start}");
-        // One of them is new again, and others go on.
+        // Some series are left out, a new one is added, and the others go on.
         all.drain(..99);
         all.push((MANY + start, 1));
         all.iter_mut().for_each(|one| one.1 += 1000);
@@ -62,7 +62,7 @@ fn many_series_come_back_with_their_keys() {
     }
 }
 
-/// All programs of a format write and read the same.
+/// The bytes of the format: all programs of one version write and read the same.
 #[test]
 fn a_snapshot_has_one_form() {
     let text = r#"{"facts":{"next":4,"acknowledged":3,"journal":7,"quarantined":["q"],"beside":[["m","ms"]],"since":{"made":1,"forgotten":2},"forgotten":[[1,2,3,4,5],[1,2,3,5,4]],"epochs":[["r",0],["e",1]]},"runs":[[1,3,4,[5,6],2,[1,2]]],"recent":[[1,281474976710655,7]],"series":[["a",5,6,null],["[\"b\"]",9,8,"me"]]}"#;
@@ -85,7 +85,7 @@ fn a_snapshot_has_one_form() {
     assert_eq!(String::from_utf8(written).unwrap(), text);
 }
 
-/// Else it was written, and no start could read it.
+/// Otherwise such a record would be written, and no start could read it.
 #[test]
 fn a_commit_and_a_snapshot_may_be_longer_than_a_record() {
     let folder = tempfile::tempdir().unwrap();
@@ -97,7 +97,7 @@ fn a_commit_and_a_snapshot_may_be_longer_than_a_record() {
     outbox.commit(&[body(&ends, "")], 2).unwrap();
     let wanted: HashMap<SeriesKey, u64> = ends.iter().map(|(key, end)| (key_of(key), *end)).collect();
     kill(outbox);
-    // The first start reads the commit, the others the snapshot that it wrote.
+    // The first start reads the commit, the others read the snapshot that it wrote.
     for _ in 0..3 {
         let outbox = open(folder.path());
         assert_eq!(found(&outbox), wanted);

@@ -1,8 +1,8 @@
-//! It is as a model of it in memory, over any calls and starts.
+//! The outbox behaves as a model of it in memory, over any calls and starts.
 
 use super::*;
 
-/// What an outbox has to be, without a file.
+/// What an outbox has to contain.
 #[derive(Default)]
 struct Model {
     waiting: std::collections::VecDeque<(u64, Vec<u8>)>,

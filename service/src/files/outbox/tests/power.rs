@@ -1,4 +1,4 @@
-//! Losses of power in the middle of any call, and another one at each call of the start that follows.
+//! Losses of power during any call, and a second one at each call of the start that follows.
 
 use super::*;
 use crate::files::power::{copy, disk, place, Shadow};
@@ -13,7 +13,7 @@ enum Step {
     Acknowledge,
 }
 
-/// Requests of up to three series, of which some are longer than a sector.
+/// Requests of up to three series, some of them longer than a sector.
 fn steps(chance: &mut TestRandom) -> Vec<Step> {
     let mut end = 0;
     let mut request = |chance: &mut TestRandom| {
@@ -34,7 +34,7 @@ fn steps(chance: &mut TestRandom) -> Vec<Step> {
     (0..12).map(|_| step(chance)).collect()
 }
 
-/// Whether all is durable then.
+/// Returns whether everything is durable after the step.
 fn make(outbox: &Outbox, step: &Step) -> Result<bool, Fault> {
     match step {
         Step::Commit(bodies) => {
@@ -59,7 +59,7 @@ fn make(outbox: &Outbox, step: &Step) -> Result<bool, Fault> {
     Ok(matches!(step, Step::Commit(_) | Step::PutBack(_)))
 }
 
-/// What it says, but times.
+/// What the outbox contains, without times.
 fn said(outbox: &Outbox) -> String {
     let series: BTreeMap<_, _> = outbox.series().into_iter().collect();
     let series: Vec<_> = series.iter().map(|(key, it)| (&key.0, it.frontier, &it.owner)).collect();
@@ -69,7 +69,7 @@ fn said(outbox: &Outbox) -> String {
     format!("{} {held:?} {beside:?} {count} {bytes} {first:?} {series:?}", outbox.journal())
 }
 
-/// Of a run up to a loss of power: what may be said after it.
+/// A run up to a loss of power: returns the states that may be found after it.
 fn run(at: impl Fn(&str) -> PathBuf, chance: &mut TestRandom) -> Vec<String> {
     let steps = steps(chance);
     for name in ["run", "whole"] {

@@ -1,8 +1,8 @@
-//! How many bytes it takes, and how long a start with a long backlog.
+//! How many bytes an outbox takes, and how long a start with a long backlog takes.
 
 use super::*;
 
-/// A request as the service forwards it, of that many series.
+/// A request as the service writes it, with points of this many series.
 fn request(series: usize, end: u64) -> Vec<u8> {
     let point = |n: usize| {
         format!(
@@ -43,7 +43,7 @@ fn it_is_at_most_a_fifth_of_what_is_forwarded() {
     assert!(written * 5 <= forwarded);
 }
 
-/// Else a disk that posts have filled up to what is kept back for a commit ends the service, and each start.
+/// Otherwise a disk that posts have filled up to the reserve for commits would end the service, and each start.
 #[test]
 fn room_for_the_next_snapshot_is_kept_back() {
     let folder = tempfile::tempdir().unwrap();
@@ -66,7 +66,7 @@ fn room_for_the_next_snapshot_is_kept_back() {
     assert!(open().free_space.is_left(), "its segment has a snapshot alone");
 }
 
-/// Their keys are packed: a service with 100,000 series would have 30 MB more.
+/// Their keys are packed: without that, a service with 100,000 series would use 30 MB more.
 #[test]
 fn a_series_takes_few_bytes_of_memory() {
     let folder = tempfile::tempdir().unwrap();
@@ -80,7 +80,7 @@ fn a_series_takes_few_bytes_of_memory() {
     assert!(packed * 10 <= bytes);
 }
 
-/// Else each acknowledgement writes all series anew: with 10,000 of long identities hundreds of megabytes.
+/// Otherwise each acknowledgement would write all series again: hundreds of megabytes for 10,000 long keys.
 #[test]
 fn a_long_snapshot_is_not_written_with_each_change() {
     const LONGEST: u64 = 2000;
@@ -112,12 +112,13 @@ fn a_long_snapshot_is_not_written_with_each_change() {
     assert_eq!((outbox.series_count(), outbox.waiting().0), (999, 1));
 }
 
-/// Prints how long a start takes with 1,000,000 waiting requests: `cargo test --release -- --ignored --nocapture backlog`.
+/// Prints how long a start with 1,000,000 waiting requests takes: `cargo test --release -- --ignored --nocapture
+/// backlog`.
 #[test]
 #[ignore]
 fn backlog() {
     for in_group in [1000, 1] {
-        // In memory nothing waits for a sync: the time is that of a start.
+        // In memory no sync takes time, so this measures the start alone.
         let folder = crate::files::power::place();
         let outbox = open(folder.path());
         let bodies: Vec<_> =
