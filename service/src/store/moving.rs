@@ -1,13 +1,13 @@
-//! Moves what a folder has into a store that has nothing yet.
+//! Moves the contents of a folder into an empty store; `command` calls it for `totxegun store move`.
 //!
-//! Exactly one of both counts at any moment. The store is told that it is filled: no instance starts on it, while the folder
-//! counts. Once all is there the folder says that it was moved: no service starts on it any more. Then the store counts. After
-//! a kill the same command goes on: what was brought by then never counted, so it is deleted and brought anew; if the folder
-//! says already that it was moved, only the last step is left.
+//! At any moment exactly one of the two counts. First the store is marked as being filled: no instance starts on it,
+//! and the folder counts. After everything is copied, the folder is marked as moved: no service starts on it any more.
+//! Then the store counts. After a kill the same command continues: what was copied before never counted, so it is
+//! deleted and copied again; if the folder is already marked as moved, only the last step is left.
 //!
-//! Series, with owners, ends and runs, go to the slots of their resources, and so do the posts that are in no group, each in
-//! parts where its resources have several slots. Requests that wait keep their bytes, and so their keys, in the store's first slot,
-//! whose requests go on from their numbers; so do letters.
+//! Series, with owners, ends and runs, go to the shards of their resources. So do posts that are in no group, split if
+//! their resources lie in several shards. Waiting requests keep their bytes and keys in the store's first shard, which
+//! continues their numbers; dead letters go there too.
 
 mod content;
 mod posts;
@@ -23,7 +23,7 @@ use target::To;
 const USED: &str = "the store has something already, and a folder is moved into one that `totxegun store init` has made and \
                     nobody has used: make it in another database";
 
-/// It says all by itself.
+/// The text of another fault, which needs no context.
 #[derive(Debug, thiserror::Error)]
 #[error("{0}")]
 pub struct MoveFault(String);
@@ -44,7 +44,7 @@ fn refused<T>(why: impl Into<String>) -> Result<T, MoveFault> {
     Err(MoveFault(why.into()))
 }
 
-/// What was moved.
+/// How much was moved.
 #[derive(Clone, Copy, Debug, Default, PartialEq, Eq)]
 pub struct Moved {
     pub series: usize,
@@ -53,12 +53,12 @@ pub struct Moved {
     pub letters: u64,
 }
 
-/// As commands get it, without a secret.
+/// The address as commands take it, without the password.
 pub fn address_of(server: &Server) -> String {
     format!("postgres://{server}")
 }
 
-/// Brings what a folder has into a store that has nothing yet. None where that was done before.
+/// Moves a folder into an empty store. None if that was done before.
 pub fn from_folder(folder: &Path, server: &Server, copies: Copies) -> Result<Option<Moved>, MoveFault> {
     let path = absolute(folder)?;
     if !path.join("version").exists() {
@@ -66,11 +66,11 @@ pub fn from_folder(folder: &Path, server: &Server, copies: Copies) -> Result<Opt
     }
     let store = PostgresStore::look_into(server, copies)?;
     let folder = match Folder::open(&path, Durability::Disk) {
-        // Another store that a killed move has begun has the folder's epoch too, and must not count.
+        // A store that another, killed move has begun has the folder's epoch too, and must not start to count.
         Err(FolderFault::Moved { epoch, store: moved_to, .. })
             if moved_to == address_of(server) && store.standing()?.id == epoch =>
         {
-            // The folder may say so in memory alone, if the call before was killed.
+            // If the previous call was killed, this mark may only be in memory.
             std::fs::File::open(&path).and_then(|folder| folder.sync_all()).map_err(StoreFault::System)?;
             decide(&store)?;
             return Ok(None);
@@ -78,7 +78,7 @@ pub fn from_folder(folder: &Path, server: &Server, copies: Copies) -> Result<Opt
         opened => opened?,
     };
     let content = Content::of_folder(&folder)?;
-    // No copy of the folder has its epoch, but one of the whole disk.
+    // Copies of the folder draw another epoch; only a copy of the whole disk has the same one.
     let id = folder.epoch();
     begin(&store, Standing { is_filling: true, id: id.clone(), folder: path.display().to_string() })?;
     let moved = fill(&folder, &content, &store, &id)?;
@@ -95,11 +95,11 @@ fn absolute(folder: &Path) -> Result<PathBuf, MoveFault> {
     }
 }
 
-/// From here on no instance starts on the store, and none runs.
+/// Marks the store as being filled. From here on no instance runs on it or starts on it.
 fn begin(store: &PostgresStore, to: Standing) -> Result<(), MoveFault> {
     let seen = store.standing()?;
     match seen.is_filling && seen.id == to.id {
-        true => change(store, &seen, to)?, // the folder may be elsewhere by now
+        true => change(store, &seen, to)?, // the folder may have been moved in the meantime
         false => {
             if let Some(why) = seen.refusal() {
                 return refused(why);
@@ -112,7 +112,7 @@ fn begin(store: &PostgresStore, to: Standing) -> Result<(), MoveFault> {
     Ok(store.check_idle()?)
 }
 
-/// From here on the store counts: it has all, and the folder says so.
+/// Makes the store count: it has everything, and the folder is marked as moved.
 fn decide(store: &PostgresStore) -> Result<(), MoveFault> {
     let seen = store.standing()?;
     change(store, &seen, Standing { is_filling: false, ..seen.clone() })

@@ -1,4 +1,4 @@
-//! What a folder has to be moved.
+//! The contents of the folder that is moved.
 
 use super::MoveFault;
 use crate::files::{Beginning, Folder, Journal, Outbox, Series};
@@ -18,7 +18,7 @@ impl Content {
         Ok(Content { series: outbox.series(), journal, outbox })
     }
 
-    /// What one of so many slots begins with. Requests go on in the first.
+    /// What one of the store's shards begins with. Waiting requests continue in the first shard.
     pub fn beginning(&self, number: u16, slots: u16) -> Beginning {
         let is_its = |key: &SeriesKey| slot_of_series(key, slots).unwrap_or(0) == number;
         let series = self.series.iter().filter(|(key, _)| is_its(key));
@@ -39,8 +39,8 @@ mod tests {
     use crate::files::Durability;
     use crate::runs::{Forgotten, Since};
 
-    /// Else what began since then, and posts for the first time behind the move, would count from its first point on alone; and a
-    /// start behind it would decide by units that decide nothing.
+    /// Without these, a series that began earlier and first posts after the move would count only from its first point
+    /// there; and a start after the move would let secondary units decide.
     #[test]
     fn each_slot_begins_with_what_holds_for_all_series() {
         let place = tempfile::tempdir().unwrap();

@@ -1,4 +1,4 @@
-//! Posts that are in no group, each in parts for the slots of its resources.
+//! Splits the posts that are in no group by the shards of their resources.
 
 use super::content::Content;
 use super::MoveFault;
@@ -12,14 +12,14 @@ use std::sync::Arc;
 pub struct Posts {
     resources: Resources,
     named: Named,
-    /// How many there were, whole.
+    /// The number of posts, before they were split.
     pub count: u64,
 }
 
-/// What numbers stand for in the file that is read.
+/// The dictionary of the file that is being read.
 #[derive(Default)]
 struct Named {
-    /// Another one where a number stands for something else than before.
+    /// Changes when a number gets another meaning.
     generation: u64,
     texts: HashMap<u64, (Bytes, u16)>,
 }
@@ -47,17 +47,17 @@ impl Named {
 }
 
 impl Posts {
-    /// For so many slots.
+    /// For this many shards.
     pub fn new(slots: u16) -> Posts {
         Posts {
-            // What a resource is by the settings of the service is written in the journal's posts already.
+            // The journal's posts already have what the service's settings add to a resource.
             resources: Resources::new(slots, Arc::new(Reading::default())),
             named: Named { generation: 1, ..Named::default() },
             count: 0,
         }
     }
 
-    /// Gives the posts of a folder, in their order: to each slot its part.
+    /// Passes the folder's posts to `each`, in order: to each shard its part.
     pub fn each(
         &mut self,
         from: &Content,
@@ -93,7 +93,7 @@ impl Posts {
 
     fn of_points(&self, post: &Post, points: &Points) -> Vec<(u16, Post)> {
         let slots: BTreeSet<u16> = points.numbers().map(|number| self.named.slot(number)).collect();
-        // What is foreign is told by one of them.
+        // Rejected points are counted in one part only.
         let mut foreign = post.foreign;
         let part = |slot| {
             let points = points.of_numbers(|number| self.named.slot(number) == slot);
@@ -108,7 +108,7 @@ impl Posts {
     }
 }
 
-/// Part of a text, with the points in it that the book does not take.
+/// A part of a text, with the number of rejected points in it.
 fn of_text(post: &Post, body: Bytes) -> Post {
     Post {
         sender: post.sender.clone(),

@@ -1,4 +1,4 @@
-//! Where it is moved to.
+//! A shard of the store that is being filled.
 
 use super::MoveFault;
 use crate::files::drive::Drive;
@@ -7,7 +7,7 @@ use crate::store::postgres::{PostgresDrive, PostgresStore};
 use std::path::Path;
 use std::sync::Arc;
 
-/// So much is written, about, before it is made durable.
+/// The approximate bytes that are written between two syncs.
 const PIECE: u64 = 8 << 20;
 
 pub struct To {
@@ -16,12 +16,12 @@ pub struct To {
     journal: Journal,
     pub outbox: Outbox,
     dead: Dead,
-    /// Bytes that may be in memory alone.
+    /// Bytes that may not be durable yet.
     written: u64,
 }
 
 impl To {
-    /// A slot of a store: what an earlier try has left there is deleted.
+    /// Takes a shard and deletes what an earlier try left in it.
     pub fn slot(store: &PostgresStore, number: u16, id: &str) -> Result<To, MoveFault> {
         let term = store.take_to_move(number, id)?;
         let drive = store.drive(number, term).map_err(Fault::from)?;
@@ -39,7 +39,7 @@ impl To {
         }
     }
 
-    /// Takes the letters of a folder: how many.
+    /// Copies the dead letters and returns how many there are.
     pub fn take_letters(&self, from: &Dead) -> Result<u64, Fault> {
         let mut letters = 0;
         from.each(|key, bytes| {
@@ -49,7 +49,7 @@ impl To {
         Ok(letters)
     }
 
-    /// All of it is durable then.
+    /// Makes everything written so far durable.
     pub fn settle(&mut self) -> Result<(), Fault> {
         self.written = 0;
         self.journal.settle(self.journal.now());
@@ -57,7 +57,7 @@ impl To {
     }
 }
 
-/// Takes what waits in another outbox: how many requests.
+/// Copies the waiting requests of another outbox and returns how many there are.
 pub fn go_on(to: &Outbox, from: &Outbox) -> Result<u64, Fault> {
     let (mut requests, mut written) = (0, 0);
     from.each_group(|waits| {
@@ -72,7 +72,7 @@ pub fn go_on(to: &Outbox, from: &Outbox) -> Result<u64, Fault> {
     Ok(requests)
 }
 
-/// Deletes all files of a slot.
+/// Deletes all files of a shard.
 fn wipe(drive: &Arc<PostgresDrive>) -> Result<(), MoveFault> {
     let wiped = ["journal", "outbox", "dead"].into_iter().try_for_each(|folder| {
         let folder = Path::new(folder);

@@ -1,5 +1,5 @@
-//! The connections of a process to a store, and what they know of each other: where one breaks the others may be to a server that
-//! is of no use any more.
+//! The connections of a process to a store. They watch each other: after one breaks, the others to the same server may
+//! be useless too, and are replaced.
 
 use super::copies::Copies;
 use super::counts::Counts;
@@ -15,9 +15,9 @@ use tokio::runtime::Handle;
 use tokio::sync::{watch, Mutex};
 use tokio_postgres::{Client, Config};
 
-/// How long a host may take to be connected to, and to prepare the statements.
+/// How long connecting to a host may take, and preparing the statements.
 pub(super) const CONNECT: Duration = Duration::from_secs(5);
-/// What is said to be done is on the server's disk, and where there are synchronous standbys on theirs. A warning is heard
+/// A commit that is reported is on the server's disk, and on those of its synchronous standbys. Warnings arrive
 /// whatever the role's own settings are.
 const SETTINGS: &str =
     "set client_min_messages = 'warning'; set default_transaction_isolation = 'read committed';
@@ -25,7 +25,7 @@ const SETTINGS: &str =
     select set_config('synchronous_commit', 'on', false)
     where current_setting('synchronous_commit') not in ('on', 'remote_apply')";
 
-/// Rows of a slot are looked up by their keys, also while the tables are small.
+/// Rows of a shard are always looked up by key, even while the tables are small.
 const PLANS: &str =
     "set jit = off; set enable_seqscan = off; set enable_hashjoin = off; set enable_mergejoin = off;
     set plan_cache_mode = 'force_generic_plan'";
@@ -35,27 +35,27 @@ static IN_DOUBT: RateLimit = RateLimit::every(Duration::from_secs(10));
 /// What all connections of a process to a store share.
 pub(super) struct Connections {
     pub server: Server,
-    /// How many there have to be.
+    /// How many copies the server must keep.
     pub copies: Copies,
     pub counts: Arc<Counts>,
-    /// They live on these threads, whoever asks for them.
+    /// The runtime of all connections, whichever thread uses them.
     pub threads: Handle,
-    /// How many were made.
+    /// How many connections have been made.
     made: AtomicU64,
-    /// Those up to this number may be to a server that is of no use any more.
+    /// Connections up to this number may lead to a server that is useless by now.
     suspect: watch::Sender<u64>,
 }
 
-/// One, made when it is needed, and anew after a fault.
+/// A connection, opened when it is needed, and again after a fault.
 pub(super) struct Connection {
     pub all: Arc<Connections>,
     session: Mutex<Option<Arc<Session>>>,
 }
 
-/// A piece as it is in the store.
+/// A piece as the store has it.
 pub(super) struct Stored {
     pub number: u64,
-    /// Before it was packed.
+    /// The length before packing.
     pub length: usize,
     pub bytes: Vec<u8>,
 }
@@ -72,12 +72,12 @@ impl Connections {
         })
     }
 
-    /// The number of one that is made now.
+    /// The number of a new connection.
     pub fn draw(&self) -> u64 {
         self.made.fetch_add(1, Relaxed) + 1
     }
 
-    /// What is answered by that connection, until another one to its server breaks.
+    /// Waits for an answer on connection `number`, and gives up when another connection to its server breaks.
     async fn watched<T>(
         &self,
         number: u64,
@@ -87,7 +87,7 @@ impl Connections {
         let is_suspect = async {
             while *suspect.borrow_and_update() < number {
                 if suspect.changed().await.is_err() {
-                    std::future::pending::<()>().await; // it is of who asks too
+                    std::future::pending::<()>().await; // can't happen while we hold `self`
                 }
             }
         };
@@ -98,11 +98,11 @@ impl Connections {
         }
     }
 
-    /// What that connection said: the others to its server may be of no use either.
+    /// Notes a failure of this connection: the others to its server become suspect.
     fn note(&self, number: u64, doubt: &Doubt) {
         if doubt.is_of_server() {
             self.suspect.send_if_modified(|suspect| {
-                // One that was suspect already says nothing of those that were made since.
+                // If it was suspect already, its failure says nothing about connections made since.
                 let is_new = number > *suspect;
                 if is_new {
                     *suspect = self.made.load(Relaxed);
@@ -123,7 +123,7 @@ impl Connections {
         }
     }
 
-    /// Asks until it is known: for what may be done again.
+    /// Repeats a call until its outcome is known; the call must be repeatable.
     pub async fn until_known<T, F: Future<Output = Result<T, Doubt>>>(
         &self,
         whose: &str,
@@ -158,12 +158,13 @@ impl Connection {
         Ok(session)
     }
 
-    /// It tries until there is one, as nothing could be written before.
+    /// Tries until a session is open, since nothing can be written before.
     pub async fn ready(&self) -> Arc<Session> {
         self.all.until_known("the store", || self.session()).await
     }
 
-    /// What comes of it on this connection. Another is made where this one may be at fault, or one to the same server was.
+    /// The outcome of a call on this session. Closes the session if it may be at fault, or if another one to the same
+    /// server was.
     pub async fn heard<T>(
         &self,
         session: &Arc<Session>,
@@ -183,13 +184,14 @@ impl Connection {
         }
     }
 
-    /// Those of these pieces that are there.
+    /// The pieces among these that the store has.
     pub async fn pieces(&self, slot: i32, file: u64, numbers: &[u64]) -> Result<Vec<Stored>, Doubt> {
         let session = self.session().await?;
         self.heard(&session, session.pieces(slot, file, numbers)).await
     }
 
-    /// What is read behind a committed write under the term, which has raised the slot's link. None where another has the slot.
+    /// Reads after a committed write under the term, which raises the shard's connection epoch. None if another
+    /// instance owns the shard.
     pub async fn behind_a_write<T>(
         &self,
         of: &Owned<'_>,
@@ -206,10 +208,10 @@ impl Connection {
     }
 }
 
-/// Each time another host is asked first: one that takes writes, and never ends them, is not come to for ever.
+/// Each attempt begins with another host: so a host that accepts writes but never completes them can't hold us forever.
 static FIRST: AtomicUsize = AtomicUsize::new(0);
 
-/// A connection with our settings to a host that writes.
+/// Opens a connection with our settings to a host that accepts writes.
 pub(super) async fn connect(server: &Server) -> Result<(Client, Driver), Doubt> {
     let (mut told, mut may_pass) = (Vec::new(), true);
     let mut hosts = server.each_host();
@@ -234,7 +236,7 @@ pub(super) async fn connect(server: &Server) -> Result<(Client, Driver), Doubt> 
 
 async fn connect_to(server: &Server, host: &Config) -> Result<(Client, Driver), Doubt> {
     let (client, driver) = postgres::connect(server, host, SETTINGS, CONNECT).await?;
-    // Another engine may not know them.
+    // Other engines may not have these settings.
     let _ = within(CONNECT, client.batch_execute(PLANS)).await;
     Ok((client, driver))
 }

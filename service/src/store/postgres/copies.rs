@@ -1,23 +1,25 @@
-//! Whether a server can lose what it said is durable.
+//! Checks whether a server can lose commits that it reports as durable.
+//!
+//! With two copies, no commit counts before the server has said, after it, that commits wait for a standby (`session`).
 
 use super::fault::StoreFault;
 use crate::postgres::Server;
 use tokio_postgres::{Client, Error, Row};
 
-/// How many copies there have to be of what was answered.
+/// How many copies of each answered post there must be.
 #[derive(Clone, Copy, Debug, PartialEq, Eq)]
 pub enum Copies {
-    /// One will do, and the server need not even bring it to its disk: by `--store-copies 1`.
+    /// One copy is enough, and the server need not even write it to its disk (`--store-copies 1`).
     One,
     /// Each commit waits for a standby.
     Two,
 }
 
-/// None where the server has no such setting: then it is no PostgreSQL, and only its operator knows.
+/// The columns are null if the server lacks such a setting: then it is not PostgreSQL, and only its operator knows.
 pub(super) const SETTINGS: &str =
     "select current_setting('fsync', true), current_setting('synchronous_commit', true),
     current_setting('synchronous_standby_names', true)";
-/// Who may not look at them sees no state. A backup that is under way takes what it gets with it: nobody can promote it.
+/// Without the right to look, the states are null. A running base backup is not counted: nobody can promote it.
 const STANDBYS: &str = "select count(*) filter (where sync_state in ('sync', 'quorum')),
     count(*) filter (where sync_state is null) from pg_stat_replication where application_name <> 'pg_basebackup'";
 
@@ -34,8 +36,8 @@ impl From<Row> for Settings {
 }
 
 impl Settings {
-    /// Why the server can lose it. Where standbys are named a commit waits for one, so it need not be looked for: without it no
-    /// commit ends.
+    /// Why the server can lose a commit; none if it can't. If standbys are named, each commit waits for one, so it need
+    /// not be checked whether one is connected.
     pub fn lose(&self) -> Option<String> {
         let is = |setting: &Option<String>, good: &[&str]| {
             setting.as_ref().is_some_and(|found| good.contains(&found.as_str()))
@@ -54,7 +56,7 @@ impl Settings {
     }
 }
 
-/// Of a start; each session looks again, with each write. `client` has the settings of our sessions.
+/// The check at a start; each session repeats it with each write. `client` has the settings of our sessions.
 pub(super) async fn check(client: &Client, server: &Server, copies: Copies) -> Result<(), StoreFault> {
     let row = client.query_one(SETTINGS, &[]).await;
     let row = row.map_err(|error| StoreFault::of(server, error))?;
@@ -68,7 +70,7 @@ pub(super) async fn check(client: &Client, server: &Server, copies: Copies) -> R
     }
 }
 
-/// How many servers have what was committed just now; none where this role may not look (`pg_monitor` may).
+/// How many servers have the current commits; none if this role may not see that (`pg_monitor` may).
 pub(super) async fn count(client: &Client) -> Result<Option<u64>, Error> {
     let row = client.query_one(STANDBYS, &[]).await?;
     let (synchronous, unknown): (i64, i64) = (row.get(0), row.get(1));

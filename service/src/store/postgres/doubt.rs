@@ -1,20 +1,20 @@
-//! Why it is not known whether something was done, and what is done then.
+//! Why the outcome of a call is unknown, and how the call is repeated.
 
 use crate::postgres::{shown, NotConnected};
 use std::time::Duration;
 use tokio_postgres::Error;
 
-/// After each of these a write is repeated, word for word, until an answer without a doubt has come: it locks the
-/// slot's row under the owner's term, so its own commit is the one behind which all of it is believed.
+/// After each of these, a write is repeated unchanged until its outcome is known. It locks the shard's row under the
+/// owner's term, so once a repeat is known to be committed, we owned the shard and all of the write is durable.
 #[derive(Debug, thiserror::Error)]
 pub enum Doubt {
     #[error("no answer within {} s", .0.as_secs_f64())]
     Silent(Duration),
-    /// As after `pg_cancel_backend` in the wait for a standby: then the server says that it is done, and it is on this
-    /// server alone.
+    /// For example after `pg_cancel_backend` during the wait for a standby: the server reports success, but only this
+    /// server has the commit.
     #[error("the server warns: {0}")]
     Warned(String),
-    /// It is done, and what is done there can be lost with that server, though `--store-copies` asks for more.
+    /// It is committed, but can be lost with the server, although `--store-copies` asks for more.
     #[error("the server can lose what it says is durable: {0}")]
     FewCopies(String),
     #[error("{}", shown(.0))]
@@ -23,12 +23,12 @@ pub enum Doubt {
     Locked,
     #[error("{0}")]
     NotConnected(String),
-    /// The same, and it will be so until somebody changes something.
+    /// As `NotConnected`, and waiting will not help.
     #[error("{0}")]
     Refused(String),
 }
 
-/// On which connection it is repeated.
+/// The connection on which to repeat a call.
 #[derive(Clone, Copy, Debug, PartialEq, Eq)]
 pub enum Next {
     Same,
@@ -37,7 +37,7 @@ pub enum Next {
 
 use Next::{Another, Same};
 
-/// What a server says (a SQLSTATE, or how it begins), and why it is repeated so. The first line that fits counts.
+/// A server's answer (a SQLSTATE, or its beginning), and why the call is repeated in this way. The first match counts.
 const SAID: [(&str, Next, &str); 9] = [
     ("40003", Another, "the server does not know whether it is done"),
     ("40", Same, "another transaction was in the way, so nothing was done"),
@@ -61,11 +61,11 @@ impl Doubt {
     }
 }
 
-/// What a server says that waiting does not mend: who may come in, and what is there.
+/// Errors that waiting does not fix: access rights, and missing or wrong tables.
 const FOR_GOOD: [&str; 7] = ["0A", "22", "23", "28", "3D", "3F", "42"];
 
 impl Doubt {
-    /// Whether other connections to the server are of no use either, as far as is known.
+    /// Whether the server's other connections are probably useless too.
     pub fn is_of_server(&self) -> bool {
         let begins = |state: &str| ["57P", "25", "08"].iter().any(|begin| state.starts_with(begin));
         match self {
@@ -75,7 +75,7 @@ impl Doubt {
         }
     }
 
-    /// Whether it may be otherwise later, without anybody's help.
+    /// Whether the cause may go away without anyone's help.
     pub fn may_pass(&self) -> bool {
         match self {
             Doubt::Silent(_)
@@ -114,7 +114,7 @@ impl From<NotConnected> for Doubt {
     }
 }
 
-/// The first repeats come at once, as a rule, and later ones once a second.
+/// The first repeats normally come at once, and later ones once a second.
 #[derive(Default)]
 pub struct Backoff(u32);
 

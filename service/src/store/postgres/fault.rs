@@ -1,4 +1,5 @@
-//! Why a store can't be used, and what to do about it. A fault says all by itself: it has no cause that would be said once more.
+//! Why a store can't be used, and what to do about it. Each text is complete: a fault has no cause that would repeat
+//! it.
 
 use super::doubt::Doubt;
 
@@ -39,7 +40,7 @@ impl From<std::io::Error> for StoreFault {
 }
 
 impl StoreFault {
-    /// Whether it may be otherwise later, without anybody's help.
+    /// Whether the cause may go away without anyone's help.
     pub fn may_pass(&self) -> bool {
         match self {
             StoreFault::Doubt(doubt) | StoreFault::Server { doubt, .. } => doubt.may_pass(),

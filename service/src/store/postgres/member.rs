@@ -1,4 +1,4 @@
-//! An instance, as the rows of the store have it.
+//! An instance's view of the store: implements the calls that `cluster` makes (`Terms`).
 
 use super::doubt::Doubt;
 use super::PostgresStore;
@@ -9,10 +9,10 @@ use std::sync::Arc;
 pub struct Member {
     store: Arc<PostgresStore>,
     name: String,
-    /// Where others forward posts to, and where operators of other machines ask.
+    /// Where other instances send posts, and where operators on other machines connect.
     address: String,
     operate: String,
-    /// The number of this process among those of its name; 0 before its first beat is known to be there.
+    /// The number of this process among those of its name; 0 until its first heartbeat is known to be committed.
     life: AtomicU64,
 }
 

@@ -1,8 +1,8 @@
-//! A store in PostgreSQL: the files of slots, and who has which slot.
+//! A store in PostgreSQL: the files of shards, and which instance owns which shard.
 //!
-//! Each write of a slot locks the slot's row where the owner's term is in it. Nothing else keeps two owners apart: no
-//! clock, no lease, no lock of a session. What is read is believed only behind a committed write of one's own, since a
-//! server shows, after a restart, what its standby does not have.
+//! Each write to a shard locks the shard's row, on condition that the row has the writer's term. Nothing else keeps two
+//! owners apart: no clock, no lease, no session lock. What is read counts only after a committed write of our own,
+//! because after a restart a server shows rows that its standby does not have.
 
 mod connection;
 mod copies;
@@ -41,30 +41,30 @@ use std::time::{Duration, Instant};
 use tokio::runtime::{Builder, Handle, Runtime};
 use tokio_postgres::types::ToSql;
 
-/// Connections live on these, so that a thread of the service that waits for the store never keeps the store waiting.
+/// Connections run on these threads, so they go on while threads of the service wait for the store.
 const THREADS: usize = 2;
-/// Who starts waits for so long in all where the server goes away meanwhile, and so long between two tries.
+/// How long a command or a start retries in all if the server goes away, and the pause between two tries.
 const PATIENCE: Duration = Duration::from_secs(20);
 const PAUSE: Duration = Duration::from_millis(500);
 
 pub struct PostgresStore {
     pub cluster: Cluster,
-    /// Which database it is in, by its own word.
+    /// Which database the store is in, as the database says itself.
     identity: Option<String>,
-    /// For bytes, which may be long.
+    /// For reads, which may be long.
     reader: Arc<Connection>,
-    /// For slots that are taken or given away, which may wait for who has the row.
+    /// For taking and releasing shards, which may wait for a locked row.
     taker: Connection,
-    /// For beats, and for what is seen behind them: nothing else keeps them waiting.
+    /// For heartbeats and what is read after them: nothing else may delay these.
     beater: Connection,
-    /// For writes of slots.
+    /// For writes to shards.
     committer: Arc<GroupCommitter>,
     threads: Arc<Threads>,
-    /// By slot, under which term it was taken here last, and the epoch that was drawn for that.
+    /// By shard: the term under which we took it last, and the epoch drawn for that.
     taken: Mutex<BTreeMap<u16, (u64, String)>>,
 }
 
-/// Ends without waiting, from wherever it is dropped.
+/// A runtime that ends without blocking, wherever it is dropped.
 struct Threads {
     /// None once it is dropped.
     runtime: Option<Runtime>,
@@ -78,7 +78,7 @@ impl Threads {
         Ok(Threads { handle: runtime.handle().clone(), runtime: Some(runtime) })
     }
 
-    /// Waits, whatever thread this is.
+    /// Blocks on any thread, inside a runtime or not.
     fn wait<T>(&self, work: impl Future<Output = T>) -> T {
         let _entered = self.handle.enter();
         on_this_thread(work)
@@ -93,7 +93,7 @@ impl Drop for Threads {
     }
 }
 
-/// Reads `postgres://..`, of one host or several that have the same database.
+/// Parses `postgres://..`, with one host, or several that have the same database.
 pub fn address(text: &str) -> Result<Server, String> {
     let (scheme, rest) = text.split_once(':').unwrap_or_default();
     match scheme.eq_ignore_ascii_case("postgres") || scheme.eq_ignore_ascii_case("postgresql") {
@@ -108,15 +108,15 @@ impl PostgresStore {
         Threads::start()?.wait(schema::make(server, slots))
     }
 
-    /// Before it is known whether the instance may start: it has not agreed yet.
+    /// Opens a store for an instance, which still has to `agree`.
     pub fn join(server: &Server, copies: Copies) -> Result<PostgresStore, StoreFault> {
         let store = PostgresStore::look_into(server, copies)?;
         store.admit()?;
         Ok(store)
     }
 
-    /// Passes where it reads posts as the instance that started first: `reading` is what their meaning hangs on, so all
-    /// instances have to say the same.
+    /// Passes if this instance reads posts by the same rules as the one that started first: `reading` has the settings
+    /// that determine what posts mean.
     pub fn agree(&self, reading: &str) -> Result<(), StoreFault> {
         let there = self.told(schema::AGREE, &[&reading])?;
         match there == reading {
@@ -125,7 +125,7 @@ impl PostgresStore {
         }
     }
 
-    /// The same where nothing is served, whether it counts or not.
+    /// Opens a store without serving from it, even if it does not count yet.
     pub fn look_into(server: &Server, copies: Copies) -> Result<PostgresStore, StoreFault> {
         let threads = Arc::new(Threads::start()?);
         let checking = async {
@@ -148,8 +148,8 @@ impl PostgresStore {
         })
     }
 
-    /// Asks again, for a while, where the server that was there when the store was opened has gone away: it comes back, or
-    /// another takes its place. What it asks for may be done again.
+    /// Retries for a while if the server goes away: it may come back, or another one may take its place. `work` must be
+    /// repeatable.
     pub(super) fn waited<T>(&self, work: impl AsyncFn() -> Result<T, Doubt>) -> Result<T, StoreFault> {
         let begun = Instant::now();
         loop {
@@ -160,22 +160,22 @@ impl PostgresStore {
         }
     }
 
-    /// What the store says of itself.
+    /// Runs a statement that returns one text.
     fn told(&self, text: &str, values: &[&(dyn ToSql + Sync)]) -> Result<String, StoreFault> {
         self.waited(async || Ok(self.taker.told(text, values).await?.get(0)))
     }
 
-    /// Where instances deliver to, as the first that started has said; empty before.
+    /// The sink of all instances, as the first one set it; empty before that.
     pub fn sink(&self) -> Result<String, StoreFault> {
         self.told(schema::SINK, &[])
     }
 
-    /// Writes it where it is as before: what it is then.
+    /// Sets the sink if it is still `before`, and returns the sink as it is then.
     pub fn set_sink(&self, before: &str, now: &str) -> Result<String, StoreFault> {
         self.told(schema::SET_SINK, &[&before, &now])
     }
 
-    /// Which database it is in, if that says so.
+    /// Which database the store is in, if the database can tell.
     pub fn identity(&self) -> Option<String> {
         self.identity.clone()
     }
@@ -184,13 +184,15 @@ impl PostgresStore {
         &self.reader.all.counts
     }
 
-    /// The slot was taken here under this term, and this epoch: another of the same term is another's.
+    /// Remembers that we took the shard under this term and epoch. Another instance may own it under the same term with
+    /// another epoch.
     fn note_taken(&self, slot: u16, term: u64, epoch: String) -> u64 {
         locked(&self.taken).insert(slot, (term, epoch));
         term
     }
 
-    /// The files of a slot that was taken here under this term; none where another has it since. It asks until it knows.
+    /// Opens a shard that we took under this term; fails if another instance has taken it since. Retries until the
+    /// outcome is known.
     pub fn drive(&self, slot: u16, term: u64) -> Result<Arc<PostgresDrive>, Lost> {
         let taken = locked(&self.taken).get(&slot).cloned();
         let (_, epoch) = taken.filter(|(taken, _)| *taken == term).ok_or(Lost)?;
@@ -199,7 +201,7 @@ impl PostgresStore {
         Ok(Arc::new(PostgresDrive::new(opened, &self.committer, &self.reader, &self.threads)))
     }
 
-    /// Its address, without a secret.
+    /// The store's address, without the password.
     pub fn name(&self) -> String {
         self.reader.all.server.to_string()
     }

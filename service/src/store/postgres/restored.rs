@@ -1,4 +1,5 @@
-//! What an operator says of a store that was put back from a backup, or that has lost rows for good: it goes on with what there is.
+//! Carries out `totxegun store restored`, for a store that was restored from a backup or has lost rows for good: the
+//! shards continue with what is left.
 
 use super::connection::connect;
 use super::fault::StoreFault;
@@ -7,7 +8,7 @@ use super::state::FENCE;
 use super::PostgresStore;
 use tokio_postgres::{Client, Error};
 
-/// What the sink has said belongs to files that may be gone. Of what is sent again it knows the keys.
+/// This refers to files that may be gone. Requests that are sent again are recognised by their keys.
 const DELIVERED: &str = "delete from totxegun_store.delivered";
 const PIECES: &str = "delete from totxegun_store.piece where slot = any($1)";
 const FILES: &str = "delete from totxegun_store.file where slot = any($1)";
@@ -29,7 +30,8 @@ async fn go_on(client: &mut Client, anew: &[i32]) -> Result<Vec<u16>, Error> {
 }
 
 impl PostgresStore {
-    /// Each slot goes on with what it has, and these with nothing: which do so from now on, those without files among them.
+    /// Each shard continues with what it has, and the shards in `anew` with nothing. Returns the shards that begin
+    /// empty, including those that lost all their files.
     pub fn restored(&self, anew: &[u16]) -> Result<Vec<u16>, StoreFault> {
         self.admit()?;
         if let Some(none) = anew.iter().find(|slot| **slot >= self.cluster.slots) {

@@ -1,4 +1,4 @@
-//! A store's tables, and what it says of itself.
+//! The tables of a store (`schema.sql`), and the facts in its single row of `cluster`.
 
 use super::connection::connect;
 use super::doubt::Doubt;
@@ -9,21 +9,21 @@ use std::fs::File;
 use std::io::{self, Read};
 use tokio_postgres::{Client, Error};
 
-/// The version of the tables that this program knows.
+/// The version of the tables that this program reads.
 pub(super) const KNOWN: i32 = 1;
 const TABLES: &str = include_str!("schema.sql");
-/// Where it is no PostgreSQL, though it speaks as one, its tables are left as they are.
+/// For PostgreSQL itself; other engines that speak its protocol keep their defaults.
 const TUNING: &str = include_str!("tuning.sql");
 pub const MOST_SLOTS: u16 = 1024;
 
-/// What a store is.
+/// The facts about a store that never change.
 #[derive(Clone, PartialEq, Eq)]
 pub struct Cluster {
     pub id: String,
     pub slots: u16,
-    /// From which the epochs of all slots go on: drawn once, when the store was made.
+    /// The epoch that the first epoch of each shard continues; drawn when the store was made.
     pub epoch: String,
-    /// By which its instances know each other.
+    /// The secret by which the instances recognise each other.
     pub secret: String,
 }
 
@@ -33,12 +33,12 @@ impl Cluster {
     }
 }
 
-/// An epoch that nobody has drawn before.
+/// An epoch that was never drawn before.
 pub(super) fn draw_epoch() -> Result<String, Doubt> {
     random(8).map_err(|error| Doubt::NotConnected(format!("/dev/urandom: {error}")))
 }
 
-/// So many random bytes, in hexadecimal digits.
+/// Random bytes, as hexadecimal digits.
 fn random(bytes: usize) -> io::Result<String> {
     let mut drawn = vec![0; bytes];
     File::open("/dev/urandom")?.read_exact(&mut drawn)?;
@@ -50,7 +50,7 @@ const IS_THERE: &str = "select count(*) from information_schema.tables
 const VERSION: &str = "select version from totxegun_store.cluster";
 const FIND: &str = "select id, slots, epoch, secret from totxegun_store.cluster";
 
-/// Its version, if there is a store.
+/// The version of the store, if there is one.
 async fn version(client: &Client) -> Result<Option<i32>, Error> {
     if client.query_one(IS_THERE, &[]).await?.get::<_, i64>(0) == 0 {
         return Ok(None);
@@ -90,7 +90,7 @@ async fn make_in(client: &mut Client, cluster: &Cluster) -> Result<(), Error> {
     transaction.commit().await
 }
 
-/// What the database says, which has to have a store that this program knows.
+/// Reads the facts about the store; fails unless there is one of the version that this program reads.
 pub(super) async fn check(client: &Client, server: &Server) -> Result<Cluster, StoreFault> {
     let of_server = |doubt| StoreFault::of(server, doubt);
     match within(SILENT, version(client)).await.map_err(of_server)? {
@@ -110,15 +110,14 @@ pub(super) async fn check(client: &Client, server: &Server) -> Result<Cluster, S
     }
 }
 
-/// Each of these writes, whether it changes something or not: so what it says is there for good. A server shows what its
-/// standby has not got, as after a restart.
-/// How posts are read, as the first instance that started has said.
+/// The rules for reading posts, as the first instance set them. Like the next two statements this is a write even if
+/// nothing changes, so that its answer is durable: after a restart, a server shows rows that its standby does not have.
 pub(super) const AGREE: &str =
     "update totxegun_store.cluster set reading = case reading when '' then $1 else reading end
     returning reading";
-/// Where instances deliver to; empty before the first has started.
+/// The sink of all instances; empty before the first instance has started.
 pub(super) const SINK: &str = "update totxegun_store.cluster set sink = sink returning sink";
-/// The same, once it is written where it still was as before.
+/// Sets the sink if it is still `$1`, and returns the sink as it is then.
 pub(super) const SET_SINK: &str =
     "update totxegun_store.cluster set sink = case sink when $1 then $2 else sink end
     returning sink";

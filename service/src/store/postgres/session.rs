@@ -1,4 +1,5 @@
-//! A connection with its statements, to the server that writes.
+//! A connection with its prepared statements. Its writes succeed only under the owner's fence, and count only if no
+//! warning came with the answer.
 
 mod put;
 
@@ -16,16 +17,18 @@ use tokio::time::timeout;
 use tokio_postgres::types::ToSql;
 use tokio_postgres::{Client, Error, Row, Statement};
 
-/// How long a connection may be silent: it is left then, and never cancelled. The server ends what waits for a lock
-/// before, so that one backend a slot is left behind at most: the one that has the lock, and waits for its standby.
+/// How long a connection may be silent before we drop it; we never cancel a call. The server ends calls that wait for a
+/// lock earlier, so at most one backend for each shard is left over: the one that has the lock and waits for its
+/// standby.
 pub(super) const SILENT: Duration = Duration::from_secs(30);
 
-/// So long a connection is kept on which the slot's row is locked. Who has the lock may wait for ever, if this server is no primary
-/// any more.
+/// How long to keep a connection that finds the shard's row locked. If this server is no longer the primary, the holder
+/// of the lock may wait forever.
 const LOCKED: Duration = Duration::from_secs(5);
 
-/// The fence of each write, by slots, terms, links and epochs: those that are as these say, but for those that are locked, as by a
-/// write that waits for its standby. Another has the slots that are not there, or another link is their owner's.
+/// The fence of each write: selects the rows with these terms, connection epochs (`link`) and owner epochs, except rows
+/// that are locked, for example by a write that waits for its standby. A missing row means that another instance owns
+/// the shard, or that its owner has raised the connection epoch.
 macro_rules! mine {
     () => {
         "with mine as (
@@ -47,12 +50,12 @@ macro_rules! pieces {
     };
 }
 
-/// Pieces of files, where there are no names and no files that go: as a rule. They were never sent before: a server that need not
-/// look for them first writes a tenth less.
+/// The usual write: pieces of files, with no new names and no deleted files. Only for pieces that were never sent
+/// before: a server that does not look for them first writes a tenth less.
 const APPEND: &str = concat!(mine!(), ", put as (", pieces!(), ") select slot from mine");
 
-/// All that a write may have. It may be done again. A file's pieces have greater numbers than the file: so what was written before
-/// it is not looked at.
+/// Any write. It can be repeated. A file's pieces have higher numbers than the file, so a deletion need not look at
+/// earlier pieces.
 const PUT: &str = concat!(
     mine!(),
     ", old as (
@@ -77,7 +80,7 @@ const PUT: &str = concat!(
     "on conflict do nothing) select slot from mine"
 );
 
-/// None where another has the slot, or its row is locked.
+/// Returns no row if another instance owns the shard, or its row is locked.
 const RAISE: &str = "with mine as (
         select slot from totxegun_store.slot where slot = $1 and term = $2 and epoch = $3
         for update skip locked
@@ -85,7 +88,8 @@ const RAISE: &str = "with mine as (
     returning slot.link, slot.begun";
 const IS_OURS: &str = "select count(*) from totxegun_store.slot where slot = $1 and term = $2 and epoch = $3";
 
-/// The slots of which these pieces are there, or that another has by now: its checkpoints delete pieces.
+/// Finds the shards whose last piece is in the store, and those that another instance owns by now: its checkpoints
+/// delete pieces.
 const ARE_THERE: &str =
     "select last.slot from unnest($1::int[], $2::bigint[], $3::bigint[]) as last (slot, number, term)
     where exists (select from totxegun_store.piece where piece.slot = last.slot and piece.number = last.number)
@@ -94,24 +98,24 @@ const ARE_THERE: &str =
 const PIECES: &str = "select number, length, bytes from totxegun_store.piece
     where slot = $1 and file = $2 and number = any($3::bigint[])";
 
-/// Whose a slot is.
+/// The owner of a shard.
 pub(super) struct Owned<'a> {
     pub slot: i32,
     pub term: i64,
-    /// A store that lost what it had committed may have given another the same term.
+    /// After a store lost commits, another owner may have the same term.
     pub epoch: &'a str,
 }
 
-/// What a slot's row says to its owner.
+/// The fields of a shard's row that its owner needs.
 pub(super) struct SlotRow {
     pub link: i64,
-    /// It has had files.
+    /// The shard has had files.
     pub begun: bool,
 }
 
 pub(super) struct Session {
     pub client: Client,
-    /// Of those of this process.
+    /// The number of this connection among those of the process.
     pub number: u64,
     copies: Copies,
     append: Statement,
@@ -120,7 +124,7 @@ pub(super) struct Session {
     settings: Statement,
     driver: Driver,
     made: Instant,
-    /// One write at a time: whose warning it is must be known.
+    /// Held for a whole write, so that a warning can only belong to this one.
     writing: Mutex<()>,
 }
 
@@ -152,7 +156,7 @@ impl Session {
         Ok(session)
     }
 
-    /// As they are once all is done that was asked for before; none if they don't matter.
+    /// The settings after everything that was asked for before; none if they don't matter.
     async fn settings(&self) -> Result<Option<copies::Settings>, Error> {
         match self.copies {
             Copies::One => Ok(None),
@@ -160,7 +164,7 @@ impl Session {
         }
     }
 
-    /// Whether another connection is made after this.
+    /// Whether to open another connection after this failure.
     pub fn is_left_after(&self, doubt: &Doubt) -> bool {
         match doubt {
             Doubt::Locked => self.made.elapsed() > LOCKED,
@@ -168,7 +172,7 @@ impl Session {
         }
     }
 
-    /// Those of these pieces that are there.
+    /// The pieces among these that the store has.
     pub async fn pieces(&self, slot: i32, file: u64, numbers: &[u64]) -> Result<Vec<Stored>, Doubt> {
         let numbers: Vec<i64> = numbers.iter().map(|number| *number as i64).collect();
         let wanted: [&(dyn ToSql + Sync); 3] = [&slot, &(file as i64), &numbers];
@@ -181,19 +185,20 @@ impl Session {
         Ok(rows.into_iter().map(stored).collect())
     }
 
-    /// What a write answered, where no doubt came with it, and it is on as many servers as was asked for.
+    /// The answer of a write that came without a warning, from a server with enough copies.
     pub async fn written<T>(&self, write: impl Future<Output = Result<T, Error>>) -> Result<T, Doubt> {
         self.sure(SILENT, async { Ok((write.await?, self.settings().await?)) }).await
     }
 
-    /// The same of a write with the settings behind it. No other write is between the two: that may wait for a lock.
+    /// The same for a write that reads the settings right after itself. No other write may come between: it could wait
+    /// for a lock.
     async fn sure<T>(
         &self,
         limit: Duration,
         write: impl Future<Output = Result<(T, Option<copies::Settings>), Error>>,
     ) -> Result<T, Doubt> {
         let _one = self.writing.lock().await;
-        self.driver.warnings.take(); // of before
+        self.driver.warnings.take(); // warnings of earlier calls
         let (answer, settings) = within(limit, write).await?;
         if let Some(warning) = self.driver.warnings.take() {
             return Err(Doubt::Warned(warning));
@@ -202,8 +207,8 @@ impl Session {
         Ok(answer)
     }
 
-    /// Raises a slot's link: its row then, and all that is read from here on is behind a committed write under the term. None
-    /// where another has the slot.
+    /// Raises the shard's connection epoch (`link`) and returns its row. Everything read on this session from then on
+    /// is after a committed write under the term. None if another instance owns the shard.
     pub async fn raise_link(&self, of: &Owned<'_>) -> Result<Option<SlotRow>, Doubt> {
         let key: [&(dyn ToSql + Sync); 3] = [&of.slot, &of.term, &of.epoch];
         if let Some(row) = self.written(self.client.query_opt(RAISE, &key)).await? {
@@ -216,8 +221,9 @@ impl Session {
         }
     }
 
-    /// The slots of these writes of which the server has the last piece that it said is durable, or that are another's by now, as the
-    /// write itself finds: that is asked of each connection before it is believed. A server that another had to stand in for may not have got all.
+    /// The shards of these writes whose last durable piece the server still has, or that another instance owns by now,
+    /// which the write itself will find. Each new connection is checked in this way before its answers count: a server
+    /// that took over from another one may lack commits.
     pub async fn whole(&self, writes: &[&Write]) -> Result<BTreeSet<i32>, Doubt> {
         let last = |write: &&Write| {
             let last = write.owner.fence().last.filter(|(file, _)| !write.packed.gone.contains(file));

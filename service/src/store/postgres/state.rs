@@ -1,4 +1,7 @@
-//! Whether what is in a store counts: not while a folder's content is on its way here.
+//! Whether a store counts: it does not while a folder is being moved into it.
+//!
+//! `store/moving` changes this, and an instance checks it before it joins. Of the folder and the store exactly one
+//! counts.
 
 use super::connection::{connect, Connection};
 use super::doubt::Doubt;
@@ -11,36 +14,36 @@ use std::time::Duration;
 use tokio_postgres::types::ToSql;
 use tokio_postgres::{Client, Error};
 
-/// So long a beat has to stand still: more than six of them.
+/// How long a heartbeat must stand still before its instance counts as ended: more than six intervals.
 const STILL: Duration = Duration::from_millis(3500);
 
 #[derive(Clone, Debug, PartialEq, Eq)]
 pub struct Standing {
-    /// The folder counts, whose content is on its way here: the store does not yet.
+    /// A folder is being moved here, and the folder still counts.
     pub is_filling: bool,
-    /// The epoch of the folder that is moved, or was, and where it is.
+    /// The epoch of the folder that is or was moved, and its path.
     pub id: String,
     pub folder: String,
 }
 
-/// A write, so that what it reads is there for good.
+/// A write, so that what it returns is durable.
 const STANDING: &str = "update totxegun_store.cluster set id = id returning filling, move, folder";
 const CHANGE: &str = "update totxegun_store.cluster set filling = $1, move = $2, folder = $3
     where filling = $4 and move = $5";
-/// Whoever had a slot writes no more, and delivers no more into a sink in this database.
+/// Fences all owners: none can write any more, or deliver into a sink in this database.
 pub(super) const FENCE: &str =
     "update totxegun_store.slot set term = term + 1, link = 0, owner = $1, epoch = ''";
 const FILES: &str = "select count(*) from totxegun_store.file";
-/// What an earlier try has brought there is deleted.
+/// Also clears `begun`, because the caller deletes what an earlier try copied here.
 const TAKE: &str =
     "update totxegun_store.slot set term = term + 1, link = 0, owner = $3, epoch = $5, begun = false
     where slot = $1 and term = $2
     and exists (select from totxegun_store.cluster where move = $4 and filling)";
-/// Who takes a slot to move it.
+/// The owner's name during a move.
 const MOVER: &str = "store move";
 
 impl Standing {
-    /// Why no service starts on the store; none where one may.
+    /// Why no service may start on the store; none if one may.
     pub fn refusal(&self) -> Option<String> {
         let folder = &self.folder;
         self.is_filling.then(|| {
@@ -53,7 +56,7 @@ impl Standing {
     }
 }
 
-/// For `CHANGE`.
+/// The values for `CHANGE`.
 fn values_of<'a>(seen: &'a Standing, to: &'a Standing) -> [&'a (dyn ToSql + Sync); 5] {
     [&to.is_filling, &to.id, &to.folder, &seen.is_filling, &seen.id]
 }
@@ -61,7 +64,7 @@ fn values_of<'a>(seen: &'a Standing, to: &'a Standing) -> [&'a (dyn ToSql + Sync
 async fn begin_filling(client: &mut Client, seen: &Standing, to: &Standing) -> Result<bool, Error> {
     let transaction = client.transaction().await?;
     if transaction.execute(CHANGE, &values_of(seen, to)).await? == 0 {
-        return Ok(true); // it is not as it was seen, or the change is there: its reader finds which
+        return Ok(true); // the state has changed, or the change was already made: the caller reads which
     }
     transaction.execute(FENCE, &[&MOVER]).await?;
     let is_unused = transaction.query_one(FILES, &[]).await?.get::<_, i64>(0) == 0;
@@ -83,7 +86,7 @@ impl PostgresStore {
         self.waited(async || self.taker.standing().await)
     }
 
-    /// Passes where the store counts.
+    /// Passes if the store counts.
     pub(super) fn admit(&self) -> Result<(), StoreFault> {
         match self.standing()?.refusal() {
             Some(why) => Err(StoreFault::Moved(why)),
@@ -91,7 +94,7 @@ impl PostgresStore {
         }
     }
 
-    /// Changes the state, where it is as it was seen: the one that there is then.
+    /// Changes the state if it is still as it was seen; returns the state after that.
     pub fn change(&self, seen: &Standing, to: &Standing) -> Result<Standing, StoreFault> {
         self.waited(async || {
             self.taker.write(CHANGE, &values_of(seen, to)).await?;
@@ -99,9 +102,9 @@ impl PostgresStore {
         })
     }
 
-    /// Has the store filled from now on, where it is as it was seen: what it is then. None if a slot has something. Whoever had a slot
-    /// has it no more. One transaction looks, behind which no owner writes any more: so nothing is taken between the look and the
-    /// change.
+    /// Marks the store as being filled if its state is still as it was seen, and returns the state after that. None if
+    /// any shard has files. One transaction fences all owners and then looks for files, so nothing can be written
+    /// between the look and the change.
     pub fn begin_filling(&self, seen: &Standing, to: &Standing) -> Result<Option<Standing>, StoreFault> {
         self.waited(async || {
             let (mut client, _driver) = connect(&self.taker.all.server).await?;
@@ -112,7 +115,7 @@ impl PostgresStore {
         })
     }
 
-    /// Passes where no instance runs.
+    /// Passes if no instance runs.
     pub fn check_idle(&self) -> Result<(), StoreFault> {
         match &self.running(STILL)?[..] {
             [] => Ok(()),
@@ -120,7 +123,7 @@ impl PostgresStore {
         }
     }
 
-    /// Instances whose beats go on. It takes so long where there were any.
+    /// The instances whose heartbeats continue. Takes `within` if there are any rows of instances.
     pub fn running(&self, within: Duration) -> Result<Vec<String>, StoreFault> {
         self.waited(async || {
             let (before, _) = self.taker.instances().await?;
@@ -134,7 +137,7 @@ impl PostgresStore {
         })
     }
 
-    /// Takes a slot to move what it has. Nobody else can take it meanwhile.
+    /// Takes a shard for a move. No instance can take it until the move is done.
     pub fn take_to_move(&self, slot: u16, id: &str) -> Result<u64, StoreFault> {
         let taken = self.waited(async || {
             let rows = self.taker.slots().await?;
@@ -147,7 +150,7 @@ impl PostgresStore {
         taken?.ok_or(StoreFault::Meanwhile)
     }
 
-    /// Gives back a slot that was taken so.
+    /// Releases a shard that was taken for a move.
     pub fn release_moved(&self, slot: u16, term: u64) -> Result<(), StoreFault> {
         let release = async || self.taker.write(RELEASE, &[&i32::from(slot), &(term as i64), &MOVER]).await;
         match self.waited(release)? {

@@ -1,4 +1,7 @@
-//! The rows of instances and slots: who beats, and who has which slot under which term.
+//! The rows of instances and shards: heartbeats, and which instance owns which shard under which term.
+//!
+//! `cluster` reads and changes them through `Member`. Each takeover raises the term and draws an epoch, which fences
+//! the previous owner.
 
 use super::connection::Connection;
 use super::doubt::Doubt;
@@ -10,7 +13,7 @@ use std::time::{Duration, SystemTime, UNIX_EPOCH};
 use tokio_postgres::types::ToSql;
 use tokio_postgres::Row as DatabaseRow;
 
-/// How long a question may take: none waits for a lock or a standby, so a server that is silent for so long is lost.
+/// The time limit of a read: reads wait for no lock and no standby, so a server that is silent for longer is lost.
 const READ: Duration = Duration::from_secs(5);
 
 const BEAT: &str =
@@ -20,30 +23,30 @@ const BEAT: &str =
     version = excluded.version, told = excluded.told, life = greatest(i.life, $6) + case $6 when 0 then 1 else 0 end,
     earlier = i.earlier + case when $6 > 0 and $6 < i.life then 1 else 0 end
     returning life";
-/// With the server's time, in microseconds since 1970.
+/// Also returns the server's time, in microseconds since 1970.
 const INSTANCES: &str = "select name, address, version, beat, told, operate, (extract(epoch from clock_timestamp()) * 1e6)::bigint,
     life, earlier
     from totxegun_store.instance";
 const SLOTS: &str = "select slot, term, owner from totxegun_store.slot order by slot";
-/// Not while a folder is moved into the store.
+/// Takes nothing while a folder is being moved into the store.
 const TAKE: &str =
     "update totxegun_store.slot set term = term + 1, link = 0, owner = $3, epoch = $4 where slot = $1 and term = $2
     and exists (select from totxegun_store.cluster where not filling)";
-/// After a store has lost a take another may have the same term.
+/// Checks the owner too: after a store lost a takeover, another instance may have the same term.
 pub(super) const RELEASE: &str =
     "update totxegun_store.slot set owner = '' where slot = $1 and term = $2 and owner = $3";
 const LEAVE: &str = "delete from totxegun_store.instance where name = $1";
-/// One that has beaten meanwhile stays.
+/// A row whose heartbeat has continued stays.
 const FORGET: &str = "delete from totxegun_store.instance where name = $1 and beat = $2";
 
 impl Connection {
-    /// A write that is done without a doubt, or an error: then it may be done, or be done later.
+    /// A write. On an error it may have been done, or may still be done later.
     pub(super) async fn write(&self, text: &str, values: &[&(dyn ToSql + Sync)]) -> Result<u64, Doubt> {
         let session = self.session().await?;
         self.heard(&session, session.written(session.client.execute(text, values))).await
     }
 
-    /// The same of one that says something: its row.
+    /// A write that returns a row.
     pub(super) async fn told(
         &self,
         text: &str,
@@ -59,7 +62,7 @@ impl Connection {
         Ok(rows.iter().map(each).collect())
     }
 
-    /// All that there are, and how far this machine's clock is ahead of the server's, if there is one.
+    /// All instances, and how far this machine's clock is ahead of the server's; none if there are no instances.
     pub(super) async fn instances(&self) -> Result<(Vec<Instance>, Option<i64>), Doubt> {
         let instance = |row: &DatabaseRow| {
             let one = Instance {
@@ -97,7 +100,8 @@ fn microseconds() -> i64 {
     since.as_micros() as i64
 }
 
-/// How far a clock is ahead at least, by which it was `before` and `after` while another said `there`; late if it is less than 0.
+/// How far a clock is ahead at least, if it said `before` and `after` around the moment when another one said `there`;
+/// less than 0 if it is behind.
 fn ahead(before: i64, there: i64, after: i64) -> i64 {
     match (before - there, after - there) {
         (earliest, _) if earliest > 0 => earliest,
@@ -107,8 +111,8 @@ fn ahead(before: i64, there: i64, after: i64) -> i64 {
 }
 
 impl PostgresStore {
-    /// Adds one to an instance's beat, which is committed when this is `Ok`. `life` is the number of this process among those of its
-    /// name, and 0 of one that begins: the last number that there is.
+    /// Adds one to the heartbeat of an instance; it is committed if this returns `Ok`. `life` is the number of this
+    /// process among those of its name, or 0 for a new process. Returns the highest such number.
     pub async fn beat(
         &self,
         name: &str,
@@ -117,13 +121,13 @@ impl PostgresStore {
         told: Told,
         life: u64,
     ) -> Result<u64, Doubt> {
-        let told = serde_json::to_string(&told).unwrap_or_default(); // numbers and texts are always written
+        let told = serde_json::to_string(&told).unwrap_or_default(); // numbers and strings always serialise
         let (version, life) = (env!("CARGO_PKG_VERSION"), life as i64);
         let values: [&(dyn ToSql + Sync); 6] = [&name, &address, &operate, &version, &told, &life];
         Ok(self.beater.told(BEAT, &values).await?.get::<_, i64>(0) as u64)
     }
 
-    /// All that there are, and how far this machine's clock is ahead of the server's, if there is one.
+    /// All instances, and how far this machine's clock is ahead of the server's; none if there are no instances.
     pub async fn instances(&self) -> Result<(Vec<Instance>, Option<i64>), Doubt> {
         self.beater.instances().await
     }
@@ -132,31 +136,33 @@ impl PostgresStore {
         self.beater.slots().await
     }
 
-    /// Writes the term behind the one that was seen, and a new epoch: the new term, or none where another was first. After a
-    /// doubt nothing was taken: the next try sees which term there is, and what comes late finds another.
+    /// Takes the shard under the term after the one that was seen, with a new epoch. Returns the new term, or none if
+    /// another instance was first. If the outcome is unknown, nothing counts as taken: the next try reads the term, and
+    /// a late commit of this one finds another term.
     pub async fn take(&self, slot: u16, seen: u64, owner: &str) -> Result<Option<u64>, Doubt> {
         let epoch = draw_epoch()?;
         let rows = self.taker.write(TAKE, &[&i32::from(slot), &(seen as i64), &owner, &epoch]).await?;
         Ok((rows == 1).then(|| self.note_taken(slot, seen + 1, epoch)))
     }
 
-    /// Says that nobody has the slot, where it has this term and owner. The one who had it writes no more.
+    /// Releases the shard if it still has this term and owner. The owner must have stopped writing, since the term
+    /// stays.
     pub async fn release(&self, slot: u16, term: u64, owner: &str) -> Result<(), Doubt> {
         self.taker.write(RELEASE, &[&i32::from(slot), &(term as i64), &owner]).await.map(drop)
     }
 
-    /// Where the database is silent its row stays, and is that of one that is gone.
+    /// If the database is silent, the row stays, and later counts as that of an instance that is gone.
     pub async fn leave(&self, name: &str) -> Result<(), Doubt> {
         self.beater.write(LEAVE, &[&name]).await.map(drop)
     }
 
-    /// Takes the row of an instance away that has not come back, where its beat is still this. Whether it was.
+    /// Deletes the row of an instance that is gone, if its heartbeat has not continued; returns whether it did.
     pub async fn forget(&self, name: &str, beat: u64) -> Result<bool, Doubt> {
         Ok(self.taker.write(FORGET, &[&name, &(beat as i64)]).await? == 1)
     }
 
-    /// On how many servers what is committed is now; none where this role may not look. Long bytes may be ahead of it, or a write
-    /// that waits for a standby, so its silence says nothing of other connections.
+    /// How many servers have the current commits; none if this role may not see that. This read may queue behind long
+    /// ones or a write that waits for a standby, so its timeout says nothing about other connections.
     pub async fn copies(&self) -> Result<Option<u64>, Doubt> {
         let session = self.reader.session().await?;
         let answer = within(READ, copies::count(&session.client)).await;
@@ -171,7 +177,7 @@ impl PostgresStore {
 mod tests {
     use super::*;
 
-    /// An answer that comes late is no clock that is wrong.
+    /// A late answer does not make a clock look wrong.
     #[test]
     fn a_clock_is_as_far_off_as_it_is_at_least() {
         for (before, there, after, found) in [

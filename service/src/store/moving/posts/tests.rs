@@ -1,4 +1,4 @@
-//! Each part of a post is where its series are, and all of it is there once.
+//! Each part of a post goes to the shard of its series, and nothing is lost or doubled.
 
 use super::*;
 use crate::files::OfRun;
@@ -15,7 +15,7 @@ fn resource(name: &str, points: &[&str]) -> String {
     )
 }
 
-/// One whose name has a `?` is outside the profile.
+/// A metric with `?` in its name is rejected.
 fn metric(name: &str) -> String {
     let value = if name.contains('?') { "\"asDouble\":0.5" } else { "\"asInt\":\"5\"" };
     format!(

@@ -1,15 +1,16 @@
-//! The pieces of a slot that were read or written last: what is read is read on, and what is flushed is delivered.
+//! The pieces of a shard that were read or written last: reads go on in the same piece, and what was just flushed is
+//! delivered.
 
 use super::files::Bytes;
 use std::collections::{HashMap, VecDeque};
 
-/// Of a slot, beside one piece that is longer.
+/// The most bytes for a shard; a single longer piece may stay too.
 const MOST: usize = 4 << 20;
 
 #[derive(Default)]
 pub struct Cache {
     pieces: HashMap<u64, Bytes>,
-    /// Their numbers, the oldest first.
+    /// Piece numbers, oldest first.
     order: VecDeque<u64>,
     size: usize,
 }
@@ -18,7 +19,7 @@ impl Cache {
     pub fn put(&mut self, number: u64, bytes: Bytes) {
         self.size += bytes.len();
         match self.pieces.insert(number, bytes) {
-            Some(same) => self.size -= same.len(), // two have fetched it
+            Some(same) => self.size -= same.len(), // two callers fetched the same piece
             None => self.order.push_back(number),
         }
         while self.size > MOST && self.order.len() > 1 {
@@ -43,7 +44,7 @@ mod tests {
         let piece = |length: usize| Bytes::new(vec![7; length]);
         for number in 0..9 {
             cache.put(number, piece(MOST / 4));
-            cache.put(number, piece(MOST / 4)); // by another who has fetched it too
+            cache.put(number, piece(MOST / 4)); // by a second caller that fetched it too
         }
         let found: Vec<u64> = (0..9).filter(|number| cache.find(*number).is_some()).collect();
         assert_eq!(found, [5, 6, 7, 8]);
@@ -53,7 +54,7 @@ mod tests {
         assert_eq!((cache.find(9), cache.size, cache.order.len()), (None, 1, 1));
     }
 
-    /// As after a day of lone posts, where a takeover reads the journal: in a list each would be looked for among all.
+    /// As when a takeover reads a journal after a day of single posts: in a list, each piece would be searched for.
     #[test]
     fn short_pieces_are_found_as_fast_however_many_there_are() {
         let mut cache = Cache::default();

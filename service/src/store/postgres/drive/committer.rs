@@ -1,13 +1,15 @@
-//! Brings what slots have to the store: one transaction for all slots whose callers wait, since a commit costs the servers more
-//! than what it brings.
+//! Group commit: one transaction for all shards with waiting callers, because a commit costs the servers more than the
+//! bytes in it.
 //!
-//! Each lane has a connection, and one transaction under way; slots that are asked for meanwhile join the next one. All slots
-//! share a short lane. What is long goes to one of a few long lanes, by the slot's number, so it holds up no short writes, and few
-//! long ones. A slot has one write under way at a time: what it has when that begins.
+//! Each lane has a connection and at most one transaction in flight; shards with new callers join the next one. All
+//! shards share one short lane. A long write goes to one of a few long lanes, chosen by the shard's number, so it
+//! delays no short writes and few long ones. A shard has one write in flight at a time, with everything that was queued
+//! when it began.
 //!
-//! Each write locks the slot's row where term and link are the owner's. A row that another transaction has locked is passed over,
-//! so nobody waits for a slot of others. Where it is not known whether a write was done, or it was passed over, it is repeated on
-//! a long lane, by itself, behind a higher link: so what comes late of a broken connection finds another link and does nothing.
+//! Each write locks the shard's row on condition that term and connection epoch (`link`) are the owner's. Rows that
+//! another transaction has locked are skipped, so no shard waits for another one. If the outcome of a write is unknown
+//! or its row was skipped, it is repeated alone on a long lane, after raising the connection epoch: so a late write of
+//! a broken connection finds another one and does nothing.
 
 use super::files::Batch;
 use super::linger::{Arrivals, Linger};
@@ -24,13 +26,13 @@ use std::sync::Arc;
 use tokio::sync::mpsc::{unbounded_channel, UnboundedReceiver, UnboundedSender};
 use tokio::task::{JoinError, JoinSet};
 
-/// Each has a connection once it is needed (docs/SEVERAL_MACHINES.md counts them).
+/// Each one opens a connection when it is needed (docs/SEVERAL_MACHINES.md counts them).
 const LONG_LANES: usize = 4;
-/// A transaction takes no more once it has so many bytes.
+/// No more writes join a transaction that has this many bytes.
 const MOST: usize = 1 << 20;
-/// A packed write of the short lane has no more.
+/// The most bytes of a packed write on the short lane.
 const SHORT: usize = 64 << 10;
-/// A batch of fewer bytes is packed sooner than another thread is woken.
+/// Batches below this are packed in less time than it takes to wake another thread.
 const LITTLE: usize = 8 << 10;
 
 pub struct GroupCommitter {
@@ -38,15 +40,15 @@ pub struct GroupCommitter {
     pub arrivals: Arc<Arrivals>,
 }
 
-/// What a long lane is asked for.
+/// A request to a long lane.
 enum Asked {
-    /// To commit what a slot has.
+    /// Commit what the shard has queued.
     Sync(Arc<OwnedSlot>),
-    /// To commit this, which another lane has begun.
+    /// Commit this write, which another lane began.
     Write(Box<Write>),
 }
 
-/// A write of a slot.
+/// A write to one shard.
 pub struct Write {
     pub owner: Arc<OwnedSlot>,
     pub batch: Batch,
@@ -63,16 +65,16 @@ impl Write {
     }
 }
 
-/// What came of a write that was repeated.
+/// The outcome of a repeated write.
 enum Again {
     Done,
-    /// Another has the slot.
+    /// Another instance owns the shard.
     Fenced,
-    /// The store has lost what it had of the slot.
+    /// The store has lost what it had of the shard.
     Vanished,
 }
 
-/// How lanes are asked. Where the store has ended nobody waits.
+/// Sends requests to the lanes. After the store has ended no caller waits, so requests may get lost.
 #[derive(Clone)]
 struct Lanes {
     short: UnboundedSender<Arc<OwnedSlot>>,
@@ -117,7 +119,7 @@ impl GroupCommitter {
         GroupCommitter { lanes, arrivals }
     }
 
-    /// Commits what the slot has: its round ends then.
+    /// Begins a commit of what the shard has queued; it ends the shard's round.
     pub fn ask(&self, owner: Arc<OwnedSlot>) {
         self.lanes.ask(owner);
     }
@@ -158,7 +160,7 @@ impl Lane<Asked> {
             writes.extend(packed(batches).await);
             let (mut repeated, writes): (Vec<Write>, Vec<Write>) =
                 writes.into_iter().partition(|write| write.is_repeat);
-            repeated.sort_by_key(|write| write.packed.size); // a short one waits for no long one
+            repeated.sort_by_key(|write| write.packed.size); // so that a short write waits for no long one
             self.commit_all(writes).await;
             for write in repeated {
                 self.commit_again(write).await;
@@ -172,7 +174,7 @@ impl<T> Lane<T> {
         Lane { asked, lanes: lanes.clone(), connection: Connection::of(connections) }
     }
 
-    /// All that is asked for once there is a connection.
+    /// All requests that have arrived by the time there is a connection.
     async fn all(&mut self, first: T) -> Vec<T> {
         self.connection.ready().await;
         let mut all = vec![first];
@@ -182,7 +184,7 @@ impl<T> Lane<T> {
         all
     }
 
-    /// Commits what was not tried before, but for slots that are lost since.
+    /// Commits writes that were not tried before, except those of fenced shards.
     async fn commit_all(&mut self, mut writes: Vec<Write>) {
         writes.retain(|write| !write.owner.is_lost());
         self.drop_earlier(&mut writes);
@@ -192,8 +194,8 @@ impl<T> Lane<T> {
         }
     }
 
-    /// Of two owners of a slot the later one has it. Both would be one row of a transaction, which says of the slot alone whether it
-    /// was its owner's.
+    /// Of two owners of the same shard, the later one owns it. A transaction can have only one of them, since it
+    /// reports by shard whether the writer was the owner.
     fn drop_earlier(&self, writes: &mut Vec<Write>) {
         writes.sort_by_key(|write| (write.owner.slot, Reverse(write.owner.term)));
         writes.dedup_by(|write, later| {
@@ -221,18 +223,18 @@ impl<T> Lane<T> {
         }
     }
 
-    /// The slots whose writes are there.
+    /// Returns the shards whose writes are committed.
     async fn try_commit(&self, session: &Session, writes: &[Write]) -> Result<BTreeSet<i32>, Doubt> {
         let is_new = |write: &&Write| write.owner.fence().connection != session.number;
         let (unknown, known): (Vec<&Write>, Vec<&Write>) = writes.iter().partition(is_new);
-        // The others are told of it by the repeat, which looks too.
+        // Writes of other shards are not sent here; their repeat finds out why.
         let whole = session.whole(&unknown).await?;
         let whole = unknown.into_iter().filter(|write| whole.contains(&write.owner.slot));
         let writes: Vec<&Write> = known.into_iter().chain(whole).collect();
         session.put(&writes).await
     }
 
-    /// Returns soon: what is still not known is asked for again.
+    /// Tries once. If the outcome is still unknown, the write is queued again.
     async fn commit_again(&mut self, mut write: Write) {
         if write.owner.is_lost() {
             return;
@@ -270,7 +272,7 @@ impl<T> Lane<T> {
         }
     }
 
-    /// Another has the slot.
+    /// Another instance owns the shard.
     fn lose(&self, owner: &OwnedSlot) {
         self.connection.all.counts.fenced.fetch_add(1, Relaxed);
         owner.lose();
@@ -296,7 +298,7 @@ impl<T> Lane<T> {
     }
 }
 
-/// What slots had, several packed at once.
+/// Packs the batches, long ones in parallel.
 async fn packed(batches: Vec<(Arc<OwnedSlot>, Batch)>) -> Vec<Write> {
     let (mut writes, mut packing) = (Vec::new(), JoinSet::new());
     for (owner, batch) in batches {
@@ -315,7 +317,7 @@ async fn packed(batches: Vec<(Arc<OwnedSlot>, Batch)>) -> Vec<Write> {
     writes
 }
 
-/// How many of these, from the first on, are one transaction: at least one.
+/// How many writes, from the first on, go into one transaction: at least one.
 fn count_of(all: &[Write]) -> usize {
     let sizes = all.iter().scan(0, |size, write| {
         let before = *size;

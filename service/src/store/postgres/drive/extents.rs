@@ -1,8 +1,8 @@
-//! Which piece has the bytes of each place of a file.
+//! Maps each byte of a file to the piece that has it.
 
 use std::collections::BTreeMap;
 
-/// By where they begin. None overlaps another.
+/// By where they begin, without overlaps.
 #[derive(Default)]
 pub struct Extents(BTreeMap<u64, Extent>);
 
@@ -10,11 +10,11 @@ pub struct Extents(BTreeMap<u64, Extent>);
 struct Extent {
     end: u64,
     piece: u64,
-    /// Where in the piece it begins.
+    /// The offset in the piece.
     from: u64,
 }
 
-/// Bytes of a piece; of the piece 0, which is none, zeros.
+/// Bytes of a piece. Piece 0 stands for zeros.
 #[derive(Debug, PartialEq, Eq)]
 pub struct Part {
     pub piece: u64,
@@ -28,7 +28,7 @@ impl Extents {
         self.0.last_key_value().map_or(0, |(_, last)| last.end)
     }
 
-    /// What is there from `at` on is of this piece now.
+    /// The bytes from `at` on now come from this piece.
     pub fn put(&mut self, at: u64, length: u64, piece: u64, from: u64) {
         let end = at + length;
         self.clear(at, end);
@@ -62,7 +62,7 @@ impl Extents {
         }
     }
 
-    /// What is from `at` on, but so many bytes at most.
+    /// The parts from `at` on, up to `most` bytes.
     pub fn parts(&self, at: u64, most: u64) -> impl Iterator<Item = Part> + '_ {
         let end = self.end().min(at.saturating_add(most));
         let first = self.0.range(..=at).next_back().map_or(at, |(begin, _)| *begin);

@@ -1,4 +1,7 @@
-//! The files of a slot in memory: their names, where the bytes of each place are, and what the store has not got yet.
+//! The files of a shard in memory: their names, which piece has which bytes, and what the store does not have yet.
+//!
+//! `PostgresDrive` changes them, and `committer` takes batches of changes. The bytes of a piece stay here until the
+//! store has them.
 
 use super::extents::{Extents, Part};
 use std::collections::{BTreeMap, BTreeSet, HashMap};
@@ -9,11 +12,11 @@ use std::sync::Arc;
 
 /// The most bytes of a piece.
 pub const PIECE: usize = 1 << 20;
-/// So many pieces and files can an owner make.
+/// The bits for the numbers that one owner can give to pieces and files.
 const NUMBERS: u32 = 40;
-/// More bytes take some milliseconds to be packed.
+/// Packing more bytes than this takes milliseconds.
 const LONG: usize = 512 << 10;
-/// So many bytes are fetched at once, as a rule: what is read is read on.
+/// How many bytes are normally fetched at once, because reads are mostly sequential.
 const AHEAD: u64 = 2 << 20;
 
 pub type Bytes = Arc<Vec<u8>>;
@@ -22,11 +25,11 @@ pub type Bytes = Arc<Vec<u8>>;
 pub struct Files {
     names: BTreeMap<PathBuf, u64>,
     files: HashMap<u64, File>,
-    /// The bytes of pieces that are not known to be in the store.
+    /// Pieces that the store is not known to have.
     held: BTreeMap<u64, Piece>,
-    /// From this number on pieces are in no batch yet.
+    /// Pieces from this number on are in no batch yet.
     queued: u64,
-    /// Files whose name changed, and files that are gone, since the last batch.
+    /// Files that were named or renamed, and deleted files, since the last batch.
     named: BTreeSet<u64>,
     gone: Vec<u64>,
     next: u64,
@@ -50,25 +53,25 @@ pub struct Piece {
     pub bytes: Bytes,
 }
 
-/// What was done since the batch before. Each part of it says what is there behind it, so it may be done again.
+/// The changes since the previous batch. Each part states a result, so a batch can be written again.
 #[derive(Default)]
 pub struct Batch {
     pub gone: Vec<u64>,
     pub named: Vec<(u64, String)>,
-    /// Under their numbers.
+    /// With their numbers.
     pub pieces: Vec<(u64, Piece)>,
-    /// How many changes there were then.
+    /// The number of changes when the batch was made.
     pub changes: u64,
 }
 
 impl Batch {
-    /// How many its pieces have.
+    /// The bytes of its pieces.
     pub fn bytes(&self) -> usize {
         self.pieces.iter().map(|(_, piece)| piece.bytes.len()).sum()
     }
 }
 
-/// What is known of a piece that is in the store.
+/// What is known of a piece in the store.
 pub struct StoredPiece {
     pub number: u64,
     pub file: u64,
@@ -76,16 +79,16 @@ pub struct StoredPiece {
     pub length: u64,
 }
 
-/// What a read came to.
+/// The outcome of a read.
 pub enum Read {
     Done(usize),
-    /// These pieces of the file have to be fetched before.
+    /// These pieces of the file must be fetched first.
     Needs(Vec<u64>),
 }
 
 impl Files {
-    /// The files that a new owner finds. `pieces` are in the order of their numbers. Its own numbers begin with its
-    /// term, so none is used twice, also where the greatest are gone.
+    /// The files that a new owner finds; `pieces` must be in order of their numbers. The owner's own numbers begin with
+    /// its term, so no number is used twice, even if the highest ones were deleted.
     pub fn found(
         term: u64,
         names: Vec<(u64, String)>,
@@ -113,7 +116,7 @@ impl Files {
         self.changes
     }
 
-    /// Counts as a change, of nothing: so the next batch is known from those before.
+    /// Counts a change that changes nothing, so that the next batch differs from earlier ones.
     pub fn touch(&mut self) -> u64 {
         self.changes += 1;
         self.changes
@@ -187,7 +190,7 @@ impl Files {
         Ok(())
     }
 
-    /// What goes on behind the file's last piece is added to it, until that is sent or full.
+    /// Appends to the last piece of the file if the bytes continue it, until that piece is full or in a batch.
     pub fn write(&mut self, number: u64, mut bytes: &[u8], mut at: u64) -> io::Result<()> {
         while !bytes.is_empty() {
             let last = self.file(number)?.last;
@@ -209,7 +212,7 @@ impl Files {
         self.file(number).map(drop)
     }
 
-    /// How long a piece is, and what it may still take, where it is in no batch and ends there.
+    /// The length of a piece and how much it may still take, if it is in no batch and ends at `at`.
     fn room_behind(&self, piece: u64, at: u64) -> Option<(u64, usize)> {
         let held = self.held.get(&piece).filter(|_| piece >= self.queued)?;
         let length = held.bytes.len();
@@ -217,7 +220,7 @@ impl Files {
         goes_on.then(|| (length as u64, PIECE - length))
     }
 
-    /// `fetched` knows the bytes of pieces that are in the store alone.
+    /// `fetched` returns the bytes of pieces that only the store has.
     pub fn read(
         &self,
         number: u64,
@@ -243,7 +246,7 @@ impl Files {
         Ok(Read::Done(done))
     }
 
-    /// What is read next of the store, and is not here.
+    /// The pieces of the next bytes that are not here.
     fn needed(&self, extents: &Extents, at: u64, fetched: impl Fn(u64) -> Option<Bytes>) -> Vec<u64> {
         let is_here = |piece: &u64| self.held.contains_key(piece) || fetched(*piece).is_some();
         let parts = extents.parts(at, AHEAD).map(|part| part.piece);
@@ -251,7 +254,7 @@ impl Files {
         needed.collect::<BTreeSet<u64>>().into_iter().collect()
     }
 
-    /// Whether the next batch takes so long that no other slot waits for it: to be packed, or to delete files.
+    /// Whether the next batch would delay other shards: it has much to pack, or deletes files.
     pub fn is_long(&self) -> bool {
         let lengths = self.held.range(self.queued..).map(|(_, piece)| piece.bytes.len());
         !self.gone.is_empty() || lengths.sum::<usize>() > LONG
@@ -271,7 +274,7 @@ impl Files {
         Batch { gone: std::mem::take(&mut self.gone), named, pieces, changes: self.changes }
     }
 
-    /// The store has it: its bytes need not be held any more.
+    /// The store has the batch, so its bytes are dropped here.
     pub fn is_there(&mut self, batch: &Batch) {
         for (number, _) in &batch.pieces {
             self.held.remove(number);

@@ -1,4 +1,4 @@
-//! Waits on a thread for what others tell it.
+//! Blocks a thread on a future.
 
 use std::future::Future;
 use std::pin::pin;
@@ -15,17 +15,17 @@ impl Wake for Sleeper {
     }
 }
 
-/// What comes of it, whatever thread this is. It may use channels and locks; a clock and a connection only where a runtime was
-/// entered, to which they belong.
+/// Runs a future to its end on any thread. The future may use channels and locks; timers and connections work only if
+/// the caller has entered their runtime.
 pub fn on_this_thread<T>(work: impl Future<Output = T>) -> T {
     let waker = Waker::from(Arc::new(Sleeper(thread::current())));
     let mut context = Context::from_waker(&waker);
-    // Polled again at once, a task that has used up its budget would never get a new one.
+    // Without `unconstrained`, a task that has used up its budget would be polled forever without getting a new one.
     let mut work = pin!(unconstrained(work));
     loop {
         match work.as_mut().poll(&mut context) {
             Poll::Ready(done) => return done,
-            Poll::Pending => thread::park(), // for nothing now and then
+            Poll::Pending => thread::park(), // may return without a wake-up
         }
     }
 }
@@ -49,7 +49,7 @@ mod tests {
         }
     }
 
-    /// As where a journal's thread belongs to a runtime.
+    /// As when a thread of the journal belongs to a runtime.
     #[test]
     fn it_waits_inside_a_runtime_too() {
         let runtime = tokio::runtime::Builder::new_multi_thread().build().unwrap();

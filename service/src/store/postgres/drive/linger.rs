@@ -1,28 +1,28 @@
-//! How long a commit lingers for the senders that the last one has answered: where they post as fast as they are answered, they
-//! come again at once, and else would wait for the next one while this one is under way.
+//! How long a commit lingers for the senders that the last one answered. Senders that post as fast as they are answered
+//! come back at once; without the pause they would just miss this commit and wait for the next.
 
 use crate::work::{blocking, locked};
 use std::sync::atomic::{AtomicU64, Ordering::SeqCst};
 use std::sync::{Arc, Condvar, Mutex};
 use std::time::{Duration, Instant};
 
-/// A commit lingers for this part of the time that the last one took, and no longer than so long: each post is answered a
-/// little later for it.
+/// A commit lingers for this fraction of the last commit's duration, up to a limit: each post is answered that much
+/// later.
 const PART: u32 = 4;
 const LONGEST: Duration = Duration::from_millis(2);
 
-/// Counts the writes of all slots.
+/// Counts the writes of all shards.
 #[derive(Default)]
 pub struct Arrivals {
     count: AtomicU64,
-    /// The lane goes on once there are so many.
+    /// The count at which the lane continues.
     awaited: AtomicU64,
     waiting: Mutex<()>,
     all_are_there: Condvar,
 }
 
 impl Arrivals {
-    /// It costs a post nothing, as a rule.
+    /// Normally costs a post one addition.
     pub fn note(&self) {
         if self.count.fetch_add(1, SeqCst) + 1 == self.awaited.load(SeqCst) {
             let _waits = locked(&self.waiting);
@@ -44,11 +44,11 @@ impl Arrivals {
 
 pub struct Linger {
     arrivals: Arc<Arrivals>,
-    /// How many there were when the last commit began, and how many came between that one and the one before.
+    /// The count when the last commit began, and how many writes came between that one and the one before.
     began_with: u64,
     answers: u64,
     began: Instant,
-    /// Until there are so many, or it is so late, the next commit waits.
+    /// The next commit waits until this count or this time.
     next: Option<(u64, Instant)>,
 }
 
@@ -67,14 +67,14 @@ impl Linger {
         }
     }
 
-    /// A commit begins.
+    /// Called when a commit begins.
     pub fn begin(&mut self) {
         let count = self.arrivals.count();
         self.answers = count - self.began_with;
         (self.began_with, self.began) = (count, Instant::now());
     }
 
-    /// It has ended.
+    /// Called when it has ended.
     pub fn end(&mut self) {
         let patience = (self.began.elapsed() / PART).min(LONGEST);
         self.next = Some((self.arrivals.count() + self.answers, Instant::now() + patience));

@@ -1,9 +1,9 @@
-//! The files of a slot in a PostgreSQL.
+//! A shard store in PostgreSQL: implements `Drive` for one shard.
 //!
-//! What is done is queued in memory; a sync brings all of it to the store in one transaction that locks the slot's row
-//! under the owner's term: what there is once that begins, which may be after one that is under way. What is queued is as
-//! much as the door lets in: posts are refused once a sync has waited for a second (`under_way`), whatever it waits for, a
-//! full disk of the server's among it.
+//! Changes are queued in memory. A sync commits all changes that are queued when its transaction begins, which may be
+//! after one that is already running; the transaction locks the shard's row under the owner's term. The queue is
+//! bounded because posts are refused when a sync takes too long (`under_way`, `slot/disk_stall`), for whatever reason,
+//! for example a full disk of the server.
 
 mod cache;
 mod committer;
@@ -41,12 +41,12 @@ pub struct PostgresDrive {
     owner: Arc<OwnedSlot>,
     committer: Arc<GroupCommitter>,
     reader: Arc<Connection>,
-    /// They go on while there is a drive, whoever has ended the store.
+    /// Keeps the runtime alive while the shard store exists, even if the store itself was dropped.
     threads: Arc<Threads>,
 }
 
 impl PostgresDrive {
-    /// Of a slot that was opened just now.
+    /// For a shard that was just opened.
     pub(super) fn new(
         owner: Arc<OwnedSlot>,
         committer: &Arc<GroupCommitter>,
@@ -65,27 +65,26 @@ impl PostgresDrive {
         self.owner.term as u64
     }
 
-    /// Nothing is written any more, and callers that wait are told so: where another is known to have the slot, or it is given
-    /// away, or ends.
+    /// Ends all writes and fails the callers that wait: because another instance is known to own the shard, or because
+    /// the shard is given away or ends.
     pub fn lose(&self) {
         self.owner.lose();
     }
 
-    /// Opens the files. Nothing of the slot is written any more if they can't be opened.
-    /// `root` is the store's epoch.
+    /// Opens the files; if that fails, nothing of the shard is written any more. `root` is the store's epoch.
     pub fn open_files(self: &Arc<Self>, root: &str) -> Result<(Journal, Outbox, Dead), Fault> {
         let opened = open_files(self.clone() as Arc<dyn Drive>, root);
         opened.inspect_err(|_| self.lose())
     }
 
-    /// The files, while the slot is this owner's.
+    /// The files, unless the shard is fenced.
     fn files(&self) -> io::Result<MutexGuard<'_, Files>> {
         self.owner.rounds.check().map_err(|Lost| lost())?;
         Ok(locked(&self.owner.files))
     }
 
-    /// Waits for the server where it is not there: for as long as the slot is this owner's. Those that are not found are
-    /// asked of the server that takes the writes: the other may have been left behind.
+    /// Reads pieces. While the server is away it waits, as long as we own the shard. If pieces are missing, it asks
+    /// again after a committed write, since only that proves that this server is the primary.
     fn fetch(&self, file: u64, wanted: Vec<u64>) -> io::Result<HashMap<u64, Bytes>> {
         let (owner, reader) = (&self.owner, &self.reader);
         let (whose, of) = (format!("slot {}", owner.slot), owner.owned());
@@ -118,8 +117,8 @@ impl PostgresDrive {
         Ok(found)
     }
 
-    /// The slot is this owner's, and a row is gone that was there when it was taken. Another instance may not find it either, so
-    /// this is a fault of the file, and no loss of the slot.
+    /// We own the shard, and a row is gone that was there when we took it. Another instance would miss it too, so this
+    /// is a fault of the file and does not fence us.
     fn vanished(&self, file: u64, pieces: &[u64]) -> io::Error {
         let (slot, first) = (self.slot(), pieces.first().copied().unwrap_or_default());
         let what = format!(

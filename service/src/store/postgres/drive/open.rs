@@ -1,4 +1,4 @@
-//! What there is of a slot when it is taken.
+//! Reads a shard when it is taken.
 
 use super::files::{Files, StoredPiece};
 use super::owned_slot::OwnedSlot;
@@ -12,11 +12,11 @@ use tokio_postgres::Row;
 
 const DELIVERED: &str = "select number from totxegun_store.delivered where slot = $1";
 const NAMES: &str = "select file, name from totxegun_store.file where slot = $1";
-/// In the order in which they were written.
+/// In the order of writing, so that later pieces cover earlier ones.
 const PIECES: &str =
     "select number, file, place, length from totxegun_store.piece where slot = $1 order by number";
 
-/// The slot, behind a committed write under its term. It asks until it knows.
+/// Opens the shard after a committed write under its term. Repeats until the outcome is known.
 pub async fn open(reader: &Connection, of: &Owned<'_>) -> Result<Arc<OwnedSlot>, Lost> {
     let ask = || {
         reader.behind_a_write(of, async |session, row| {

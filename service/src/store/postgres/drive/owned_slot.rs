@@ -1,4 +1,6 @@
-//! A slot that this instance has: its files, its commits, and by what its writes are fenced.
+//! A shard that we own: its files, its commits, and the fence of its writes.
+//!
+//! Each write carries term, epoch and connection epoch; if the shard's row has others, the write changes nothing.
 
 use super::cache::Cache;
 use super::committer::Write;
@@ -13,11 +15,11 @@ use tokio::sync::watch;
 pub struct OwnedSlot {
     pub slot: i32,
     pub term: i64,
-    /// Drawn when it was taken.
+    /// Drawn when we took the shard.
     pub epoch: Arc<str>,
-    /// Up to which request the sink had all then, by what is noted beside.
+    /// The last request that the sink had confirmed when we took the shard.
     pub delivered: u64,
-    /// It had had files.
+    /// The shard had had files before.
     pub begun: bool,
     pub files: Mutex<Files>,
     pub cache: Mutex<Cache>,
@@ -26,14 +28,14 @@ pub struct OwnedSlot {
     is_lost: watch::Sender<bool>,
 }
 
-/// What the next write of the slot has to know.
+/// What the next write of the shard has to know.
 #[derive(Clone, Copy, Default)]
 pub struct Fence {
-    /// As the slot's row has it: it goes up where it is not known whether a write was done.
+    /// The connection epoch in the shard's row; raised when the outcome of a write is unknown.
     pub link: i64,
-    /// The connection that has found the slot whole, or has written to it since.
+    /// The last connection that found the shard complete, or wrote to it since.
     pub connection: u64,
-    /// The file and the number of the piece that became durable last, of a file that still is.
+    /// File and number of the piece that became durable last, unless the file was deleted.
     pub last: Option<(i64, i64)>,
 }
 
@@ -53,12 +55,12 @@ impl OwnedSlot {
         })
     }
 
-    /// As its row has it.
+    /// What identifies us as the owner in the shard's row.
     pub fn owned(&self) -> Owned<'_> {
         Owned { slot: self.slot, term: self.term, epoch: &self.epoch }
     }
 
-    /// Nothing is written any more, and callers that wait are told so.
+    /// Ends all writes and fails the callers that wait.
     pub fn lose(&self) {
         self.rounds.lose();
         self.is_lost.send_replace(true);
@@ -76,19 +78,19 @@ impl OwnedSlot {
         *locked(&self.fence)
     }
 
-    /// The slot's row has this link now.
+    /// The shard's row has this connection epoch now.
     pub fn is_linked(&self, link: i64) {
         let mut fence = locked(&self.fence);
         fence.link = fence.link.max(link);
     }
 
-    /// What there is to commit now; none if that is long.
+    /// What is queued; none if that is long.
     pub fn short_batch(&self) -> Option<Batch> {
         let files = locked(&self.files);
         (!files.is_long()).then(|| self.begin(files))
     }
 
-    /// What there is to commit now.
+    /// What is queued.
     pub fn batch(&self) -> Batch {
         self.begin(locked(&self.files))
     }
@@ -98,7 +100,7 @@ impl OwnedSlot {
         files.batch()
     }
 
-    /// A connection has made a write durable. True if callers wait for another one.
+    /// A connection made a write durable. Returns whether callers wait for another one.
     pub fn is_durable(&self, write: Write, connection: u64) -> bool {
         let Write { batch, packed, .. } = write;
         locked(&self.files).is_there(&batch);

@@ -1,4 +1,4 @@
-//! A batch in the form in which it is written: each piece packed if that is shorter.
+//! A batch as it is written: each piece is packed if that makes it shorter.
 
 use super::files::{Batch, Bytes, Piece};
 use crate::work::locked;
@@ -7,19 +7,19 @@ use flate2::{Compress, Compression, FlushCompress, Status};
 use std::io::{self, Read};
 use std::sync::Mutex;
 
-/// Of the journal of a few posts less than a tenth would be saved.
+/// For shorter pieces, such as a few posts of the journal, packing saves less than a tenth.
 const LEAST: usize = 128;
-/// So many are kept, of 300 KB each.
+/// How many idle packers are kept; each takes 300 KB.
 const MOST_PACKERS: usize = 8;
 
-/// Those that nobody has just now: to make one takes several times as long as to pack what is short.
+/// Idle packers: making one takes several times as long as packing something short.
 static PACKERS: Mutex<Vec<Compress>> = Mutex::new(Vec::new());
 
 pub struct Packed {
     pub gone: Vec<i64>,
     pub named: Vec<(i64, String)>,
     pub pieces: Vec<PackedPiece>,
-    /// Of all pieces.
+    /// The bytes of all pieces.
     pub size: usize,
 }
 
@@ -27,13 +27,13 @@ pub struct PackedPiece {
     pub number: i64,
     pub file: i64,
     pub place: i64,
-    /// Before it was packed: a piece of another length is packed.
+    /// The length before packing; it differs from the length of `bytes` if the piece is packed.
     pub length: i32,
     pub bytes: Bytes,
 }
 
 impl Packed {
-    /// Numbers are below 2^63, as a term is below 2^23.
+    /// Numbers stay below 2^63, as terms stay below 2^23.
     pub fn of(batch: &Batch) -> Packed {
         let pieces = batch.pieces.iter().map(|(number, piece)| PackedPiece::of(*number, piece));
         let pieces: Vec<PackedPiece> = pieces.collect();
@@ -45,7 +45,7 @@ impl Packed {
         }
     }
 
-    /// Whether it has pieces alone.
+    /// Whether it has no names and no deletions.
     pub fn only_appends(&self) -> bool {
         self.gone.is_empty() && self.named.is_empty()
     }
@@ -63,7 +63,7 @@ impl PackedPiece {
     }
 }
 
-/// Packed, where that is shorter.
+/// Packs the bytes if that makes them shorter.
 fn pack(bytes: &Bytes) -> Bytes {
     if bytes.len() < LEAST {
         return bytes.clone();
@@ -71,7 +71,7 @@ fn pack(bytes: &Bytes) -> Bytes {
     let kept = locked(&PACKERS).pop();
     let mut packer = kept.unwrap_or_else(|| Compress::new(Compression::fast(), false));
     packer.reset();
-    // There is no room for what is longer.
+    // The buffer has no room for a longer result.
     let mut packed = Vec::with_capacity(bytes.len());
     let done = packer.compress_vec(bytes, &mut packed, FlushCompress::Finish);
     let mut packers = locked(&PACKERS);
@@ -84,7 +84,7 @@ fn pack(bytes: &Bytes) -> Bytes {
     }
 }
 
-/// A piece of this length, as it was.
+/// Unpacks a piece that has this length unpacked.
 pub fn unpacked(bytes: &[u8], length: usize) -> io::Result<Vec<u8>> {
     if bytes.len() == length {
         return Ok(bytes.into());
@@ -122,7 +122,7 @@ mod tests {
         }
     }
 
-    /// What it has packed before has no say.
+    /// What a packer has packed before does not influence its output.
     #[test]
     fn a_packer_is_kept_and_packs_as_a_new_one_does() {
         let mut chance = TestRandom(2);

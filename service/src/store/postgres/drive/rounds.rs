@@ -1,4 +1,6 @@
-//! The commits of a slot: one is under way at a time, and one is for all callers that wait.
+//! The commits of a shard, in rounds: one runs at a time, and serves all callers that waited when it began.
+//!
+//! A caller's round begins after its call, so success proves that we owned the shard after that.
 
 use crate::files::drive::Lost;
 use crate::work::locked;
@@ -17,18 +19,18 @@ struct State {
     ended: u64,
     /// The last round that a caller waits for.
     wanted: u64,
-    /// The committer was asked for a round, and has not ended it.
+    /// The committer was asked for a round that has not ended.
     is_asked: bool,
     is_lost: bool,
-    /// So many changes are durable.
+    /// How many changes are durable.
     durable: u64,
-    /// When the callers that wait began.
+    /// When the waiting callers began.
     waiting: Vec<Instant>,
 }
 
 impl SyncRounds {
-    /// Returns once a round has ended that began after this call: how many changes are durable. `ask` has the committer begin
-    /// one.
+    /// Returns after a round that began after this call has ended: how many changes are durable. `ask` has the
+    /// committer begin one.
     pub fn wait(&self, ask: impl FnOnce()) -> Result<u64, Lost> {
         let began = Instant::now();
         let mut state = locked(&self.state);
@@ -50,12 +52,12 @@ impl SyncRounds {
         }
     }
 
-    /// Callers that come from here on wait for the next round.
+    /// Callers from here on wait for the next round.
     pub fn begin(&self) {
         locked(&self.state).begun += 1;
     }
 
-    /// The round that was begun has made so many changes durable. True if callers wait for another one.
+    /// Ends the round, which made this many changes durable. Returns whether callers wait for another one.
     pub fn end(&self, durable: u64) -> bool {
         let mut state = locked(&self.state);
         (state.ended, state.durable) = (state.begun, durable);
@@ -76,7 +78,7 @@ impl SyncRounds {
         }
     }
 
-    /// How long the caller that began first has waited.
+    /// How long the oldest caller has waited.
     pub fn longest(&self) -> Duration {
         let first = locked(&self.state).waiting.iter().min().copied();
         first.map_or(Duration::ZERO, |first| first.elapsed())
@@ -125,7 +127,7 @@ mod tests {
         assert_eq!((slot.asked.load(SeqCst), slot.rounds.longest()), (1, Duration::ZERO));
     }
 
-    /// What that round has may have been taken before their changes.
+    /// The running round may have taken its batch before their changes.
     #[test]
     fn callers_during_a_round_wait_for_the_next_and_share_it() {
         let slot = Slot::default();

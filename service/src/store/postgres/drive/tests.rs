@@ -1,4 +1,4 @@
-//! The files in memory against a map, over rows that are written twice now and then, and found by a next owner.
+//! Compares the files in memory with a map; rows are sometimes written twice, and a next owner reads them.
 
 use super::files::{Batch, Bytes, Files, Read, StoredPiece};
 use super::packed::{unpacked, Packed};
@@ -6,7 +6,7 @@ use crate::files::test_random::TestRandom;
 use std::collections::BTreeMap;
 use std::path::{Path, PathBuf};
 
-/// As the tables have them: what a piece is, by file and number.
+/// The rows of the tables: each piece by file and number.
 #[derive(Default)]
 struct Rows {
     files: BTreeMap<i64, String>,
@@ -53,7 +53,7 @@ struct Trial {
     rows: Rows,
     now: BTreeMap<PathBuf, Vec<u8>>,
     synced: BTreeMap<PathBuf, Vec<u8>>,
-    /// A batch that is on its way, and what there was when it began.
+    /// A batch in flight, and the files when it began.
     sent: Option<(Batch, BTreeMap<PathBuf, Vec<u8>>)>,
     term: u64,
     chance: TestRandom,
@@ -116,14 +116,14 @@ impl Trial {
             }
             Read::Needs(pieces) => panic!("{pieces:?}"),
         }
-        // What it asks for is in the store.
+        // The pieces that it asks for are in the store.
         if let Read::Needs(pieces) = self.files.read(file, &mut bytes, at, |_| None).unwrap() {
             assert!(!pieces.is_empty());
             pieces.into_iter().for_each(|piece| drop(self.rows.find(piece)));
         }
     }
 
-    /// A sync begins, or the one that began ends; a write may come twice.
+    /// Begins a sync, or ends the one in flight; a write may happen twice.
     fn sync(&mut self) {
         match self.sent.take() {
             None => self.sent = Some((self.files.batch(), self.now.clone())),
@@ -135,7 +135,7 @@ impl Trial {
         }
     }
 
-    /// The next owner has what was synced; a batch on its way is there or not.
+    /// The next owner finds what was synced; a batch in flight is there or not.
     fn reopen(&mut self) {
         if let Some((batch, then)) = self.sent.take().filter(|_| self.chance.below(2) == 0) {
             self.rows.put(&batch);

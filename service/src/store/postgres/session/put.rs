@@ -1,4 +1,4 @@
-//! Writes of slots, in one transaction: by one statement, or by several where they are long.
+//! Writes several shards in one transaction: with one statement, or with several if there is much to write.
 
 use super::{Session, SILENT};
 use crate::store::postgres::doubt::Doubt;
@@ -7,17 +7,17 @@ use std::collections::BTreeSet;
 use tokio_postgres::types::ToSql;
 use tokio_postgres::Error;
 
-/// What a statement has at most, and a piece.
+/// The most bytes of pieces in one statement.
 const MOST: usize = 16 << 20;
 
 impl Session {
-    /// Does writes of slots, each once, in one transaction: which of the slots were their owners'. Each of its statements may take as
-    /// long as one alone.
+    /// Writes these shards in one transaction and returns the shards whose writer was still the owner. Each statement
+    /// gets the time limit of a single one.
     pub async fn put(&self, writes: &[&Write]) -> Result<BTreeSet<i32>, Doubt> {
         let parts = parts_of(writes);
         match &parts[..] {
             [only] => {
-                // Sent one behind the other, so the second answer comes right after the commit.
+                // Both statements are sent at once, so the second answer comes right after the commit.
                 let both = async {
                     let (done, settings) = tokio::join!(self.put_part(writes, only, true), self.settings());
                     Ok((done?, settings?))
@@ -32,7 +32,7 @@ impl Session {
         }
     }
 
-    /// All of it, or nothing.
+    /// Writes all parts, or none.
     async fn put_parts(&self, writes: &[&Write], parts: &[Vec<OfSlot<'_>>]) -> Result<BTreeSet<i32>, Error> {
         self.client.batch_execute("begin").await?;
         let (mut done, mut is_whole) = (Ok(BTreeSet::new()), true);
@@ -88,10 +88,10 @@ impl Session {
     }
 }
 
-/// A piece with its slot.
+/// A piece with its shard.
 type OfSlot<'w> = (i32, &'w PackedPiece);
 
-/// The pieces of writes by statements: one at least.
+/// Groups the pieces of the writes into statements, at least one.
 fn parts_of<'w>(writes: &[&'w Write]) -> Vec<Vec<OfSlot<'w>>> {
     let (mut parts, mut size) = (vec![Vec::new()], 0);
     let of_write = |write: &&'w Write| {
