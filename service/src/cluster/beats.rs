@@ -1,4 +1,5 @@
-//! The loop of an instance: it beats in the store, takes slots and hands them over as `owners` says, and tells who has which.
+//! The main loop of an instance: sends heartbeats, carries out what `owners` decides, and publishes which instance owns
+//! which shard. `service/instance` runs it until the process ends.
 
 use super::local_view::{Cluster, STALL};
 use super::owners::{Act, Step};
@@ -13,27 +14,27 @@ use tokio::sync::{mpsc, watch};
 use tokio::task::JoinHandle;
 use tokio::time::{sleep, Instant, MissedTickBehavior};
 
-/// One row is written so often, however many slots there are.
+/// The heartbeat interval. A heartbeat writes one row, however many shards there are.
 pub const BEAT: Duration = Duration::from_millis(500);
-/// Between two looks at the slots.
+/// The pause between two reads of the shards' rows.
 const LOOKS: Duration = Duration::from_millis(50);
-/// Who leaves waits so long for its slots to be handed over.
+/// How long a stopping instance waits until its shards are handed over.
 pub const LEAVES_WITHIN: Duration = Duration::from_secs(60);
-/// Steps that follow from what was done: one at a time, as one slot is handed over at a time.
+/// The capacity for steps that follow from other steps. One would do, since shards are handed over one at a time.
 const FOLLOWING: usize = 16;
 
 static SILENT: RateLimit = RateLimit::every(Duration::from_secs(10));
 static FEW: RateLimit = RateLimit::every(Duration::from_secs(10));
 static NAMESAKE: RateLimit = RateLimit::every(Duration::from_secs(10));
 
-/// Another process has this one's name, and had it before.
+/// Another process uses this instance's name, and had it before.
 #[derive(Debug, thiserror::Error)]
 #[error("another process of the name {0} was there before this one, and goes on: give each instance its own --instance")]
 pub struct CameLater(String);
 
 pub struct Beats<T, U> {
     work: Arc<Work<T, U>>,
-    /// Of each slot the last step: the next one begins behind it.
+    /// The last step of each shard; the next one waits for it.
     last: HashMap<u16, JoinHandle<()>>,
     following: mpsc::Receiver<Step>,
     between: Duration,
@@ -53,14 +54,14 @@ impl<T: Terms + 'static, U: Units + 'static> Beats<T, U> {
         Beats { work: Arc::new(work), last: HashMap::new(), following, between: BEAT }
     }
 
-    /// Faster, where a test has no time.
+    /// A faster loop for tests.
     #[cfg(test)]
     pub(super) fn each(mut self, between: Duration) -> Beats<T, U> {
         self.between = between;
         self
     }
 
-    /// Beats until `stop` is on, and then until all slots are handed over, or a minute has passed.
+    /// Sends heartbeats until `stop` is set, and then until all shards are handed over, or a minute has passed.
     pub async fn run(mut self, mut stop: watch::Receiver<bool>) -> Result<(), CameLater> {
         let stopped = stop.clone();
         let late = async {
@@ -78,7 +79,7 @@ impl<T: Terms + 'static, U: Units + 'static> Beats<T, U> {
 
     async fn beats(&mut self, mut stop: watch::Receiver<bool>) -> Result<(), CameLater> {
         let mut ticks = tokio::time::interval(self.between);
-        // Each beat is half a second behind the last one, whatever came between: others count their own by these.
+        // Half a second between heartbeats, however long one took: the others measure time by counting their own.
         ticks.set_missed_tick_behavior(MissedTickBehavior::Delay);
         let (work, mut leaves) = (self.work.clone(), false);
         while !(leaves && self.is_done()) {
@@ -136,7 +137,7 @@ impl<T: Terms + 'static, U: Units + 'static> Beats<T, U> {
         work.publish();
         if let Some((name, beat)) = cluster.owners().forgotten() {
             let work = work.clone();
-            tokio::spawn(async move { work.forget(&name, beat).await }); // no beat waits for that
+            tokio::spawn(async move { work.forget(&name, beat).await }); // so that no heartbeat waits for it
         }
         Ok(())
     }
@@ -150,16 +151,16 @@ impl<T: Terms + 'static, U: Units + 'static> Beats<T, U> {
         sleep(LOOKS).await;
     }
 
-    /// Each slot's steps are done one behind the other.
+    /// Runs the steps of each shard one after another.
     fn begin(&mut self, step: Step) {
         let before = self.last.remove(&step.slot);
         let work = self.work.clone();
         let doing = tokio::spawn(async move {
             if let Some(before) = before {
-                let _ = before.await; // where it panicked nothing of it is left
+                let _ = before.await; // if it panicked, nothing of it is left to wait for
             }
             if let Some(next) = work.does(step).await {
-                let _ = work.follow.send(next).await; // the loop has ended, and with it all slots
+                let _ = work.follow.send(next).await; // fails only if the loop has ended, and all shards with it
             }
         });
         self.last.insert(step.slot, doing);
@@ -206,7 +207,7 @@ impl<T: Terms, U: Units> Work<T, U> {
         self.cluster.publish();
     }
 
-    /// What follows from it.
+    /// Carries out a step and returns the step that follows from it.
     async fn does(&self, Step { act, slot, term }: Step) -> Option<Step> {
         match act {
             Act::Take => self.take(slot, term).await,
@@ -243,7 +244,7 @@ impl<T: Terms, U: Units> Work<T, U> {
     }
 
     async fn hand_over(&self, slot: u16, term: u64) -> Option<Step> {
-        self.publish(); // it is nobody's from here on
+        self.publish(); // from here on no instance serves the shard
         self.units.hand_over(slot, term).await;
         self.release(slot, term).await;
         self.cluster.counted().hand_overs += 1;
@@ -251,7 +252,8 @@ impl<T: Terms, U: Units> Work<T, U> {
         self.cluster.owners().released(slot, term)
     }
 
-    /// Each that is there tries it. In doubt a later beat sees whether it is still there.
+    /// Each running instance tries this. If the outcome is unknown, a later heartbeat shows whether the row is still
+    /// there.
     async fn forget(&self, name: &str, beat: u64) {
         match self.terms.forget(name, beat).await {
             Ok(true) => tracing::info!(name, "instance {name} has not come back for a day: it is forgotten"),
@@ -260,7 +262,7 @@ impl<T: Terms, U: Units> Work<T, U> {
         }
     }
 
-    /// In doubt the row still has this instance's name, and a later beat sees that.
+    /// If the outcome is unknown, the row may still have this instance's name; a later heartbeat sees that.
     async fn release(&self, slot: u16, term: u64) {
         if let Err(silence) = self.terms.release(slot, term).await {
             tell(&silence);

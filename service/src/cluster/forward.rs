@@ -1,9 +1,10 @@
-//! Posts for slots of other instances: each goes to its slot's owner over kept connections, and that one's answer comes back
-//! as it said it. `internal` is the owner's side, `head` what a request says beside its body, `owner_answer` an answer on its way,
-//! `wire` what they speak, `reach` whether they are there. `operators` are questions that come the same way.
+//! Sends posts for other instances' shards to their owners, over pooled connections, and returns the owners' answers.
+//! `internal` is the owner's side, `head` the headers of a request, `owner_answer` the coding of answers, `wire` the
+//! connections, `reach` the check whether instances can be reached, and `operators` the questions of operators, which
+//! take the same way.
 //!
-//! One that has not the slot has taken nothing, so another is asked then. Any other end may be behind a post that was taken:
-//! its sender is told 503, and its repeat finds out.
+//! An instance answers `not mine` only if it took nothing, so then the post goes to another owner. After any other
+//! failure the post may have been taken: the sender gets 503, and its retry finds out.
 
 mod head;
 mod internal;
@@ -35,32 +36,32 @@ use tokio::sync::watch;
 use tokio::time::{sleep_until, timeout_at, Instant};
 use wire::Connections;
 
-/// Where posts of other instances come.
+/// The path for other instances' posts.
 pub const PATH: &str = "/internal/post";
-/// Until a post is answered, whatever becomes of it, beside the time for its way.
+/// The deadline for an answer, in addition to the time for sending the post.
 const WITHIN: Duration = Duration::from_secs(10);
-/// So many bytes a second are on their way at least: a part may come as slowly as the request of its sender.
+/// The slowest transfer that is waited for, in bytes a second: a part may arrive as slowly as the sender's request.
 const SLOWEST: usize = 64 << 10;
-/// So long an owner's answer is waited for once it has the slot no more: one that hands over gives it.
+/// How long to wait for an owner's answer after the shard has moved: an owner that hands over still answers.
 const AFTER_MOVE: Duration = Duration::from_millis(500);
-/// So long an owner is looked for.
+/// How long to look for an owner.
 const LOOKED_FOR: Duration = Duration::from_secs(3);
-/// And so often instances are asked that say it is not theirs.
+/// How many owners may answer `not mine`.
 const MOST_ASKED: u32 = 16;
-/// Between two looks, where the owner stays the same: the first come soon, since it may be opening the slot.
+/// The pauses between two tries while the owner stays the same. The first are short, since it may be opening the shard.
 const SHORTEST: Duration = Duration::from_millis(50);
 const LONGEST: Duration = Duration::from_millis(400);
 const CONNECT: Duration = Duration::from_secs(1);
-/// Shorter than an idle connection is kept at the other end.
+/// Less than the other end keeps an idle connection.
 const IDLE: Duration = Duration::from_secs(20);
 
 static TOLD: RateLimit = RateLimit::every(Duration::from_secs(10));
 
 type Watched = watch::Receiver<Places>;
 
-/// The slots of this instance.
+/// The shards of this instance.
 pub trait Here: Send + Sync + 'static {
-    /// Takes a part of a request, or refuses it, under this term; none where the slot is not here under it: then nothing
+    /// Takes or refuses a part of a request under this term. None if the shard is not open here under it: then nothing
     /// was taken.
     fn post<'a>(
         &'a self,
@@ -71,11 +72,11 @@ pub trait Here: Send + Sync + 'static {
     ) -> Doing<'a, Option<Outcome>>;
 }
 
-/// How many posts for others' slots ended how.
+/// The outcomes of posts for other instances' shards.
 #[derive(Clone, Copy, Debug, Default, PartialEq, Eq)]
 pub struct Forwarded {
     pub answered: u64,
-    /// Nothing was taken: the owner was another.
+    /// Nothing was taken, since another instance is the owner.
     pub not_mine: u64,
     /// There was no answer.
     pub broken: u64,
@@ -91,10 +92,10 @@ impl Forwarded {
     }
 }
 
-/// Brings posts to the owners of their slots.
+/// Sends posts to the owners of their shards.
 pub struct Forward<H> {
     cluster: Arc<Cluster>,
-    /// None before posts are served.
+    /// None until posts are served.
     here: OnceLock<Arc<H>>,
     secret: Secret,
     connections: Connections,
@@ -103,7 +104,7 @@ pub struct Forward<H> {
 }
 
 impl<H: Here> Forward<H> {
-    /// Instances show each other what `tls` has, or speak without.
+    /// With `tls`, both sides of a connection show a certificate; without, connections are plain.
     pub fn new(cluster: Arc<Cluster>, secret: Secret, tls: Option<Arc<Tls>>) -> Forward<H> {
         Forward {
             cluster,
@@ -115,13 +116,13 @@ impl<H: Here> Forward<H> {
         }
     }
 
-    /// Says once what takes posts of slots that have come here since they were looked for.
+    /// Sets what takes posts for shards that have moved here in the meantime.
     pub fn serve(&self, here: Arc<H>) {
         let _ = self.here.set(here);
     }
 
-    /// Has its slot's owner take a part of a request: that owner's answer, or 503. Nobody is asked, or looked for, while the
-    /// store does not answer.
+    /// Has the owner of the shard take a part of a request: returns its answer, or 503. While the store does not
+    /// answer, no instance is asked or looked for.
     pub async fn post(&self, slot: u16, sender: &str, part: Original) -> Outcome {
         if let Some(why) = self.cluster.unavailable() {
             return why.into();
@@ -161,20 +162,20 @@ impl<H: Here> Forward<H> {
         }
     }
 
-    /// Waits until another has the slot, as far as is known, and not longer than until then.
+    /// Waits until the shard has another owner, as far as is known, but not after `until`.
     async fn has_moved(&self, slot: u16, from: &Whose, places: &mut Watched, until: Instant) -> bool {
         let moves = async { while self.cluster.whose(slot) == *from && places.changed().await.is_ok() {} };
         timeout_at(until, moves).await.is_ok()
     }
 
-    /// Waits until an owner's answer can't be waited for any longer: it is late, or the owner has the slot no more.
+    /// Returns when it is too late for the owner's answer: at `until`, or soon after the shard has moved.
     async fn no_answer(&self, slot: u16, owner: &Whose, until: Instant) {
         if self.has_moved(slot, owner, &mut self.cluster.places(), until).await {
             sleep_until(until.min(Instant::now() + AFTER_MOVE)).await;
         }
     }
 
-    /// The answer of an owner, for as long as it can be waited for.
+    /// Asks an owner, as long as it makes sense to wait.
     async fn ask(
         &self,
         peer: &Peer,
@@ -191,7 +192,7 @@ impl<H: Here> Forward<H> {
         }
     }
 
-    /// What came of a post that came then; none of one whose slot the instance has not, as it says.
+    /// Notes the outcome of a post that arrived at `came`. None if the instance answered `not mine`.
     fn heard(&self, peer: &Peer, came: Instant, said: Result<Option<Outcome>, Broken>) -> Option<Outcome> {
         locked(&self.counts).note(&said);
         let reason = match said {
@@ -208,7 +209,7 @@ impl<H: Here> Forward<H> {
         Some(Reason::OwnerSilent.into())
     }
 
-    /// None where it says that the slot is not its own.
+    /// None if the answer is `not mine`.
     async fn exchange(&self, peer: &Peer, head: &Head, part: &Original) -> Result<Option<Outcome>, Broken> {
         let _room = peer.room(part.body.len(), self.cluster.others()).await;
         let uri = format!("{}://{}{PATH}", self.connections.scheme(), peer.address);
@@ -248,7 +249,7 @@ enum Broken {
     Long(usize),
 }
 
-/// How long so many bytes may be.
+/// How long sending this many bytes may take.
 fn on_the_way(bytes: usize) -> Duration {
     Duration::from_secs_f64(bytes as f64 / SLOWEST as f64)
 }

@@ -1,4 +1,4 @@
-//! What an instance knows of the others and of the slots: what the rest of the process asks.
+//! What this instance knows of the others and of all shards. `beats` updates it, and the rest of the process reads it.
 
 use super::owners::{Owners, Whose};
 use super::status::{Counted, OtherInstance, Status, Unserved};
@@ -12,9 +12,10 @@ use std::time::Duration;
 use tokio::sync::{watch, Notify};
 use tokio::time::Instant;
 
-/// After so long without a committed beat of its own an instance takes no posts. It need not do so, it spares senders time.
+/// After this long without a committed heartbeat, an instance refuses posts. This is not needed for safety; it saves
+/// senders time.
 pub const STALL: Duration = Duration::from_secs(2);
-/// How much of a reason the others are told, in characters.
+/// How many characters of a reason the other instances are told.
 const REASON_SHOWN: usize = 500;
 
 pub type Places = Arc<BTreeMap<u16, Whose>>;
@@ -24,16 +25,16 @@ pub struct Cluster {
     owners: Mutex<Owners>,
     places: watch::Sender<Places>,
     pub(super) wants_look: Notify,
-    /// When the last own beat that is committed was sent; none before the first.
+    /// When the last committed heartbeat was sent; none before the first.
     beaten: Mutex<Option<Instant>>,
-    /// Why the store has too few copies, as the last own beat has found that had an answer.
+    /// Why the store has too few copies, by the last heartbeat that had an answer.
     few_copies: Mutex<Option<String>>,
     unserved: Mutex<Unserved>,
     counted: Mutex<Counted>,
 }
 
 impl Cluster {
-    /// Of an instance whose name no other has, and whose clock may be so far off, if it matters.
+    /// `name` is this instance's alone; `clock` is how far its clock may be off, if that matters.
     pub fn new(name: &str, clock: Option<Duration>) -> Arc<Cluster> {
         Arc::new(Cluster {
             owners: Mutex::new(Owners::new(name, clock)),
@@ -46,7 +47,7 @@ impl Cluster {
         })
     }
 
-    /// It is changed whole under the lock.
+    /// The caller changes the state as a whole while it holds the lock.
     pub(super) fn owners(&self) -> MutexGuard<'_, Owners> {
         locked(&self.owners)
     }
@@ -55,7 +56,7 @@ impl Cluster {
         locked(&self.counted)
     }
 
-    /// Who has which slot, as far as is known; it tells when that changes.
+    /// The owner of each shard, as far as is known; the receiver is notified of changes.
     pub fn places(&self) -> watch::Receiver<Places> {
         self.places.subscribe()
     }
@@ -64,33 +65,33 @@ impl Cluster {
         self.places.borrow().get(&slot).cloned().unwrap_or(Whose::Nobody)
     }
 
-    /// Whether posts of some slots are forwarded.
+    /// Whether some shards' posts are sent to other instances.
     pub fn has_others(&self) -> bool {
         let places = self.places.borrow();
         places.values().any(|whose| matches!(whose, Whose::There { .. }))
     }
 
-    /// How many others there are whose beats go on: one at least.
+    /// The number of other live instances; at least one.
     pub fn others(&self) -> usize {
         self.owners().staying().max(1)
     }
 
-    /// Where operators ask another instance, if they can from other machines.
+    /// Where operators on other machines reach an instance, if they can.
     pub fn operate_of(&self, name: &str) -> Option<String> {
         self.owners().operate(name)
     }
 
-    /// Whether it hands over what it has, since it ends.
+    /// Whether this instance is stopping and hands over its shards.
     pub fn leaves(&self) -> bool {
         self.owners().leaves()
     }
 
-    /// Whether its clock is so far off that it may have no slots.
+    /// Whether its clock is so far off that it may own no shards.
     pub fn is_off_clock(&self) -> bool {
         self.owners().leaves_for_clock()
     }
 
-    /// The other instances whose posts are brought somewhere, and where; lost ones only while they have slots.
+    /// The other instances and their addresses for posts; those that are gone only while they own shards.
     pub(super) fn addresses(&self) -> Vec<(String, String)> {
         let owners = self.owners();
         let rows = owners.slots();
@@ -101,27 +102,27 @@ impl Cluster {
         others.map(|other| (other.name, other.address)).collect()
     }
 
-    /// Those of them that are reached; none while that is not known.
+    /// Sets which of them can be reached; none while that is unknown.
     pub(super) fn has_reached(&self, names: Option<BTreeSet<String>>) {
         self.owners().has_reached(names);
     }
 
-    /// Whether it does not reach the owner of a slot, and another reaches all owners.
+    /// Whether this instance can't reach some owner, while another one reaches all owners.
     pub fn misses_owner(&self) -> bool {
         self.owners().misses_owner()
     }
 
-    /// Has the slots looked at again.
+    /// Has the loop read the shards' rows again.
     pub fn look(&self) {
         self.wants_look.notify_one();
     }
 
-    /// Whether the store has taken no beat for so long that posts are turned away.
+    /// Whether no heartbeat was committed for so long that posts are refused.
     pub fn is_stalled(&self) -> bool {
         self.beat_age().is_none_or(|age| age > STALL)
     }
 
-    /// Why posts are turned away, whatever slot they are for.
+    /// Why posts are refused, whatever shard they are for.
     pub fn unavailable(&self) -> Option<Reason> {
         match self.is_stalled() {
             _ if self.few_copies().is_some() => Some(Reason::FewCopies),
@@ -130,19 +131,19 @@ impl Cluster {
         }
     }
 
-    /// Why what the store says is done is on fewer servers than it has to be.
+    /// Why the store's commits are on too few servers.
     pub fn few_copies(&self) -> Option<String> {
         locked(&self.few_copies).clone()
     }
 
-    /// What an own beat was answered: without an answer it is as it was.
+    /// Notes the answer of a heartbeat; without an answer nothing changes.
     pub(super) fn has_few_copies(&self, silence: &Silence) {
         if let Silence::FewCopies(why) = silence {
             *locked(&self.few_copies) = Some(why.clone());
         }
     }
 
-    /// A slot could not be opened here, or has ended by a fault.
+    /// Notes that a shard could not be opened here, or ended because of a fault.
     pub fn failed(&self, slot: u16, term: u64, reason: &str) {
         let reason = shown(reason, REASON_SHOWN);
         let then = match self.owners().failed(slot, term, &reason) {
@@ -153,7 +154,7 @@ impl Cluster {
         self.publish();
     }
 
-    /// What a slot's writer tells once it has found another's term.
+    /// Called by a shard's writer when it finds another owner's term.
     pub fn lost(&self, slot: u16, term: u64) {
         if self.owners().lost(slot, term) {
             self.counted().lost += 1;
@@ -163,7 +164,7 @@ impl Cluster {
 
     pub fn status(&self) -> Status {
         let (owners, unserved) = (self.owners(), locked(&self.unserved));
-        // An instance without an answer of the store knows nothing of now.
+        // Without an answer of the store, this instance does not know the current state.
         let longest = (!self.is_stalled()).then(|| unserved.longest(Instant::now()));
         Status {
             name: owners.name().into(),
@@ -183,32 +184,33 @@ impl Cluster {
         }
     }
 
-    /// What a beat would have found, and its answer counts for an hour: a test may be slow.
+    /// Sets what a heartbeat would find, for an hour: a test may be slow.
     #[cfg(test)]
     pub(crate) fn knows(&self, places: &[(u16, Whose)]) {
         self.has_beaten(Instant::now() + Duration::from_secs(3600));
         self.places.send_replace(Arc::new(places.iter().cloned().collect()));
     }
 
-    /// A beat of a test's, by which nothing is done.
+    /// A heartbeat of a test, whose steps are not carried out.
     #[cfg(test)]
     pub(crate) fn has_seen(&self, seen: super::terms::Seen) {
         self.owners().beat(seen);
     }
 
-    /// As where it ends: it hands over what it has.
+    /// As when the instance is stopping: it hands over its shards.
     #[cfg(test)]
     pub(crate) fn leave(&self) {
         self.owners().leave();
     }
 
-    /// Its last beat that is committed was so long ago.
+    /// Moves the last committed heartbeat into the past.
     #[cfg(test)]
     pub(super) fn is_silent_for(&self, time: Duration) {
         self.has_beaten(Instant::now() - time);
     }
 
-    /// Says who has which slot, where that is new. It is found under the lock of what is said, so the last word is the latest.
+    /// Publishes the owners of the shards if they changed. They are computed while the channel is locked, so the last
+    /// value published is the latest one.
     pub(super) fn publish(&self) {
         self.places.send_if_modified(|said| {
             let (places, slots) = {
@@ -224,7 +226,7 @@ impl Cluster {
         });
     }
 
-    /// An own beat that was sent then is committed.
+    /// Notes that a heartbeat that was sent at this time is committed.
     pub(super) fn has_beaten(&self, sent: Instant) {
         *locked(&self.beaten) = Some(sent);
         if locked(&self.few_copies).take().is_some() {
@@ -236,7 +238,7 @@ impl Cluster {
         locked(&self.beaten).map(|beaten| beaten.elapsed())
     }
 
-    /// These take no posts yet, though they are open here.
+    /// Sets the open shards that do not take posts yet.
     pub(super) fn fill(&self, slots: BTreeSet<u16>) {
         locked(&self.unserved).filling = slots;
     }

@@ -1,8 +1,11 @@
-//! Several instances over one store: who has which slot, and how a post gets there.
+//! Several instances over one store: which instance owns which shard, and how a post reaches its owner.
 //!
-//! `owners` decides, by `places` and what beats have read, which slots to take and to hand over; `beats` is the loop that does
-//! it, `terms` what is asked of the store and of this process' slots; `local_view` is what the rest of the process asks. `forward`
-//! brings posts to other instances' slots, and takes theirs. `status` is what is shown of it.
+//! `owners` decides which shards to take and to hand over, from `places` and what heartbeats have read; `beats` is the
+//! loop that carries this out; `terms` is the interface to the store and to this process's shards; `local_view` answers
+//! the rest of the process. `forward` sends posts to other instances' shards and accepts posts for ours. `status` is
+//! what is shown.
+//!
+//! Nothing here keeps two owners apart: only a shard's term in the store does (`store/postgres`).
 
 pub mod beats;
 pub mod forward;

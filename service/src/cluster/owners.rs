@@ -1,8 +1,8 @@
-//! Which slots this instance takes, hands over, or has lost: by what its beats have read, and by nothing else. No clock is
-//! looked at, so a store that stands still for a minute moves no slot.
+//! Decides which shards this instance takes, hands over, or has lost. `beats` calls it with each heartbeat and carries
+//! out its steps. Only what heartbeats read counts, and no clock: a store that stalls for a minute moves no shard.
 //!
-//! What is decided here is never a matter of safety: a slot's term in the store is, and two that decide for the same slot find
-//! that one of them was first.
+//! Safety never depends on these decisions: it rests on the term in the shard's row, and of two instances that take the
+//! same shard only one succeeds.
 
 mod clock;
 mod cut_off;
@@ -26,16 +26,17 @@ use refused::Refusals;
 use std::collections::BTreeMap;
 use std::time::Duration;
 
-/// So many own beats are committed while another's stands still, until that one counts as gone.
+/// An instance counts as gone if its heartbeat stays the same during this many of ours.
 pub const GONE: u32 = 6;
-/// Behind a silence of the store so many more: connections are made anew, and one has its own sooner than another.
+/// How many more after the store was silent: connections are made anew, and some instances get theirs sooner than
+/// others.
 pub const AFTER_SILENCE: u32 = 14;
-/// So many own beats another instance is the place of a slot, until it is handed over.
+/// For how many heartbeats a shard must belong elsewhere before it is handed over.
 pub const SETTLED: u32 = 20;
-/// So many own beats later, a day, the row of one that is gone is of no use any more. What it needs where it comes back it
-/// brings with its first beat: nobody but itself reads its row for more than who beats, and where.
+/// How many heartbeats later, a day, the row of an instance that is gone is deleted. If the instance comes back, its
+/// first heartbeat writes everything again; others read the row only to see whether it is alive, and where.
 pub const FORGOTTEN: u32 = if cfg!(test) { 120 } else { 2 * 24 * 3600 };
-/// Slots that are taken or opened side by side: each replays its journal.
+/// How many shards are taken or opened at the same time: each replays its journal.
 const AT_ONCE: usize = 4;
 
 #[derive(Clone, Copy, Debug, PartialEq, Eq)]
@@ -47,14 +48,14 @@ enum Phase {
 }
 
 struct Mine {
-    /// The one that was seen, while it is being taken.
+    /// While it is being taken, the term that was seen.
     term: u64,
     phase: Phase,
-    /// So many own beats has its place been elsewhere.
+    /// For how many heartbeats the shard has belonged elsewhere.
     elsewhere: u32,
 }
 
-/// A slot that was handed over, until another has it.
+/// A shard that was handed over, until another instance takes it.
 struct Handed {
     slot: u16,
     term: u64,
@@ -64,12 +65,12 @@ struct Handed {
 
 pub struct Owners {
     me: String,
-    /// It ends, and hands over what it has.
+    /// The process is stopping, and hands over its shards.
     ends: bool,
     clock: OwnClock,
     cut_off: CutOff,
     others: Others,
-    /// Those that may have slots, but for these of each; and where each slot belongs.
+    /// The instances that may own shards, each with the shards it can't open; and where each shard belongs.
     living: BTreeMap<String, Refused>,
     places: BTreeMap<u16, Option<String>>,
     rows: Vec<Row>,
@@ -80,7 +81,7 @@ pub struct Owners {
 }
 
 impl Owners {
-    /// Of an instance whose clock may be so far off, if it matters.
+    /// `clock` is how far this instance's clock may be off, if that matters.
     pub fn new(me: &str, clock: Option<Duration>) -> Owners {
         Owners {
             me: me.into(),
@@ -98,7 +99,7 @@ impl Owners {
         }
     }
 
-    /// What the others are told with a beat.
+    /// What this instance tells the others with a heartbeat.
     pub fn told(&self) -> (Stay, Told) {
         (
             self.stay(),
@@ -110,36 +111,36 @@ impl Owners {
         )
     }
 
-    /// Whether this instance has nothing more to do for any slot.
+    /// Whether this instance owns no shards and has no steps left.
     pub fn is_rid_of_all(&self) -> bool {
         self.mine.is_empty() && self.rows.iter().all(|row| row.owner != self.me)
     }
 
-    /// Another process beats under this instance's name.
+    /// Whether another process uses this instance's name.
     pub fn has_namesake(&self) -> bool {
         self.namesake.is_there()
     }
 
-    /// That one was there before, so this one ends.
+    /// Whether that process had the name before, so that this one has to end.
     pub fn came_later(&self) -> bool {
         self.namesake.came_later()
     }
 
-    /// Who has not come back for so long that its row goes, and its last beat. Where a slot has its name it stays: its status
-    /// says who has that.
+    /// An instance that has been gone for so long that its row is deleted, and its last heartbeat. The row stays while
+    /// a shard has its name, since the status shows the owner.
     pub fn forgotten(&self) -> Option<(String, u64)> {
         let is_owner = |name: &str| self.rows.iter().any(|row| row.owner == name);
         let (name, beat) = self.others.forgotten().find(|(name, _)| !is_owner(name))?;
         Some((name.into(), beat))
     }
 
-    /// Slots that are open here, or being opened or closed, and their terms.
+    /// The shards that are open here, or being opened or closed, and their terms.
     pub fn terms(&self) -> BTreeMap<u16, u64> {
         let owned = self.mine.iter().filter(|(_, mine)| mine.phase != Phase::Taking);
         owned.map(|(slot, mine)| (*slot, mine.term)).collect()
     }
 
-    /// By slot, of all that the store has.
+    /// The owners of all shards in the store.
     pub fn whose(&self) -> BTreeMap<u16, Whose> {
         self.rows.iter().map(|row| (row.slot, self.whose_is(row))).collect()
     }
@@ -157,24 +158,24 @@ impl Owners {
     }
 
     // ----------------------------------------------------------------------------------------------------------------
-    // Beats
+    // Heartbeats
 
-    /// An own beat got no answer.
+    /// A heartbeat got no answer.
     pub fn unanswered(&mut self) {
         self.others.wait();
     }
 
-    /// An own beat got its answer late.
+    /// A heartbeat got its answer late.
     pub fn late(&mut self) {
         self.others.wait();
     }
 
-    /// What was read without a beat. Nothing is decided by it.
+    /// Rows that were read without a heartbeat; they cause no steps.
     pub fn look(&mut self, rows: Vec<Row>) {
         self.rows = rows;
     }
 
-    /// An own beat is committed, and this was read behind it: what is to be done now.
+    /// Takes what was read after a committed heartbeat, and returns the steps to take now.
     pub fn beat(&mut self, seen: Seen) -> Vec<Step> {
         if let Some(own) = seen.instances.iter().find(|one| one.name == self.me) {
             self.namesake.note(own, seen.life);
@@ -192,7 +193,7 @@ impl Owners {
         steps
     }
 
-    /// Where each slot belongs: found anew where an instance has come or gone, or can't open one.
+    /// Assigns the shards again if an instance came or went, or can't open a shard.
     fn note_living(&mut self) {
         let others = self.others.staying().filter(|(name, _)| !self.cut_off.is_cut_off(name));
         let mut living: BTreeMap<String, Refused> =
@@ -218,11 +219,11 @@ impl Owners {
     }
 
     fn drop_lost(&mut self) -> Vec<Step> {
-        // A store that was set back may have given another the same term.
+        // After a store was restored, another instance may have the same term.
         let is_anothers = |row: &Row, term: u64| row.term > term || row.term == term && row.owner != self.me;
         let is_later =
             |slot: u16, term: u64| self.rows.iter().any(|row| row.slot == slot && is_anothers(row, term));
-        // What is being opened or closed finds that by itself.
+        // While a shard is being opened or closed, its own calls find this out.
         let is_lost =
             |slot: &u16, mine: &mut Mine| mine.phase == Phase::Serving && is_later(*slot, mine.term);
         let lost = self.mine.extract_if(.., is_lost);
@@ -236,7 +237,7 @@ impl Owners {
         }
     }
 
-    /// What was handed over is another's, or nobody takes it.
+    /// Forgets the shard that was handed over after another instance has taken it, or if none does.
     fn note_handed(&mut self) {
         let leaves = !self.is_place_of_any();
         let Some(handed) = &mut self.handed else { return };
@@ -248,7 +249,7 @@ impl Owners {
         }
     }
 
-    /// One slot, where none is on its way.
+    /// Hands over one shard, unless a hand-over is in progress.
     fn hand_over(&mut self) -> Option<Step> {
         if self.handed.is_some() {
             return None;
@@ -262,7 +263,7 @@ impl Owners {
     }
 
     // ----------------------------------------------------------------------------------------------------------------
-    // Taking
+    // Takeovers
 
     fn take(&mut self) -> Vec<Step> {
         if self.namesake.may_own() {
@@ -279,8 +280,8 @@ impl Owners {
         steps
     }
 
-    /// What is to be done for a slot that is not open here. One that has this instance's name is an earlier process', or its taking
-    /// got no answer, or it has failed.
+    /// The step for a shard that is not open here. If it has this instance's name, an earlier process had it, or a
+    /// takeover got no answer, or it failed.
     fn step_for(&mut self, row: &Row) -> Option<Step> {
         let owner = row.owner.as_str();
         let is_ours = owner.is_empty() || owner == self.me;
@@ -301,9 +302,9 @@ impl Owners {
     }
 
     // ----------------------------------------------------------------------------------------------------------------
-    // What came of it
+    // Results of steps
 
-    /// A slot was taken under a term; none where another was first, or it isn't known.
+    /// The result of a takeover: its term, or none if another instance was first or the outcome is unknown.
     pub fn taken(&mut self, slot: u16, term: Option<u64>) {
         match (term, self.mine.get_mut(&slot)) {
             (Some(term), Some(mine)) if mine.phase == Phase::Taking => {
@@ -315,7 +316,7 @@ impl Owners {
         }
     }
 
-    /// It is served. False where it was lost meanwhile.
+    /// The shard is served now. False if it was lost in the meantime.
     pub fn opened(&mut self, slot: u16, term: u64) -> bool {
         match self.mine.get_mut(&slot) {
             Some(mine) if mine.term == term && mine.phase == Phase::Opening => {
@@ -327,8 +328,8 @@ impl Owners {
         }
     }
 
-    /// It could not be opened, or has ended by a fault: it is let go with the next beat, for another to try. False where no
-    /// other may, so that it is tried here again.
+    /// The shard could not be opened, or ended because of a fault: the next heartbeat releases it, so that another
+    /// instance can try. False if no other instance may, so that this one tries again.
     pub fn failed(&mut self, slot: u16, term: u64, reason: &str) -> bool {
         if self.lost(slot, term) {
             self.refusals.failed(slot, reason);
@@ -336,7 +337,7 @@ impl Owners {
         self.others.staying().any(|(_, told)| !told.refused.contains_key(&slot))
     }
 
-    /// It is open here no more: another has it, as is seen by what writes to it. False where it was not under that term.
+    /// The shard is no longer open here: its writer found another owner. False if it was not open under this term.
     pub fn lost(&mut self, slot: u16, term: u64) -> bool {
         let is_it = self.mine.get(&slot).is_some_and(|mine| mine.term == term);
         if is_it {
@@ -345,7 +346,8 @@ impl Owners {
         is_it
     }
 
-    /// It was handed over, or it isn't known whether the store has that. Who leaves hands over the next one at once.
+    /// The shard was handed over, though the release may have an unknown outcome. A stopping instance hands over the
+    /// next one at once.
     pub fn released(&mut self, slot: u16, term: u64) -> Option<Step> {
         self.lost(slot, term);
         if let Some(handed) = self.handed.as_mut().filter(|handed| handed.slot == slot) {

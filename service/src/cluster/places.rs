@@ -1,12 +1,13 @@
-//! Where each slot belongs: in their order at the instance whose name has, beside the slot's number, the highest hash of those
-//! that live and have room, which is for no more than one slot more than another has. So all that see the same instances
-//! agree, and where one comes or goes its own slots move, and few others.
+//! Assigns shards to instances by rendezvous hashing with a bound: in order of their numbers, each shard goes to the
+//! instance with the highest hash of shard and name among those with room, and no instance gets more than one shard
+//! more than another. So all instances that see the same members agree, and when one comes or goes, mainly its own
+//! shards move.
 
 use sha2::{Digest, Sha256};
 use std::collections::BTreeMap;
 
-/// Of each of these slots the instance, of these, at which it has its place; none where none may have it. Who may not have a
-/// slot changes the place of that one alone.
+/// The assigned instance of each shard; none if no instance may have it. If an instance may not have a shard, only that
+/// shard is assigned differently.
 pub fn places<'a>(
     slots: &[u16],
     names: &[&'a str],
@@ -21,11 +22,11 @@ pub fn places<'a>(
     slots.iter().map(place).collect()
 }
 
-/// How many slots each has, and what each may get.
+/// How many shards each instance has, and how many it may get.
 struct Shares<'a> {
     counts: BTreeMap<&'a str, usize>,
     each: usize,
-    /// So many get one more.
+    /// How many instances get one more.
     more: usize,
 }
 

@@ -1,4 +1,4 @@
-//! What is shown of an instance among others.
+//! The status of an instance among others, for `/status` and metrics.
 
 use super::owners::Refusal;
 use crate::command::values::seconds_shown;
@@ -8,82 +8,83 @@ use tokio::time::Instant;
 
 #[derive(Clone, Debug, Default, PartialEq, Eq)]
 pub struct Status {
-    /// This instance's.
+    /// This instance's name.
     pub name: String,
-    /// All others that the store knows, by their names.
+    /// All other instances that the store knows, by name.
     pub others: Vec<OtherInstance>,
-    /// All slots of the store, ascending.
+    /// All shards of the store, ascending.
     pub slots: Vec<OwnedSlot>,
-    /// How many of them nobody serves, or nobody knows where.
+    /// How many of them no instance serves, as far as is known.
     pub without_owner: usize,
-    /// For how long the slot of these has had nobody that has had nobody for longest.
+    /// How long the shard that has been without an owner for longest has been so.
     pub longest_without_owner: Duration,
-    /// Of each slot of this instance.
+    /// The term of each shard of this instance.
     pub terms: BTreeMap<u16, u64>,
-    /// Since the last own beat that is committed was sent; none before the first.
+    /// The time since the last committed heartbeat was sent; none before the first.
     pub beat_age: Option<Duration>,
-    /// Why what the store says is done is on fewer servers than it has to be.
+    /// Why the store's commits are on too few servers.
     pub few_copies: Option<String>,
-    /// By how many microseconds its clock is ahead, if it is so far off that it may have no slots; late, if that is less than 0.
+    /// How many microseconds the clock is ahead, if that is so much that the instance may own no shards; below 0 if it
+    /// is behind.
     pub clock_off: Option<i64>,
-    /// Most of the others don't reach it, so it may have no slots.
+    /// Most of the other instances can't reach it, so it may own no shards.
     pub is_cut_off: bool,
-    /// An owner of slots whom others reach, and this instance does not.
+    /// An owner that other instances reach and this one does not.
     pub missed_owner: Option<String>,
-    /// Another process beats under this name.
+    /// Another process uses this name.
     pub has_namesake: bool,
-    /// Slots that instances could not open: another has them, or nobody.
+    /// Shards that some instances could not open; another instance owns them, or none.
     pub refused: Vec<Refusal>,
     pub counted: Counted,
 }
 
 impl Status {
-    /// Instances whose beats go on, this one among them.
+    /// The number of instances that are alive, this one included.
     pub fn instances(&self) -> usize {
         1 + self.others.iter().filter(|other| !other.is_gone).count()
     }
 }
 
-/// A clock that is off by so many microseconds, in words.
+/// The difference of a clock, in words.
 pub fn shown_off(ahead: i64) -> String {
     let way = if ahead < 0 { "behind" } else { "ahead of" };
     let time = seconds_shown(ahead.unsigned_abs() / 1_000_000);
     format!("this instance's clock is {time} {way} those of the others and the store")
 }
 
-/// Another instance, as this one's beats have seen it.
+/// Another instance, as seen by this one's heartbeats.
 #[derive(Clone, Debug, Default, PartialEq, Eq)]
 pub struct OtherInstance {
     pub name: String,
-    /// The last one that it had.
+    /// The last address that it had.
     pub address: String,
-    /// Where operators of other machines ask it; empty if they can't.
+    /// Where operators on other machines connect; empty if they can't.
     pub operate: String,
     pub version: String,
-    /// So many own beats has its own stood still.
+    /// For how many of our heartbeats its own has not changed.
     pub still: u32,
-    /// That is so many that its slots are taken.
+    /// Its heartbeat has not changed for so long that its shards are taken.
     pub is_gone: bool,
-    /// It hands over what it has.
+    /// It hands over its shards.
     pub leaves: bool,
 }
 
-/// A slot, as the store has it.
+/// A shard's row in the store.
 #[derive(Clone, Debug, PartialEq, Eq)]
 pub struct OwnedSlot {
     pub slot: u16,
     pub term: u64,
-    /// Empty where nobody has it.
+    /// Empty if no instance owns the shard.
     pub owner: String,
-    /// Whether its owner is there and serves it, as far as is known.
+    /// Whether the owner is alive and serves it, as far as is known.
     pub is_served: bool,
 }
 
-/// Since when slots are served by nobody.
+/// Since when shards have been served by no instance.
 #[derive(Default)]
 pub(super) struct Unserved {
     since: BTreeMap<u16, Instant>,
-    /// Those of this instance whose books are being filled.
+    /// Shards of this instance whose books are still recovering.
     pub filling: BTreeSet<u16>,
 }
 
@@ -104,12 +105,12 @@ impl Unserved {
     }
 }
 
-/// Since the start.
+/// Counters since the start.
 #[derive(Clone, Copy, Debug, Default, PartialEq, Eq)]
 pub struct Counted {
     pub takeovers: u64,
     pub hand_overs: u64,
-    /// Slots that another has taken while they were here.
+    /// Shards that another instance took while they were open here.
     pub lost: u64,
 }
 
@@ -136,12 +137,12 @@ mod tests {
         unserved.note(&slots(&[true, false, true]), at(10));
         unserved.note(&slots(&[true, false, false]), at(20));
         assert_eq!((unserved.count(), longest(&unserved, 25)), (2, 15));
-        // Another one each time, as in a row of hand-overs.
+        // Another shard each time, as in a series of hand-overs.
         unserved.note(&slots(&[true, true, false]), at(30));
         assert_eq!((unserved.count(), longest(&unserved, 31)), (1, 11));
         unserved.note(&slots(&[false, true, true]), at(40));
         assert_eq!(longest(&unserved, 41), 1);
-        // It is open, and its journal is read.
+        // The shard is open, and its journal is being read.
         unserved.filling = [0].into();
         unserved.note(&slots(&[true, true, true]), at(50));
         assert_eq!((unserved.count(), longest(&unserved, 75)), (1, 35));

@@ -1,4 +1,4 @@
-//! What the cluster asks of the store, and of the slots of this process.
+//! The interfaces of `cluster`: to the rows in the store (`Terms`), and to the shards of this process (`Units`).
 
 use serde::{Deserialize, Serialize};
 use std::collections::{BTreeMap, BTreeSet};
@@ -7,116 +7,116 @@ use std::pin::Pin;
 
 pub type Doing<'a, T> = Pin<Box<dyn Future<Output = T> + Send + 'a>>;
 
-/// Slots that an instance can't open, and why.
+/// Shards that an instance can't open, with the reasons.
 pub type Refused = BTreeMap<u16, String>;
 
-/// An instance, as the store has it.
+/// An instance's row in the store.
 #[derive(Clone, Debug, PartialEq, Eq)]
 pub struct Instance {
     pub name: String,
-    /// Where others forward posts to; empty where it leaves.
+    /// Where other instances send posts; empty while it leaves.
     pub address: String,
-    /// Where operators of other machines ask it, HOST:PORT; empty if they can't.
+    /// Where operators on other machines connect, HOST:PORT; empty if they can't.
     pub operate: String,
-    /// Of its program.
+    /// The version of its program.
     pub version: String,
     pub beat: u64,
-    /// How many processes have begun under this name.
+    /// How many processes have started under this name.
     pub life: u64,
-    /// How often another than the last of these has beaten since that began.
+    /// How often processes before the last one have sent heartbeats since it started.
     pub earlier: u64,
     pub told: Told,
 }
 
-/// What an instance tells the others of itself with each beat.
+/// What an instance tells the others with each heartbeat.
 #[derive(Clone, Debug, Default, PartialEq, Eq, Serialize, Deserialize)]
 #[serde(default)]
 pub struct Told {
-    /// The slots that it can't open, and why.
+    /// The shards that it can't open, with the reasons.
     pub refused: Refused,
-    /// By how many microseconds its clock is ahead of the store's, or late if it is less than 0; none before it has looked.
+    /// How many microseconds its clock is ahead of the store's; below 0 if it is behind; none before the first look.
     pub clock: Option<i64>,
-    /// The others that it reaches where posts are brought; none before it has tried, or while it is too busy to answer itself.
+    /// The instances whose address for posts it can reach; none before it has tried, or while it can't answer itself in
+    /// time.
     pub reached: Option<BTreeSet<String>>,
 }
 
-/// A slot's row, which is never deleted.
+/// A shard's row, which is never deleted.
 #[derive(Clone, Debug, PartialEq, Eq)]
 pub struct Row {
     pub slot: u16,
-    /// It goes up with each ownership.
+    /// Raised by each takeover.
     pub term: u64,
-    /// Empty where nobody has it.
+    /// Empty if no instance owns the shard.
     pub owner: String,
 }
 
-/// What was read behind a committed beat.
+/// What was read after a committed heartbeat.
 #[derive(Clone, Debug, Default, PartialEq, Eq)]
 pub struct Seen {
     pub instances: Vec<Instance>,
     pub slots: Vec<Row>,
-    /// How far this instance's clock is ahead of the store's, in microseconds: at least so far, or late, if it is less than 0.
+    /// How many microseconds this instance's clock is at least ahead of the store's; below 0 if it is behind.
     pub clock: Option<i64>,
     /// The number of this process among those of its name.
     pub life: u64,
 }
 
-/// Whether an instance is a place for slots.
+/// Whether an instance may own shards.
 #[derive(Clone, Copy, Debug, PartialEq, Eq)]
 pub enum Stay {
     Here,
-    /// It beats on, with an empty address, while it may have no slots: until all are handed over, or its clock is right.
+    /// It still sends heartbeats, with an empty address, until all shards are handed over or its clock is right again.
     Leaves,
 }
 
-/// What was asked of the store may be done or not.
+/// The call to the store may have been carried out or not.
 #[derive(Debug, thiserror::Error)]
 pub enum Silence {
-    /// It gave no answer, or none that is known.
+    /// There was no answer, or its meaning is unknown.
     #[error("the store does not answer: {0}")]
     Unanswered(String),
-    /// It answers, and what it says is done is on fewer servers than it has to be.
+    /// The store answers, but its commits are on too few servers.
     #[error("the store has too few copies, so posts get 503: {0}")]
     FewCopies(String),
 }
 
-/// The rows of instances and slots. Each call waits for as long as the store does, or says that it is in doubt.
+/// The rows of instances and shards. Each call waits as long as the store needs, or reports an unknown outcome.
 pub trait Terms: Send + Sync {
-    /// Adds one to this instance's beat, with what it tells, waits until that is committed, and then reads all instances and
-    /// slots.
+    /// Adds one to this instance's heartbeat and writes `told`; after the commit it reads all instances and shards.
     fn beat(&self, stay: Stay, told: Told) -> impl Future<Output = Result<Seen, Silence>> + Send;
-    /// The slots alone: for who was told `not mine`.
+    /// Reads only the shards; used after an answer `not mine`.
     fn slots(&self) -> impl Future<Output = Result<Vec<Row>, Silence>> + Send;
-    /// Writes the next term behind the one that was seen, with this instance as the owner: the new term. None where another
-    /// was first.
+    /// Takes the shard under the term after the one that was seen, with this instance as owner. Returns the new term,
+    /// or none if another instance was first.
     fn take(&self, slot: u16, seen: u64) -> impl Future<Output = Result<Option<u64>, Silence>> + Send;
-    /// Says that nobody has the slot, where it still has this term. The term stays, and the next owner's is higher.
+    /// Removes the owner of the shard if it still has this term. The term stays, so the next owner's is higher.
     fn release(&self, slot: u16, term: u64) -> impl Future<Output = Result<(), Silence>> + Send;
-    /// Takes this instance's row away: it has no slots any more.
+    /// Deletes this instance's row, when it has no shards left.
     fn leave(&self) -> impl Future<Output = Result<(), Silence>> + Send;
-    /// Takes another's row away, where its beat is still this. Whether it was.
+    /// Deletes another instance's row if its heartbeat is still this one; returns whether it did.
     fn forget(&self, name: &str, beat: u64) -> impl Future<Output = Result<bool, Silence>> + Send;
 }
 
-/// Why a slot is not served though this instance has taken it.
+/// Why a shard that this instance has taken is not served.
 #[derive(Debug, thiserror::Error)]
 pub enum Unopened {
-    /// Another has taken it meanwhile.
+    /// Another instance has taken it since.
     #[error("another instance has this slot")]
     Lost,
     #[error("{0}")]
     Fault(String),
 }
 
-/// The slots of this process: journal, outbox, book, keeper and delivery of each.
+/// The shards of this process: for each its journal, outbox, book, worker and delivery.
 pub trait Units: Send + Sync {
-    /// Reads a slot's files behind its new term, fills its book, and serves it.
+    /// Reads the files of a shard after its takeover, recovers its book, and serves it.
     fn open(&self, slot: u16, term: u64) -> Doing<'_, Result<(), Unopened>>;
-    /// Shuts its posts, makes a last checkpoint, and ends it. Nothing of it is written any more once this is done, also
-    /// where a part of it failed.
+    /// Stops taking posts for the shard, makes a last checkpoint and closes it. After that nothing of it is written any
+    /// more, even if a part of this failed.
     fn hand_over(&self, slot: u16, term: u64) -> Doing<'_, ()>;
-    /// Ends a slot that another has: nothing more of it is answered, delivered or written.
+    /// Closes a fenced shard: nothing more of it is answered, delivered or written.
     fn drop_lost(&self, slot: u16, term: u64) -> Doing<'_, ()>;
-    /// Those that are open, and whose books are being filled: their posts are answered 503 until then.
+    /// The open shards whose books are still recovering; their posts get 503.
     fn filling(&self) -> BTreeSet<u16>;
 }

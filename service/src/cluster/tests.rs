@@ -1,5 +1,5 @@
-//! Instances with sockets of their own over a store in memory: posts to any of them, while some stand still, end, come and go.
-//! What was answered is there, and everything once.
+//! Instances with real sockets over a store in memory. Posts go to any of them while some stand still, end, come and
+//! go. Every answered post must be there, once.
 
 use super::beats::tests::{Of, Store, SLOTS};
 use super::beats::CameLater;
@@ -21,14 +21,14 @@ use tokio::time::{sleep, timeout};
 const BEAT: Duration = Duration::from_millis(50);
 const SENDERS: usize = 24;
 
-/// What is written of all slots, under terms that were theirs.
+/// The written posts of all shards; the writer's term was current for each.
 struct Ledger {
     store: Arc<Store>,
     posts: Mutex<Vec<(u16, String, u64)>>,
 }
 
 impl Ledger {
-    /// False where the slot has another term. Nothing comes between the look and the write.
+    /// False if the shard has another term. The check and the write are one step.
     fn commit(&self, slot: u16, term: u64, posts: Vec<(String, u64)>) -> bool {
         let rows = self.store.rows.lock().unwrap();
         let is_mine = rows.1[usize::from(slot)].term == term;
@@ -39,7 +39,7 @@ impl Ledger {
         is_mine
     }
 
-    /// Of each sender the last post.
+    /// The last post of each sender.
     fn ends(&self, slot: u16) -> HashMap<String, u64> {
         let posts = self.posts.lock().unwrap();
         let of_slot = posts.iter().filter(|(of, _, _)| *of == slot);
@@ -47,14 +47,14 @@ impl Ledger {
     }
 }
 
-/// A slot that is open: of each sender the last post, and what is not written yet.
+/// An open shard: the last post of each sender, and the posts that are not written yet.
 struct Book {
     term: u64,
     ends: HashMap<String, u64>,
     pending: Vec<(String, u64)>,
 }
 
-/// The slots of an instance.
+/// The shards of an instance.
 struct Slots {
     cluster: Arc<Cluster>,
     ledger: Arc<Ledger>,
@@ -69,7 +69,7 @@ impl Slots {
         }
     }
 
-    /// Whether a post is new to the book; none where the slot is not here.
+    /// Whether a post is new to the book; none if the shard is not open here.
     fn admit(&self, slot: u16, term: u64, sender: &str, number: u64) -> Option<bool> {
         let mut open = self.open.lock().unwrap();
         let book = open.get_mut(&slot).filter(|book| book.term == term)?;
@@ -82,7 +82,7 @@ impl Slots {
         Some(is_new)
     }
 
-    /// Writes all that was taken until now. False where the slot is another's.
+    /// Writes all posts taken so far. False if another instance owns the shard.
     fn sync(&self, slot: u16, term: u64) -> bool {
         let mut open = self.open.lock().unwrap();
         let Some(book) = open.get_mut(&slot).filter(|book| book.term == term) else {
@@ -121,7 +121,7 @@ impl Units for Slots {
     }
 }
 
-/// The same slots, to which posts come.
+/// The same shards, as the target of posts.
 struct Open(Arc<Slots>);
 
 impl Here for Open {
@@ -136,7 +136,7 @@ impl Here for Open {
         let number: u64 = std::str::from_utf8(&part.body).unwrap().parse().unwrap();
         Box::pin(async move {
             let is_new = slots.admit(slot, term, &sender, number)?;
-            // What the book has taken is written whoever waits for it.
+            // A post that the book has taken is written even if no caller waits for it.
             let writing = tokio::spawn(async move {
                 sleep(Duration::from_millis(number % 7)).await;
                 slots.sync(slot, term)
@@ -151,7 +151,7 @@ impl Here for Open {
     }
 }
 
-/// Nobody asks.
+/// No operator asks here.
 impl Answers for Open {
     fn answer_question(self: Arc<Self>, _question: Bytes) -> Doing<'static, Option<Vec<u8>>> {
         Box::pin(async { None })
@@ -163,7 +163,7 @@ struct Node {
     cluster: Arc<Cluster>,
     beats: JoinHandle<Result<(), CameLater>>,
     stop: watch::Sender<bool>,
-    /// Its address, which is served until this is dropped.
+    /// Its address is served until this is dropped.
     _serves: watch::Sender<bool>,
 }
 
@@ -185,10 +185,10 @@ async fn start(ledger: &Arc<Ledger>, name: &'static str) -> Node {
     Node { forward, cluster, beats: tokio::spawn(beats.run(stopped)), stop, _serves: serves }
 }
 
-/// Where posts may come.
+/// The instances to which senders may post.
 type Doors = Arc<Mutex<Vec<Arc<Forward<Open>>>>>;
 
-/// Posts one after another, each until it is answered: how many were.
+/// Sends posts one after another, each until it is answered; returns how many.
 async fn load(sender: usize, doors: Doors, ends: Arc<AtomicBool>, forwarded: Arc<AtomicUsize>) -> u64 {
     let (name, slot) = (format!("s{sender}"), sender as u16 % SLOTS);
     let (mut number, mut tries) = (1, sender);
@@ -226,16 +226,16 @@ async fn what_was_answered_is_there_once_while_instances_come_stop_and_stand_sti
     let pause = || sleep(BEAT * 30);
     pause().await;
     for round in 0..2 {
-        // It beats no more, and goes on with what it has, as one that is cut off from the store.
+        // It sends no heartbeats and goes on with its shards, as if it were cut off from the store.
         nodes["b"].beats.abort();
         pause().await;
-        // Its process ends, and starts again under its name, at another address.
+        // Its process ends and starts again under its name, at another address.
         doors.lock().unwrap().remove(1);
         let again = start(&ledger, "b").await;
         doors.lock().unwrap().insert(1, again.forward.clone());
         nodes.insert("b", again);
         pause().await;
-        // One more comes, and one hands over what it has.
+        // One instance joins and hands over its shards again.
         let node = start(&ledger, ["d", "e"][round]).await;
         doors.lock().unwrap().push(node.forward.clone());
         pause().await;

@@ -8,7 +8,7 @@ use tokio::time::timeout;
 
 pub const SLOTS: u16 = 6;
 
-/// A store in memory. While it is silent its calls wait.
+/// A store in memory. While it is silent, its calls block.
 pub struct Store {
     pub rows: Mutex<(BTreeMap<String, Instance>, Vec<Row>)>,
     is_silent: AtomicBool,
@@ -44,8 +44,7 @@ impl Store {
     }
 }
 
-/// The store as one instance asks it, which has this address.
-/// Which process of its name it is, is found with its first beat.
+/// The store as one instance, with this address, sees it. Its first heartbeat draws the number of its process.
 pub struct Of(pub Arc<Store>, pub &'static str, pub String, pub AtomicU64);
 
 impl Terms for Of {
@@ -125,7 +124,7 @@ impl Terms for Of {
     }
 }
 
-/// What was asked of the slots, in order, and of which of them the books are being filled.
+/// The calls to the shards, in order, and the shards whose books are still recovering.
 #[derive(Default)]
 struct Told {
     asked: Mutex<Vec<(u16, String)>>,
@@ -249,7 +248,7 @@ async fn a_store_that_is_silent_is_seen_at_the_door_and_moves_nothing() {
     };
     timeout(SOON, answers).await.unwrap();
     assert_eq!((terms.len(), a.cluster.status().terms), (usize::from(SLOTS), terms));
-    // It is told to stop while the store is silent: it ends once that answers, or after a minute.
+    // It is told to stop while the store is silent: it ends after the store answers, or after a minute.
     a.stop.send_replace(true);
     timeout(SOON, a.runs).await.unwrap().unwrap().unwrap();
 }
@@ -263,7 +262,7 @@ async fn a_slot_that_was_lost_is_dropped_before_it_is_opened_again() {
         let row = &mut store.rows.lock().unwrap().1[3];
         (row.term, row.owner) = (7, String::new());
     }
-    // Its own writer has seen that another was there.
+    // Its own writer has found another owner.
     a.cluster.lost(4, 1);
     let again = async {
         while a.cluster.whose(3) != (Whose::Here { term: 8 })
@@ -278,7 +277,7 @@ async fn a_slot_that_was_lost_is_dropped_before_it_is_opened_again() {
     assert_eq!(a.cluster.status().counted.lost, 2);
 }
 
-/// Else nobody would hear of one that is read for long: it has an owner, and its posts get 503.
+/// Otherwise a shard that takes long to read would go unnoticed: it has an owner, and its posts get 503.
 #[tokio::test(flavor = "multi_thread", worker_threads = 2)]
 async fn a_slot_is_served_by_nobody_until_its_book_is_filled() {
     let store = Store::new();
@@ -317,7 +316,7 @@ async fn who_has_not_come_back_for_long_is_forgotten_and_comes_back_all_the_same
     assert!(is_known());
 }
 
-/// Else both would post and deliver under one name, each believing that it is the one.
+/// Otherwise both would post and deliver under one name.
 #[tokio::test(flavor = "multi_thread", worker_threads = 2)]
 async fn of_two_processes_of_one_name_the_later_one_ends() {
     const FAST: Duration = Duration::from_millis(150);
@@ -330,7 +329,7 @@ async fn of_two_processes_of_one_name_the_later_one_ends() {
     until(|| !a.cluster.status().has_namesake).await;
     until(|| (0..SLOTS).all(|slot| a.cluster.whose(slot) == Whose::Here { term: 1 })).await;
     assert!(!a.runs.is_finished());
-    // One that starts again after a kill is no later one.
+    // A process that starts again after a kill is not the later one of two.
     a.runs.abort();
     let again = start_at(&store, "a", FAST);
     until(|| (0..SLOTS).all(|slot| matches!(again.cluster.whose(slot), Whose::Here { .. }))).await;

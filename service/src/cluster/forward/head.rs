@@ -1,4 +1,4 @@
-//! What a forwarded post says beside its body.
+//! The headers of a forwarded post.
 
 use crate::otlp::Encoding;
 use hyper::header::{HeaderMap, HeaderValue, CONTENT_TYPE};
@@ -13,12 +13,12 @@ const SECRET: &str = "totxegun-secret";
 const JSON: &str = "application/json";
 const PROTOBUF: &str = "application/x-protobuf";
 
-/// What all instances of a cluster know, and nobody else.
+/// The secret that all instances of a cluster share.
 #[derive(Clone)]
 pub struct Secret(HeaderValue);
 
 impl Secret {
-    /// None where it has other characters than heads may have.
+    /// None if it is empty or has characters that no header may have.
     pub fn new(text: &str) -> Option<Secret> {
         let mut value = HeaderValue::from_str(text).ok()?;
         value.set_sensitive(true);
@@ -29,7 +29,7 @@ impl Secret {
         request.header(SECRET, &self.0)
     }
 
-    /// In a time that does not hang on where it differs.
+    /// Compares in constant time.
     pub fn is_in(&self, heads: &HeaderMap) -> bool {
         let said = heads.get(SECRET).map_or(&[][..], HeaderValue::as_bytes);
         self.0.as_bytes().ct_eq(said).into()
@@ -64,7 +64,7 @@ impl Head {
             .header(CONTENT_TYPE, content_type)
     }
 
-    /// None where one is missing, or can't be read.
+    /// None if a header is missing or can't be read.
     pub fn read(heads: &HeaderMap) -> Option<Head> {
         let text = |name: &str| heads.get(name)?.to_str().ok();
         let encoding = match text(CONTENT_TYPE.as_str())? {

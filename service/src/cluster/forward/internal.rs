@@ -1,4 +1,7 @@
-//! The owner's side: posts that other instances bring, and what operators ask there.
+//! The owner's side: accepts posts from other instances, and operators' questions.
+//!
+//! Nothing is accepted without the cluster's secret, and a post for a shard that is not open here under its term is
+//! answered `not mine`.
 
 use super::head::{Head, Secret};
 use super::operators::{self, Answers};
@@ -18,16 +21,16 @@ use std::time::Duration;
 use tokio::sync::Semaphore;
 use tokio::time::timeout;
 
-/// What is added to a request before it is taken apart: `otlp::with_sender_attributes` puts in two attributes. One whose key and
-/// value have `n` bytes together comes in up to 2^20 / (n + 61) times, each with 66 bytes around them at most, in JSON. For
-/// `service.instance.id` n is 20 at least, for the other one 2: so both are less than 2^20 * (86 / 81 + 68 / 63), and so less than
-/// 2^20 * 35 / 16.
+/// The bytes that `otlp::with_sender_attributes` may add to a request before it is split. It inserts two attributes.
+/// One whose key and value together have `n` bytes is inserted at most 2^20 / (n + 61) times, each time with at most 66
+/// more bytes of JSON. `n` is at least 20 for `service.instance.id` and at least 2 for the other one, so together they
+/// add less than 2^20 * (86 / 81 + 68 / 63), which is less than 2^20 * 35 / 16.
 const NAMES: usize = 35 << 16;
-/// A part is no longer than its request is with these.
+/// A part is never longer than its request with these bytes.
 const MOST: usize = crate::intake::MOST + NAMES;
-/// So many long ones are in memory at once, whoever sends them: no instance brings more than its share at a time (`peer`).
+/// How many long parts are in memory at once, whichever instances send them; each instance keeps to its share (`peer`).
 pub(super) const PARTS: usize = 64;
-/// A body comes within, beside the time for its way.
+/// The deadline for a body, in addition to the time for its transfer.
 const WITHIN: Duration = Duration::from_secs(5);
 
 pub struct Internal<H> {
@@ -35,7 +38,7 @@ pub struct Internal<H> {
     here: Arc<H>,
     secret: Secret,
     parts: Semaphore,
-    /// What answers to questions of operators.
+    /// Answers operators' questions.
     pub(super) answers: Arc<dyn Answers>,
 }
 
@@ -49,7 +52,7 @@ impl<H: Here> Internal<H> {
         Arc::new(Internal { cluster, here, secret, parts: Semaphore::new(PARTS), answers })
     }
 
-    /// The error is what is said before a slot is asked.
+    /// The error is an answer given before any shard was asked.
     async fn take(&self, request: Request<Body>) -> Result<Response<Body>, Response<Body>> {
         let is_question = request.uri().path() == operators::PATH;
         if !(is_question || request.uri().path() == PATH) || request.method() != Method::POST {
@@ -72,13 +75,13 @@ impl<H: Here> Internal<H> {
         let body = request.into_body();
         let is_long = body.size_hint().upper().is_none_or(|said| said > SHORT as u64);
         let _room = match is_long {
-            true => self.parts.acquire().await.ok(), // it is never closed
+            true => self.parts.acquire().await.ok(), // never closed
             false => None,
         };
         let body = whole(body).await;
         let body = body.ok_or_else(|| owner_answer::refused(400, "the body is not whole, or too long"))?;
         let part = Original { encoding: head.encoding, body };
-        // The slot says itself whether it is still here.
+        // The shard checks itself whether it is still open here.
         let outcome = self.here.post(head.slot, head.term, &head.sender, part).await;
         Ok(outcome.map_or_else(owner_answer::not_mine, |outcome| owner_answer::answer(&outcome)))
     }
@@ -91,7 +94,7 @@ impl<H: Here> Handler for Internal<H> {
 }
 
 impl<T: Taker> Here for Intake<T> {
-    /// A slot that is here has the term that was looked at before, or a later one of this instance.
+    /// A shard that is open here has the term that was checked before, or a later one of this instance.
     fn post<'a>(
         &'a self,
         slot: u16,
@@ -103,7 +106,7 @@ impl<T: Taker> Here for Intake<T> {
     }
 }
 
-/// None where it is too long, or not there in time.
+/// None if the body is too long or late.
 pub(super) async fn whole(body: Body) -> Option<Bytes> {
     let most = body.size_hint().upper().map_or(MOST, |said| said.min(MOST as u64) as usize);
     timeout(WITHIN + on_the_way(most), owner_answer::whole(body, MOST)).await.ok()?.ok()

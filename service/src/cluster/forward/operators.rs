@@ -1,5 +1,5 @@
-//! What operators ask, on its way between instances: of one of them, for what another has. What the bytes mean `operate`
-//! knows.
+//! Questions of operators to one instance about another, on their way between instances. Only `operate` knows what the
+//! bytes mean.
 
 use super::internal::{whole, Internal};
 use super::{owner_answer, Broken, Forward, Forwarded, Here, Unanswering};
@@ -11,18 +11,18 @@ use std::sync::Arc;
 use std::time::Duration;
 use tokio::time::timeout;
 
-/// Where it comes.
+/// The path for questions.
 pub const PATH: &str = "/internal/operators";
-/// An answer has the report of a slot's books, or the letters that it has, and no more.
+/// The longest answer is the report of a shard's books, or its dead letters.
 const MOST: usize = 64 << 20;
 
-/// What an instance answers.
+/// Answers questions.
 pub trait Answers: Send + Sync + 'static {
-    /// None where the question can't be read: it is of another version.
+    /// None if the question can't be read, because another version asks it.
     fn answer_question(self: Arc<Self>, question: Bytes) -> Doing<'static, Option<Vec<u8>>>;
 }
 
-/// How other instances are asked.
+/// Asks other instances.
 pub trait Asks: Send + Sync + 'static {
     /// The answer of the instance at this address, or why there is none.
     fn put_question<'a>(
@@ -32,10 +32,10 @@ pub trait Asks: Send + Sync + 'static {
         within: Duration,
     ) -> Doing<'a, Result<Bytes, String>>;
 
-    /// How many posts for others' slots ended how.
+    /// The outcomes of posts for other instances' shards.
     fn forwarded(&self) -> Forwarded;
 
-    /// Who answers none of them.
+    /// The instances that answer no posts.
     fn unanswering(&self) -> Vec<Unanswering>;
 }
 

@@ -1,4 +1,4 @@
-//! An owner's answer on its way back: what became of the post.
+//! Codes an owner's answer to a post.
 
 use super::Broken;
 use crate::otlp::Outcome;
@@ -7,15 +7,15 @@ use bytes::Bytes;
 use hyper::header::{HeaderValue, CONTENT_TYPE};
 use hyper::{Body, Response, StatusCode};
 
-/// Which answers are of an instance that was asked: what stands between two may have its own.
+/// The header of answers from an instance; proxies in between may answer by themselves, without it.
 const SAYS: &str = "totxegun-says";
 const ANSWER: &str = "answer";
 const NOT_MINE: &str = "not mine";
-/// An answer has the reasons of a request's points, and no more.
+/// The longest answer has the reasons for a request's rejected points.
 const MOST: usize = 256 << 10;
 
 pub(super) fn answer(outcome: &Outcome) -> Response<Body> {
-    let body = serde_json::to_vec(outcome).unwrap_or_default(); // numbers, texts and maps by texts are always written
+    let body = serde_json::to_vec(outcome).unwrap_or_default(); // numbers, strings and string-keyed maps always serialise
     with(outcome.status(), ANSWER, body)
 }
 
@@ -23,7 +23,7 @@ pub(super) fn not_mine() -> Response<Body> {
     with(409, NOT_MINE, b"{\"message\":\"not mine\"}".to_vec())
 }
 
-/// What is said before anybody is asked: it is no answer of a slot.
+/// A refusal before any shard is asked; it is no shard's answer.
 pub(super) fn refused(status: u16, why: &str) -> Response<Body> {
     let mut response = with(status, "", format!("{{\"message\":\"{why}\"}}").into_bytes());
     response.headers_mut().remove(SAYS);
@@ -39,7 +39,7 @@ fn with(status: u16, says: &'static str, body: Vec<u8>) -> Response<Body> {
     response
 }
 
-/// What was asked by operators.
+/// The answer to an operator's question.
 pub(super) fn bytes(answer: Vec<u8>) -> Response<Body> {
     with(200, ANSWER, answer)
 }
@@ -48,7 +48,7 @@ fn head(response: &Response<Body>, name: &str) -> Option<String> {
     Some(response.headers().get(name)?.to_str().ok()?.to_string())
 }
 
-/// Whether it is an answer of an instance that has what was asked for.
+/// Whether an instance answered that owns the shard.
 fn is_answer(response: &Response<Body>) -> Result<bool, Broken> {
     let status = response.status().as_u16();
     match head(response, SAYS).as_deref() {
@@ -59,13 +59,13 @@ fn is_answer(response: &Response<Body>) -> Result<bool, Broken> {
     }
 }
 
-/// All of a body, which has no more bytes.
+/// The whole body, if it is not longer than `most`.
 pub(super) async fn whole(body: Body, most: usize) -> Result<Bytes, Broken> {
     let whole = whole_body(body, most).await.map_err(Broken::Wire)?;
     whole.map(Bytes::from).ok_or(Broken::Long(most))
 }
 
-/// All of an answer to operators.
+/// The whole answer to an operator's question.
 pub(super) async fn read_bytes(response: Response<Body>, most: usize) -> Result<Bytes, Broken> {
     match is_answer(&response)? {
         true => whole(response.into_body(), most).await,
@@ -73,7 +73,7 @@ pub(super) async fn read_bytes(response: Response<Body>, most: usize) -> Result<
     }
 }
 
-/// All of an answer; none where nothing was taken, since the slot is another's.
+/// The whole answer; none if nothing was taken because another instance owns the shard.
 pub(super) async fn read(response: Response<Body>) -> Result<Option<Outcome>, Broken> {
     if !is_answer(&response)? {
         return Ok(None);

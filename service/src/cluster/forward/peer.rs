@@ -1,4 +1,4 @@
-//! The other instances as they are asked: how much at once, and since when one is silent.
+//! The other instances as targets of posts: limits on what is in flight, and how long one has been silent.
 
 use crate::work::locked;
 use std::collections::HashMap;
@@ -8,26 +8,27 @@ use std::time::Duration;
 use tokio::sync::{watch, Semaphore, SemaphorePermit};
 use tokio::time::Instant;
 
-/// So many posts of all others are on their way to one at a time, each over a connection: each of them has its share.
+/// How many posts of all instances together may be in flight to one owner, each on its own connection. Each instance
+/// has its share of these.
 pub const CONNECTIONS: usize = 256;
-/// But no more than this; further ones wait.
+/// The most posts of one instance in flight to one owner; further ones wait.
 pub const POSTS: usize = 64;
-/// A part that is longer is long, and waits for long ones alone.
+/// A part over this length is long, and waits only for other long ones.
 pub const SHORT: usize = 64 << 10;
-/// So many KiB of long parts are on their way to one at a time, where one or two others bring some.
+/// The KiB of long parts in flight to one owner, if one or two instances send it posts.
 const KIB: usize = 32 << 10;
-/// As which a long part counts at least: so those of one other take half of an owner's room at most.
+/// The least that a long part counts, so that one instance's parts take at most half of an owner's room.
 const LEAST_KIB: usize = KIB * 2 / super::internal::PARTS;
-/// After so long without an answer it is said.
+/// After this long without an answer, the silence is logged.
 const SILENT_FOR: Duration = Duration::from_secs(10);
-/// So many looks in a row find one not there, until posts for it don't wait for it any more: an answer may be late for once.
+/// After how many failed checks in a row posts no longer wait for an instance: one answer may be late.
 const UNREACHED: u32 = 2;
-/// And so many until the others are told, by which its slots move.
+/// After how many the others are told, so that the instance's shards move.
 const TOLD_UNREACHED: u32 = 10;
-/// And shown for so long after the last post that got none.
+/// How long a silence is shown after the last post without an answer.
 const SHOWN: Duration = Duration::from_secs(60);
 
-/// By their addresses, of which the store has a few.
+/// By address; the store has only a few.
 #[derive(Default)]
 pub(super) struct Peers(Mutex<HashMap<String, Arc<Peer>>>);
 
@@ -35,17 +36,17 @@ pub(super) struct Peer {
     pub address: String,
     connections: Semaphore,
     kib: Semaphore,
-    /// None where it answered last.
+    /// None if the last post was answered.
     silent: Mutex<Option<Silent>>,
-    /// Looks in a row that found it not there.
+    /// How many checks in a row have failed.
     failed: AtomicU32,
-    /// Not after several of them.
+    /// False after several failed checks.
     reached: watch::Sender<bool>,
 }
 
-/// Posts that got no answer, one behind the other.
+/// Posts in a row that got no answer.
 struct Silent {
-    /// When the first of them came.
+    /// When the first of them arrived.
     since: Instant,
     last: Instant,
     why: String,
@@ -61,7 +62,7 @@ impl Silent {
     }
 }
 
-/// An instance that answers no post of those that are brought there.
+/// An instance that answers no posts.
 #[derive(Clone, Debug, PartialEq, Eq)]
 pub struct Unanswering {
     pub address: String,
@@ -85,7 +86,7 @@ impl Peers {
         peers.entry(address.into()).or_insert_with(new).clone()
     }
 
-    /// Those that have answered none for long, and are still asked.
+    /// The instances that have answered no post for long, and still get some.
     pub fn unanswering(&self) -> Vec<Unanswering> {
         let unanswering = |peer: &Arc<Peer>| {
             let silent = locked(&peer.silent);
@@ -98,12 +99,13 @@ impl Peers {
 }
 
 impl Peer {
-    /// Room for a post, until it is dropped, where so many bring posts there. Who waits for the first has nothing of the second.
+    /// Waits for room for a post; dropping the result frees it. `from` instances send posts there. While a long part
+    /// waits for its KiB, it holds no connection.
     pub async fn room(&self, bytes: usize, from: usize) -> [Option<SemaphorePermit<'_>>; 2] {
         let long = match bytes > SHORT {
             true => {
                 let kib = (bytes / 1024).max(LEAST_KIB) * from.div_ceil(2);
-                self.kib.acquire_many(kib.min(KIB) as u32).await.ok() // it is never closed
+                self.kib.acquire_many(kib.min(KIB) as u32).await.ok() // never closed
             }
             false => None,
         };
@@ -111,7 +113,7 @@ impl Peer {
         [long, self.connections.acquire_many(connections).await.ok()]
     }
 
-    /// What a look has found: whether the others are told that it is reached.
+    /// Takes the result of a check. Returns whether the others are told that the instance can be reached.
     pub fn has_reached(&self, is_reached: bool) -> bool {
         let failed = if is_reached { 0 } else { self.failed.load(Relaxed).saturating_add(1) };
         self.failed.store(failed, Relaxed);
@@ -120,12 +122,12 @@ impl Peer {
         failed < TOLD_UNREACHED
     }
 
-    /// Returns once it is not reached.
+    /// Returns when the instance can't be reached.
     pub async fn is_unreached(&self) {
         let mut reached = self.reached.subscribe();
         while *reached.borrow_and_update() {
             if reached.changed().await.is_err() {
-                std::future::pending::<()>().await; // it is here
+                std::future::pending::<()>().await; // can't happen while we hold `self`
             }
         }
     }
@@ -134,7 +136,7 @@ impl Peer {
         *locked(&self.silent) = None;
     }
 
-    /// A post that came then has got no answer: whether that has been so for long.
+    /// Notes that a post that arrived at `came` got no answer. Returns whether that has been so for long.
     pub fn is_silent(&self, came: Instant, why: &str) -> bool {
         let mut silent = locked(&self.silent);
         let before = silent.take().filter(|before| !before.is_over());
@@ -147,7 +149,7 @@ impl Peer {
 mod tests {
     use super::*;
 
-    /// Else an answer that is late for once breaks off all posts under way.
+    /// Otherwise one late answer would abort all posts in flight.
     #[test]
     fn who_is_late_once_is_reached_and_the_others_are_told_otherwise_after_ten_looks() {
         let peer = Peers::default().at("a:1");

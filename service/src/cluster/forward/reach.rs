@@ -1,5 +1,5 @@
-//! Whether other instances are there where posts are brought: each is asked again and again, so that a post for one that is not
-//! reached need not find that out by itself.
+//! Checks regularly whether the other instances accept posts, so that not every post to one that can't be reached has
+//! to find that out.
 
 use super::{Forward, Here, PATH};
 use hyper::{Body, Request};
@@ -10,12 +10,12 @@ use tokio::task::JoinSet;
 use tokio::time::{interval, timeout, MissedTickBehavior};
 
 const EVERY: Duration = Duration::from_millis(500);
-/// Who has not answered by then was not there.
+/// An instance that has not answered by then counts as not there.
 const WITHIN: Duration = Duration::from_secs(1);
 
 impl<H: Here> Forward<H> {
-    /// Looks until it is dropped. `own` is where the others reach this instance: while it does not answer itself in time it is too
-    /// busy to say whom it reaches.
+    /// Runs until it is dropped. `own` is the address at which the others reach this instance: while it can't answer
+    /// itself in time, it is too busy to judge the others.
     pub async fn look_at_others(self: Arc<Self>, own: String) {
         let mut looks = interval(EVERY);
         looks.set_missed_tick_behavior(MissedTickBehavior::Delay);
@@ -35,12 +35,12 @@ impl<H: Here> Forward<H> {
         }
     }
 
-    /// Not before several looks in a row have found it not there.
+    /// False only after several failed checks in a row.
     async fn reaches(&self, address: &str) -> bool {
         self.peers.at(address).has_reached(self.is_there(address).await)
     }
 
-    /// Whatever it says to that.
+    /// Any answer counts.
     async fn is_there(&self, address: &str) -> bool {
         let uri = format!("{}://{address}{PATH}", self.connections.scheme());
         let Ok(request) = Request::get(uri).body(Body::empty()) else { return false };

@@ -1,4 +1,4 @@
-//! Posts over real sockets, to owners that answer, stall, break off, or have not the slot.
+//! Posts over real sockets, to owners that answer, stall, break off, or don't own the shard.
 
 mod peers;
 mod reach;
@@ -50,7 +50,7 @@ async fn an_owners_answer_comes_back_as_it_said_it() {
     assert_eq!(forward.forwarded().answered, came.len() as u64);
 }
 
-/// Else it would be 503 for ever.
+/// Otherwise it would get 503 forever.
 #[tokio::test]
 async fn the_longest_post_with_the_names_of_its_instances_is_brought() {
     let peer = Peer::here().await;
@@ -74,7 +74,7 @@ async fn the_longest_post_with_the_names_of_its_instances_is_brought() {
     assert!(longest > 5 << 20, "{longest}");
 }
 
-/// Else it would be 503 at each repeat.
+/// Otherwise it would get 503 at each retry.
 #[tokio::test]
 async fn a_long_part_is_waited_for_as_long_as_a_slow_way_takes() {
     let peer = Peer::here().await;
@@ -87,7 +87,7 @@ async fn a_long_part_is_waited_for_as_long_as_a_slow_way_takes() {
     assert!(came.len() == 1 && came[0].4 == body);
 }
 
-/// A request as long as one may be, of so many resources that have no name: each gets as much as one can.
+/// The longest request, with many resources without a name: each of them gets the longest one.
 fn longest_json(resources: usize) -> Bytes {
     let all = vec![r#"{"a":0}"#; resources].join(",");
     let around = r#"{"resourceMetrics":[],"b":""}"#.len();
@@ -108,10 +108,10 @@ async fn not_mine_is_asked_again_of_who_has_it_then() {
     assert_eq!(outcome, Outcome::taken(0));
     assert_eq!((old.slots.count(), new.slots.count()), (0, 1));
     assert!(forward.forwarded().not_mine > 0);
-    // What the slot itself finds: it was lost behind the door.
+    // The shard was lost after the instance had checked its owner.
     new.slots.says.lock().unwrap().push_back(None);
     assert_eq!(posted(&forward, "{}").await, Outcome::taken(0));
-    // It comes here.
+    // The shard moves here.
     let here = Arc::new(Slots::default());
     forward.serve(here.clone());
     forward.cluster.knows(&[(3, Whose::Here { term: 8 })]);
@@ -239,7 +239,7 @@ async fn who_stalls_is_left_once_another_has_the_slot_but_not_before_it_may_have
     assert!((AFTER_MOVE..WITHIN / 2).contains(&began.elapsed()));
     assert_eq!((count.load(SeqCst), peer.slots.count()), (1, 0), "it may have been taken");
     assert_eq!(posted(&forward, "{}").await, Outcome::taken(0));
-    // It hands over, and answers what is under way.
+    // The owner hands over, and answers what is in flight.
     let slots = Slots::slow(AFTER_MOVE / 2);
     let slow = Peer::with(slots, Whose::Here { term: 5 }).await;
     forward.cluster.knows(&[(3, slow.whose())]);
@@ -270,7 +270,7 @@ async fn so_many_posts_are_on_their_way_to_one_and_each_comes_once() {
     assert!(peer.connections.load(SeqCst) <= peer::POSTS);
 }
 
-/// Who says that it is not its own is asked a few times, also while others' slots move.
+/// An instance that answers `not mine` is asked only a few times, even while other shards move.
 #[tokio::test(flavor = "multi_thread", worker_threads = 2)]
 async fn not_mine_is_asked_again_a_bounded_number_of_times() {
     let old = Peer::with(Slots::default(), Whose::Nobody).await;
@@ -286,7 +286,7 @@ async fn not_mine_is_asked_again_a_bounded_number_of_times() {
     let asked = forward.forwarded().not_mine;
     assert!((5..=u64::from(MOST_ASKED)).contains(&asked), "{asked}");
     moves.abort();
-    // Another one is asked at once.
+    // A new owner is asked at once.
     let (forward, new) = (receiver(old.whose(), secret("of all")), Peer::here().await);
     let cluster = forward.cluster.clone();
     let moves = async {
@@ -297,7 +297,7 @@ async fn not_mine_is_asked_again_a_bounded_number_of_times() {
     let (outcome, moved) = tokio::join!(posted(&forward, "{}"), moves);
     assert_eq!(outcome, Outcome::taken(0));
     assert!(moved.elapsed() < LONGEST / 2, "{:?}", moved.elapsed());
-    // Owners that come and go are not asked for ever either.
+    // Owners that come and go are not asked forever either.
     let (forward, whose) = (receiver(old.whose(), secret("of all")), old.whose());
     let cluster = forward.cluster.clone();
     let moves = tokio::spawn(async move {
@@ -313,7 +313,7 @@ async fn not_mine_is_asked_again_a_bounded_number_of_times() {
     moves.abort();
 }
 
-/// Else each post would look for an owner for three seconds.
+/// Otherwise each post would look for an owner for three seconds.
 #[tokio::test]
 async fn without_beats_a_post_is_turned_away_at_the_door() {
     let forward = Forward::<Slots>::new(Cluster::new("receiver", None), secret("of all"), None);
@@ -341,7 +341,7 @@ async fn without_beats_a_post_is_turned_away_at_the_door() {
     assert_eq!(post().await, Reason::OwnerChanges.into(), "it is looked for");
 }
 
-/// Else it would look for an owner for three seconds, or wait for one that waits.
+/// Otherwise it would look for an owner for three seconds, or wait for one that waits.
 #[tokio::test]
 async fn while_the_store_is_silent_a_post_is_turned_away_at_once() {
     let peer = Peer::here().await;
@@ -353,7 +353,7 @@ async fn while_the_store_is_silent_a_post_is_turned_away_at_once() {
         assert!(began.elapsed() < LOOKED_FOR / 3);
     }
     assert_eq!(peer.slots.count(), 0);
-    // So is one that another instance brings.
+    // A post from another instance is refused too.
     peer.cluster.is_silent_for(Duration::from_secs(10));
     let forward = receiver(peer.whose(), secret("of all"));
     assert_eq!(posted(&forward, "{}").await, Reason::StoreSilent.into());
@@ -380,7 +380,7 @@ async fn a_question_of_operators_goes_to_who_has_the_secret_and_its_answer_comes
     assert!(late.unwrap_err().contains("in time"));
 }
 
-/// One that never answers.
+/// A peer that never answers.
 async fn strange_to_all() -> (String, Arc<std::sync::atomic::AtomicUsize>) {
     strange(b"", true).await
 }

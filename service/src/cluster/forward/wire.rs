@@ -1,4 +1,4 @@
-//! What instances speak with each other, and the connections that are kept.
+//! The HTTP clients for other instances.
 
 use super::{peer, CONNECT, IDLE};
 use crate::sinks::roots::client_config;
@@ -12,9 +12,9 @@ use std::sync::{Arc, Mutex, MutexGuard};
 
 type Asks = Client<HttpsConnector<HttpConnector>, Body>;
 
-/// Who asks other instances. Where files of TLS have changed, connections are made anew.
+/// The clients for other instances. After TLS files have changed, they open new connections.
 pub(super) struct Connections {
-    /// Where both show a certificate.
+    /// Set if both sides show a certificate.
     tls: Option<Arc<Tls>>,
     now: Mutex<Now>,
 }
@@ -22,14 +22,14 @@ pub(super) struct Connections {
 struct Now {
     by: Option<Arc<Contexts>>,
     asks: Asks,
-    /// For looks alone: they wait for no post.
+    /// For checks of reachability alone, so that they wait for no post.
     looks: Asks,
 }
 
 impl Now {
     fn of(by: Option<Arc<Contexts>>) -> Now {
         let config = by.as_ref().and_then(|by| by.client());
-        // Nothing is asked over TLS by a client that believes no root.
+        // Such a client trusts no root, so it can't connect by TLS.
         let config = config.unwrap_or_else(|| Arc::new(client_config(RootCertStore::empty())));
         Now { asks: client(config.clone(), peer::POSTS), looks: client(config, 1), by }
     }

@@ -1,21 +1,21 @@
-//! Whether this instance's clock is right, by those of the others and the store's: points are left out by it, and their senders
-//! would be told that theirs is wrong.
+//! Judges this instance's clock by those of the others and of the store. With a wrong clock it would reject good points
+//! and tell their senders that their clocks are wrong.
 
 use std::time::Duration;
 
-/// So many own beats in a row it is found otherwise before that counts: a store that goes over to another server has another clock.
+/// How many heartbeats in a row must find a change before it counts: a store that fails over has another clock.
 const SURE: u32 = 4;
 
 #[derive(Default)]
 pub(super) struct OwnClock {
-    /// How far it may be off; none if nothing hangs on it.
+    /// How far it may be off; none if that does not matter.
     most: Option<i64>,
-    /// By how many microseconds it is ahead of the store's.
+    /// How many microseconds it is ahead of the store's.
     now: Option<i64>,
     is_off: bool,
-    /// Own beats that have found otherwise.
+    /// How many heartbeats have found the opposite of `is_off`.
     otherwise: u32,
-    /// By how many microseconds it is ahead of that with which most agree.
+    /// How many microseconds it is ahead of the clock with which most agree.
     ahead: i64,
     has_begun: bool,
 }
@@ -31,26 +31,26 @@ impl OwnClock {
         self.now
     }
 
-    /// By how many microseconds it is ahead, if it is off; late, if that is less than 0.
+    /// How many microseconds the clock is ahead, if it is off; below 0 if it is behind.
     pub fn off(&self) -> Option<i64> {
         self.is_off.then_some(self.ahead)
     }
 
-    /// Whether a clock that is so many microseconds ahead of the store's is right, where this one is off.
+    /// Whether a clock that is this many microseconds ahead of the store's is right, while ours is off.
     pub fn is_right(&self, other: i64) -> bool {
         let best = self.now.unwrap_or_default().saturating_sub(self.ahead);
         self.most.is_some_and(|most| other.abs_diff(best) <= most.unsigned_abs())
     }
 
-    /// As a beat has found it, and those of the others. It is off if another agrees with more clocks, the store's among them; or with
-    /// as many, and that is the store's.
+    /// Takes the clocks that a heartbeat has found. Ours is off if another clock, possibly the store's, agrees with
+    /// more clocks; or if the store's agrees with as many, and ours not with it.
     pub fn note(&mut self, own: Option<i64>, others: impl Iterator<Item = i64>) {
         self.now = own.or(self.now);
         let (Some(own), Some(most)) = (own, self.most) else { return };
         let all: Vec<i64> = [0, own].into_iter().chain(others).collect();
         let agree = |one: i64, other: i64| one.abs_diff(other) <= most.unsigned_abs();
         let agreeing = |one: i64| all.iter().filter(|other| agree(one, **other)).count();
-        // Of several the last one: so the store's counts ahead of its like.
+        // Takes the last of several equals, so the store's wins among its like.
         let best = all.iter().rev().copied().max_by_key(|one| agreeing(*one)).unwrap_or_default();
         let is_off = agreeing(own) < agreeing(best) || best == 0 && !agree(own, best);
         self.ahead = own.saturating_sub(best);
@@ -91,7 +91,8 @@ mod tests {
         );
     }
 
-    /// As where the store goes over to a server whose clock is wrong until the others have looked.
+    /// As when the store fails over to a server with a wrong clock: ours seems off until the others have read that
+    /// clock too.
     #[test]
     fn what_a_beat_finds_otherwise_counts_once_it_stays() {
         let mut clock = OwnClock::of(Some(Duration::from_secs(60)));

@@ -1,31 +1,31 @@
-//! Who is reached by too few of the others, though its beats go on: its slots are of more use elsewhere. All read the same of all, so
-//! they agree.
+//! Finds instances that too few of the others can reach although they are alive: their shards are of more use
+//! elsewhere. All instances read the same rows, so they agree.
 
 use std::cmp::Ordering;
 use std::collections::{BTreeMap, BTreeSet};
 
-/// So many more own beats have read so than have not, before it counts.
+/// How many more heartbeats must have found an instance cut off than not, before it counts.
 const SURE: u32 = super::GONE;
-/// And so many before its slots are taken by others. Before that it hands them over.
+/// How many before others take its shards; until then it hands them over itself.
 const TAKEN: u32 = 30;
-/// So many own beats does this instance not reach another, whose beats go on, before that counts.
+/// For how many heartbeats this instance must fail to reach a live one before that counts.
 const MISSED: u32 = super::GONE + 2;
 
 #[derive(Default)]
 pub(super) struct CutOff {
-    /// Own beats that have read so of these, less those since that have not.
+    /// How many heartbeats found each instance cut off, minus those since that did not.
     beats: BTreeMap<String, u32>,
-    /// Whom this instance reaches; none while that is not known.
+    /// The instances that this one can reach; none while that is unknown.
     reached: Option<BTreeSet<String>>,
-    /// Own beats in a row without these.
+    /// How many heartbeats in a row found each instance unreachable from here.
     missed: BTreeMap<String, u32>,
 }
 
-/// By the names of those that beat, and stay, whom each reaches; none of one that has not tried.
+/// For each live instance that stays, the instances it can reach; none if it has not tried.
 pub(super) type Reached<'a> = BTreeMap<&'a str, Option<&'a BTreeSet<String>>>;
 
-/// Those that more than half of all don't reach; or half, and the one with the first name neither. At least one is left, so that one
-/// has the slots.
+/// The instances that more than half of all can't reach; or exactly half, if the one with the first name is among
+/// these. At least one is left over, so that it gets the shards.
 fn cut_off<'a>(all: &Reached<'a>) -> BTreeSet<&'a str> {
     let Some((first, of_first)) = all.first_key_value() else { return BTreeSet::new() };
     let is_cut_off = |name: &&str| {
@@ -54,10 +54,10 @@ impl CutOff {
         self.reached.as_ref()
     }
 
-    /// What an own beat has read of all: whom they reach.
+    /// Takes which instances each one reaches, as a heartbeat has read it.
     pub fn note(&mut self, me: &str, all: &Reached<'_>) {
         let found = cut_off(all);
-        // One good beat among bad ones is no end of them.
+        // One good heartbeat among bad ones does not reset the count.
         self.beats.retain(|name, beats| {
             *beats -= u32::from(!found.contains(name.as_str()));
             *beats > 0
@@ -78,17 +78,17 @@ impl CutOff {
         }
     }
 
-    /// Whether it is no place for slots.
+    /// Whether the instance may own no shards.
     pub fn is_cut_off(&self, name: &str) -> bool {
         self.beats.get(name).is_some_and(|beats| *beats >= SURE)
     }
 
-    /// Whether its slots may be taken.
+    /// Whether others may take its shards.
     pub fn is_left(&self, name: &str) -> bool {
         self.beats.get(name).is_some_and(|beats| *beats >= TAKEN)
     }
 
-    /// Whether this instance does not reach it, though it beats, and is not cut off.
+    /// Whether this instance can't reach it although it is alive and not cut off.
     pub fn is_missed(&self, name: &str) -> bool {
         self.missed.get(name).is_some_and(|beats| *beats >= MISSED)
     }
@@ -98,7 +98,7 @@ impl CutOff {
 mod tests {
     use super::*;
 
-    /// Of each whom it reaches, by letters; `?` of one that has not tried.
+    /// Which others each instance reaches, by letters; `?` if it has not tried.
     fn found(all: &[(&'static str, &str)]) -> Vec<&'static str> {
         let sets: Vec<Option<BTreeSet<String>>> = all
             .iter()

@@ -1,4 +1,5 @@
-//! Whether this instance is a place for slots: not while it ends, nor while its clock is wrong and another's right, or most of the others don't reach it.
+//! Whether this instance may own shards: not while it is stopping, nor while its clock is wrong and another's is right,
+//! nor while most of the others can't reach it.
 
 use super::cut_off::Reached;
 use super::Owners;
@@ -6,7 +7,7 @@ use crate::cluster::terms::{Stay, Told};
 use std::collections::BTreeSet;
 
 impl Owners {
-    /// From now on each slot has its place elsewhere.
+    /// From now on each shard belongs elsewhere.
     pub fn leave(&mut self) {
         self.ends = true;
     }
@@ -15,34 +16,35 @@ impl Owners {
         self.ends
     }
 
-    /// By how many microseconds this instance's clock is ahead, if it is too far off; late, if that is less than 0.
+    /// How many microseconds the clock is ahead, if it is too far off; below 0 if it is behind.
     pub fn clock_off(&self) -> Option<i64> {
         self.clock.off()
     }
 
-    /// Whether it has no slots for that: another that stays has a clock that is right. One that is alone goes on.
+    /// Whether it may own no shards because of its clock: another instance that stays has a right clock. A single
+    /// instance goes on.
     pub fn leaves_for_clock(&self) -> bool {
         let is_right = |told: &Told| told.clock.is_some_and(|clock| self.clock.is_right(clock));
         self.clock_off().is_some() && self.others.staying().any(|(_, told)| is_right(told))
     }
 
-    /// The others that it reaches just now; none while that is not known.
+    /// Sets which other instances it can reach now; none while that is unknown.
     pub fn has_reached(&mut self, reached: Option<BTreeSet<String>>) {
         self.cut_off.has_reached(reached);
     }
 
-    /// Whether most of the others don't reach this instance, so that it may have no slots.
+    /// Whether most of the others can't reach this instance, so that it may own no shards.
     pub fn is_cut_off(&self) -> bool {
         self.cut_off.is_cut_off(&self.me)
     }
 
-    /// An owner of a slot that this instance does not reach, though it beats, and is not cut off.
+    /// An owner that this instance can't reach, although it is alive and not cut off.
     pub fn missed_owner(&self) -> Option<&str> {
         let owners = self.rows.iter().map(|row| row.owner.as_str());
         owners.into_iter().find(|owner| self.cut_off.is_missed(owner))
     }
 
-    /// Whether posts had better come by another: it beats just now, and reaches all owners, itself among them. Such a one is ready.
+    /// Whether posts should go to another instance: one that is up to date and reaches all owners, itself included.
     pub fn misses_owner(&self) -> bool {
         let reaches_all = |name: &str, reached: &BTreeSet<String>| {
             let owners = self.rows.iter().map(|row| row.owner.as_str());
@@ -53,12 +55,12 @@ impl Owners {
             && self.others.reached().any(|(name, reached)| reached.is_some_and(|one| reaches_all(name, one)))
     }
 
-    /// Whether it is a place for slots.
+    /// Whether it may own shards.
     pub(super) fn is_place_of_any(&self) -> bool {
         self.stay() == Stay::Here && !self.is_cut_off()
     }
 
-    /// What the others are told of that; whom too few reach they find by themselves.
+    /// What the others are told about that; they find by themselves which instances are cut off.
     pub(super) fn stay(&self) -> Stay {
         match self.ends || self.leaves_for_clock() {
             true => Stay::Leaves,

@@ -1,22 +1,23 @@
-//! Whether another process beats under this instance's name. The row counts processes in the order in which they began, and the
-//! beats of all but the last: so a process sees whether it came later, and takes nothing before it knows.
+//! Detects another process with this instance's name. The row counts the processes in the order in which they started,
+//! and the heartbeats of all but the last one. So a process knows whether it came later, and it takes no shard before
+//! it knows.
 
 use crate::cluster::terms::Instance;
 
-/// So many own beats does an earlier process beat between, until this one ends. After a kill some of its beats may still come.
+/// How many heartbeats of an earlier process, between our own, end this process. After a kill a few may still arrive.
 const LATER: u32 = 4;
-/// So many own beats in a row lie without a beat of an earlier process, until that one counts as gone.
+/// After how many heartbeats of ours without one of an earlier process that one counts as gone.
 const QUIET: u32 = 4;
-/// For so many own beats it is said that another process has begun. That one ends before.
+/// For how many heartbeats the start of a later process is reported. By then that process has ended.
 const SAID: u32 = 20;
 
 #[derive(Default)]
 pub(super) struct Namesake {
-    /// How many processes had begun, and for how many own beats that has been so.
+    /// How many processes had started, and for how many heartbeats that has been so.
     begun: u64,
     since: u32,
-    /// How often earlier processes had beaten, and own beats since the last one of these; and how many of this process had one
-    /// between.
+    /// How often earlier processes had sent heartbeats; our heartbeats since the last of these; and how many of ours
+    /// had one in between.
     earlier: Option<u64>,
     quiet: u32,
     between: u32,
@@ -25,22 +26,22 @@ pub(super) struct Namesake {
 }
 
 impl Namesake {
-    /// Whether there is one, as far as is known.
+    /// Whether there is another process, as far as is known.
     pub fn is_there(&self) -> bool {
         self.between > 0 || self.begun > self.life && self.since < SAID
     }
 
-    /// Whether slots that have this name may be an earlier process'. Nothing is taken until that is known.
+    /// Whether shards with this name may still belong to an earlier process. Nothing is taken until that is known.
     pub fn may_own(&self) -> bool {
         self.life > 1 && self.begun == self.life && self.quiet < QUIET
     }
 
-    /// Whether it was there before this process began.
+    /// Whether the other process had the name before this one started.
     pub fn came_later(&self) -> bool {
         self.between >= LATER
     }
 
-    /// What an own beat has read of its row. `life` is the number of this process.
+    /// Takes what a heartbeat has read of the own row. `life` is the number of this process.
     pub fn note(&mut self, row: &Instance, life: u64) {
         self.since = if row.life == self.begun { self.since.saturating_add(1) } else { 0 };
         (self.begun, self.life) = (row.life, life);

@@ -1,25 +1,25 @@
-//! The other instances: whose beats go on, counted in own beats.
+//! The other instances, and whether they are alive, counted in our own heartbeats.
 
 use super::{AFTER_SILENCE, FORGOTTEN, GONE};
 use crate::cluster::status::OtherInstance;
 use crate::cluster::terms::{Instance, Seen, Told};
 use std::collections::{BTreeMap, BTreeSet};
 
-/// So many own beats lie between two silences that others are waited for.
+/// How many heartbeats must lie between two silences after which the others get more time.
 const BETWEEN_SILENCES: u32 = 40;
-/// Whose beat has stood still for fewer own beats has beaten just now.
+/// An instance whose heartbeat stood still for fewer heartbeats than this counts as up to date.
 const LATELY: u32 = GONE / 2;
 
 #[derive(Default)]
 struct Other {
     beat: Option<u64>,
     told: Told,
-    /// Its address is the last one that it had: it has none while it leaves, and still has slots.
+    /// `address` is the last one that it had: while it leaves it has none, but may still own shards.
     shown: OtherInstance,
 }
 
 impl Other {
-    /// What is read of it behind so many own beats that count; an owner may have no row.
+    /// Takes what was read of an instance after `own_beats` heartbeats that count; an owner may have no row.
     fn note(&mut self, read: Option<&Instance>, own_beats: u32) {
         let beat = read.map(|read| read.beat);
         let address = read.map_or("", |read| read.address.as_str());
@@ -43,9 +43,9 @@ impl Other {
 pub(super) struct Others {
     me: String,
     by_name: BTreeMap<String, Other>,
-    /// So many own beats does nobody's standing still count.
+    /// For how many more heartbeats unchanged heartbeats of others don't count.
     uncounted: u32,
-    /// Own beats since a silence that others were waited for.
+    /// Heartbeats since the last silence after which the others got more time.
     since_silence: u32,
 }
 
@@ -54,9 +54,9 @@ impl Others {
         Others { me: me.into(), by_name: BTreeMap::new(), uncounted: 0, since_silence: BETWEEN_SILENCES }
     }
 
-    /// What was read behind an own beat.
+    /// Takes what was read after a heartbeat.
     pub fn note(&mut self, seen: &Seen) {
-        // An owner without a row beats no more, whoever took that away.
+        // An owner without a row sends no heartbeats, whoever deleted the row.
         let owners = seen.slots.iter().map(|row| (row.owner.as_str(), None));
         let mut there: BTreeMap<&str, Option<&Instance>> = owners.collect();
         there.extend(seen.instances.iter().map(|one| (one.name.as_str(), Some(one))));
@@ -72,8 +72,8 @@ impl Others {
         }
     }
 
-    /// The store was silent, and others may wait for it longer than this instance. Not again soon: one whose own
-    /// connection breaks all the time would never see that another is gone.
+    /// The store was silent, and others may have to wait for it longer than we do. Not again soon: otherwise an
+    /// instance whose own connection breaks all the time would never see that another one is gone.
     pub fn wait(&mut self) {
         if self.since_silence < BETWEEN_SILENCES {
             return;
@@ -88,36 +88,36 @@ impl Others {
         self.by_name.get(name).is_some_and(|other| other.shown.is_gone)
     }
 
-    /// Those that have not come back for long, and their last beats.
+    /// The instances that have been gone for long, and their last heartbeats.
     pub fn forgotten(&self) -> impl Iterator<Item = (&str, u64)> {
         let gone = self.by_name.iter().filter(|(_, other)| other.shown.still >= FORGOTTEN);
         gone.filter_map(|(name, other)| Some((name.as_str(), other.beat?)))
     }
 
-    /// Those that may have slots, and what they have told last.
+    /// The instances that may own shards, and what they told last.
     pub fn staying(&self) -> impl Iterator<Item = (&str, &Told)> {
         let stays = |other: &Other| !other.shown.is_gone && !other.shown.leaves;
         let others = self.by_name.iter().filter(move |(_, other)| stays(other));
         others.map(|(name, other)| (name.as_str(), &other.told))
     }
 
-    /// How far the clocks of those whose beats go on are ahead of the store's.
+    /// How far the clocks of live instances are ahead of the store's.
     pub fn clocks(&self) -> impl Iterator<Item = i64> + '_ {
         self.by_name.values().filter(|other| !other.shown.is_gone).filter_map(|other| other.told.clock)
     }
 
-    /// Whom those reach that may have slots; none of one that has not beaten just now: what it said may be so no more.
+    /// Which instances each of those that may own shards can reach; none for one whose heartbeat is not up to date.
     pub fn reached(&self) -> impl Iterator<Item = (&str, Option<&BTreeSet<String>>)> {
         let is_of_now = |name: &str| self.by_name[name].shown.still < LATELY;
         self.staying().map(move |(name, told)| (name, told.reached.as_ref().filter(|_| is_of_now(name))))
     }
 
-    /// Each as it is shown.
+    /// Each instance as the status shows it.
     pub fn shown(&self) -> impl Iterator<Item = OtherInstance> + '_ {
         self.by_name.values().map(|other| other.shown.clone())
     }
 
-    /// Where one is reached, if that is known.
+    /// The address for posts, if it is known.
     pub fn address(&self, name: &str) -> Option<&str> {
         let address = &self.by_name.get(name)?.shown.address;
         (!address.is_empty()).then_some(address)

@@ -1,25 +1,25 @@
-//! Slots that could not be opened. Who could not open one is no place for it while another lives that may: so it goes to that
-//! one, and not to and fro. Where nobody is left each tries again, later and later.
+//! Shards that could not be opened here. While another live instance may open such a shard, it belongs to that one and
+//! does not bounce between them. If no instance is left, each tries again, at growing intervals.
 
 use crate::cluster::terms::Refused;
 use std::collections::BTreeMap;
 
-/// So many own beats later a slot that nobody could open is tried again, twice as many each time, and at most so many.
+/// After how many heartbeats a shard that no instance could open is tried again; doubled each time, up to `MOST`.
 const AGAIN: u32 = 20;
 const MOST: u32 = 120;
-/// So many own beats is it remembered how often a slot was tried that is open now.
+/// For how many heartbeats the tries of a shard are remembered after it was opened.
 const REMEMBERED: u32 = 2 * MOST;
 
 struct One {
     reason: String,
     tries: u32,
-    /// Own beats.
+    /// In heartbeats.
     waits: u32,
     /// Until it is tried again.
     is_refused: bool,
 }
 
-/// Those of this instance.
+/// The refusals of this instance.
 #[derive(Default)]
 pub(super) struct Refusals(BTreeMap<u16, One>);
 
@@ -43,14 +43,14 @@ impl Refusals {
         self.0.insert(slot, one);
     }
 
-    /// It is open, and may fail all the same: its book is filled now.
+    /// The shard is open, but may still fail while its book recovers.
     pub fn opened(&mut self, slot: u16) {
         if let Some(one) = self.0.get_mut(&slot) {
             one.is_tried();
         }
     }
 
-    /// An own beat is committed: what is tried again where no other may.
+    /// Counts a heartbeat, and allows another try of shards that no other instance may open.
     pub fn beat(&mut self, may_another: impl Fn(u16) -> bool) {
         for (slot, one) in &mut self.0 {
             one.waits = one.waits.saturating_sub(1);
@@ -61,7 +61,7 @@ impl Refusals {
         self.0.retain(|_, one| one.is_refused || one.waits > 0);
     }
 
-    /// Those that stand, and why.
+    /// The shards that are refused now, with the reasons.
     pub fn told(&self) -> Refused {
         let refused = self.0.iter().filter(|(_, one)| one.is_refused);
         refused.map(|(slot, one)| (*slot, one.reason.clone())).collect()

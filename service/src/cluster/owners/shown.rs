@@ -1,4 +1,4 @@
-//! What is shown of instances and slots.
+//! What the status shows of instances and shards.
 
 use super::{Owners, Refusal, Whose};
 use crate::cluster::status::{OtherInstance, OwnedSlot};
@@ -9,23 +9,23 @@ impl Owners {
         &self.me
     }
 
-    /// The other instances, by their names.
+    /// The other instances, by name.
     pub fn others(&self) -> Vec<OtherInstance> {
         self.others.shown().collect()
     }
 
-    /// Where operators ask one of these, if they can from other machines.
+    /// Where operators on other machines reach an instance, if they can.
     pub fn operate(&self, name: &str) -> Option<String> {
         let found = self.others.shown().find(|other| other.name == name)?;
         (!found.operate.is_empty()).then_some(found.operate)
     }
 
-    /// How many of these may have slots.
+    /// How many other instances may own shards.
     pub fn staying(&self) -> usize {
         self.others.staying().count()
     }
 
-    /// What those that live can't open.
+    /// The shards that live instances can't open.
     pub fn all_refused(&self) -> Vec<Refusal> {
         let of_one = |(instance, refused): (&String, &Refused)| {
             let refusals = refused.iter().map(|(slot, reason)| Refusal {
@@ -38,7 +38,7 @@ impl Owners {
         self.living.iter().flat_map(of_one).collect()
     }
 
-    /// All slots of the store, ascending.
+    /// All shards of the store, ascending.
     pub fn slots(&self) -> Vec<OwnedSlot> {
         let slots = self.rows.iter().map(|row| OwnedSlot {
             slot: row.slot,

@@ -1,27 +1,27 @@
-//! What an instance does for a slot, and who has it.
+//! What an instance does with a shard, and who serves it.
 
-/// What is to be done.
+/// A step for a shard.
 #[derive(Clone, Copy, Debug, PartialEq, Eq)]
 pub struct Step {
     pub act: Act,
     pub slot: u16,
-    /// Under which it is this instance's, or was seen.
+    /// The term under which we own it, or which was seen.
     pub term: u64,
 }
 
 #[derive(Clone, Copy, Debug, PartialEq, Eq)]
 pub enum Act {
-    /// Take it where its term is still this, and open it.
+    /// Take the shard if it still has this term, and open it.
     Take,
-    /// Another is its place: bring it to rest, and say that nobody has it.
+    /// It belongs to another instance: close it and release it.
     HandOver,
-    /// It has this instance's name, is not open, and has its place elsewhere.
+    /// It has this instance's name, but is not open here and belongs elsewhere.
     Release,
-    /// Another has it.
+    /// Another instance owns it.
     Drop,
 }
 
-/// Who serves a slot.
+/// The instance that serves a shard.
 #[derive(Clone, Debug, PartialEq, Eq)]
 pub enum Whose {
     Here {
@@ -32,6 +32,6 @@ pub enum Whose {
         address: String,
         term: u64,
     },
-    /// Nobody does now, or it isn't known where.
+    /// No instance serves it now, or it is not known where.
     Nobody,
 }

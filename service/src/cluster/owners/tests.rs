@@ -35,11 +35,11 @@ fn a_store_that_stands_still_moves_no_slot() {
         assert!(world.is_settled());
         let before = (world.takes, world.hand_overs);
         world.stalls_for = 120;
-        // One finds the store again later than the others.
+        // One instance reconnects to the store later than the others.
         world.nodes[2].stands_for = 130;
         world.rounds(240);
         assert_eq!((world.takes, world.hand_overs), before);
-        // Nor does an instance that stands still for two seconds.
+        // An instance that stands still for two seconds changes nothing either.
         world.nodes[1].stands_for = 4;
         world.rounds(60);
         assert_eq!((world.takes, world.hand_overs), before);
@@ -81,7 +81,7 @@ fn who_hears_nothing_of_the_store_again_and_again_still_sees_that_another_is_gon
     assert!(world.store.rows.iter().all(|row| row.owner == "b"));
 }
 
-/// And while it may be that it had, or has, a slot, its row says who that is.
+/// While a shard may still have the instance's name, the row stays, since it shows the owner.
 #[test]
 fn who_does_not_come_back_is_forgotten_and_its_return_is_as_that_of_another() {
     let mut world = World::of(7, &["a", "b"]);
@@ -92,7 +92,7 @@ fn who_does_not_come_back_is_forgotten_and_its_return_is_as_that_of_another() {
     world.rounds(20);
     let is_there = |world: &World| world.store.instances.contains_key("a");
     assert!(is_there(&world) && world.nodes[1].owners.others().len() == 1);
-    // As where nobody can open it.
+    // As if no instance could open it.
     world.store.rows[3].owner = "a".into();
     world.rounds(20);
     assert!(is_there(&world), "a slot has its name");
@@ -105,7 +105,7 @@ fn who_does_not_come_back_is_forgotten_and_its_return_is_as_that_of_another() {
     assert!(is_there(&world) && world.is_settled());
 }
 
-/// Nor one that hears nothing of the store.
+/// Nor does an instance forget others while it hears nothing from the store.
 #[test]
 fn who_comes_back_in_time_is_not_forgotten() {
     let mut world = World::of(7, &["a", "b"]);
@@ -131,7 +131,7 @@ fn who_comes_gets_slots_one_by_one_and_not_before_it_has_beaten_for_a_while() {
     assert_eq!(world.hand_overs, 0);
     for round in 0..200 {
         if round % 12 == 0 {
-            // It takes none for a while, so it gets no further one.
+            // It takes none for a while, so no further one is handed over to it.
             world.nodes[1].stands_for = 4;
         }
         world.round();
@@ -152,18 +152,18 @@ fn who_leaves_hands_all_over_and_takes_nothing() {
     world.store.instances.remove("c");
     world.rounds(5);
     assert!(world.store.rows.iter().all(|row| !row.owner.is_empty()));
-    // One of the others', so that both have as many.
+    // One shard of the others moves, so that both have equally many.
     let before = world.hand_overs;
     world.rounds(SETTLED as usize + 5);
     assert!(world.is_settled() && world.hand_overs - before <= 1);
-    // The last one leaves them without an owner.
+    // After the last instance leaves, they have no owner.
     world.nodes[0].owners.leave();
     world.nodes[1].owners.leave();
     world.rounds(6);
     assert!(world.store.rows.iter().all(|row| row.owner.is_empty()));
 }
 
-/// Else it leaves out the right points of all senders that post to its slots.
+/// Otherwise it would reject good points of all senders that post to its shards.
 #[test]
 fn who_has_a_wrong_clock_hands_all_over_and_takes_nothing_until_it_is_right() {
     let mut world = World::of(29, &["a", "b", "c"]);
@@ -175,7 +175,7 @@ fn who_has_a_wrong_clock_hands_all_over_and_takes_nothing_until_it_is_right() {
     assert!(world.store.rows.iter().all(|row| row.owner != "b" && !row.owner.is_empty()));
     world.rounds(100);
     assert!(world.store.rows.iter().all(|row| row.owner != "b"));
-    // One that comes with such a clock takes none while another may have them, and all if none is left.
+    // A new instance with such a clock takes none while another may have them, and all if no other is left.
     world.nodes.truncate(1);
     world.join("d");
     world.nodes[1].clock = 3_600_000_000;
@@ -185,7 +185,7 @@ fn who_has_a_wrong_clock_hands_all_over_and_takes_nothing_until_it_is_right() {
     world.rounds(60);
     assert!(world.store.rows.iter().all(|row| row.owner == "d"));
     assert_eq!(world.nodes[1].owners.clock_off(), Some(3_600_000_000), "it is said all the same");
-    // Of two whose clocks are both wrong, and otherwise, none leaves for the other.
+    // If two clocks are wrong in different ways, neither instance yields to the other.
     world.join("e");
     world.nodes[2].clock = -3_600_000_000;
     world.rounds(200);
@@ -194,7 +194,7 @@ fn who_has_a_wrong_clock_hands_all_over_and_takes_nothing_until_it_is_right() {
     assert!(world.nodes[1..].iter().all(|node| node.owners.clock_off().is_some()));
 }
 
-/// Else its slots would be of no use to anybody for as long as it reaches the store.
+/// Otherwise its shards would be unreachable for as long as it reaches the store.
 #[test]
 fn whom_most_do_not_reach_hands_all_over_and_gets_slots_again_once_they_do() {
     let mut world = World::of(31, &["a", "b", "c"]);
@@ -210,7 +210,7 @@ fn whom_most_do_not_reach_hands_all_over_and_gets_slots_again_once_they_do() {
     world.cut.clear();
     world.rounds(200);
     assert!(world.is_settled());
-    // It beats, and can do no more than that.
+    // It sends heartbeats and can do nothing else.
     world.nodes[1].is_stuck = true;
     world.cut(&["b"], &["a", "c"]);
     world.rounds(60);
@@ -234,7 +234,7 @@ fn of_those_that_reach_nobody_one_alone_has_all() {
     assert!(world.store.rows.iter().all(|row| row.owner == "a"));
 }
 
-/// Which of them has a slot makes no difference; posts come by the third.
+/// Moving their shards would not help; posts can go through the third instance.
 #[test]
 fn two_that_do_not_reach_each_other_keep_their_slots_and_say_so() {
     let mut world = World::of(43, &["a", "b", "c"]);
@@ -250,7 +250,7 @@ fn two_that_do_not_reach_each_other_keep_their_slots_and_say_so() {
     assert_eq!([0, 1, 2].map(|name: usize| world.nodes[name].owners.misses_owner()), [true, true, false]);
 }
 
-/// Else all would be not ready at once, and posts would get nowhere.
+/// Otherwise all would be unready at once, and posts would get nowhere.
 #[test]
 fn while_nobody_reaches_all_owners_each_stays_ready() {
     let mut world = World::of(47, &["a", "b", "c", "d"]);
@@ -284,8 +284,8 @@ fn of_two_with_one_name_none_takes_a_slot_from_the_other() {
     assert_eq!((came_later(&world), world.is_settled()), (vec![false], true), "the one before was killed");
 }
 
-/// As where systemd starts a later one again and again: each ends, and none may have what is free, however slowly the one before
-/// beats.
+/// As when systemd restarts a later process again and again: each one ends, and none may take free shards, however
+/// rarely the earlier process sends heartbeats.
 #[test]
 fn a_later_process_of_a_name_keeps_no_slot_from_the_one_before() {
     let mut world = World::of(11, &["a"]);
@@ -301,7 +301,7 @@ fn a_later_process_of_a_name_keeps_no_slot_from_the_one_before() {
     assert_eq!(world.nodes[0].owners.terms().get(&3), Some(&3));
 }
 
-/// As where a store was set back.
+/// As after a store was restored from a backup.
 #[test]
 fn a_slot_that_another_has_under_the_same_term_is_dropped() {
     let mut world = World::of(13, &["a"]);
@@ -325,7 +325,7 @@ fn a_slot_that_was_lost_is_dropped_once() {
     assert_eq!(node.owners.whose()[&3], Whose::Nobody);
     assert!(!node.owners.lost(3, term));
     assert_eq!(node.owners.beat(world.store.beat("a", here(), 0, &mut 1)), []);
-    // `z` has no row, so nobody beats for it.
+    // `z` has no row, so it sends no heartbeats.
     world.rounds(GONE as usize + 2);
     assert_eq!(world.store.rows[3].owner, "a");
 }
@@ -346,7 +346,7 @@ fn what_its_place_can_not_open_goes_to_another_and_stays_there() {
     let before = (world.takes, world.hand_overs);
     world.rounds(600);
     assert_eq!((world.takes, world.hand_overs), before, "it is thrown to and fro");
-    // Where none is left but those that could not, they try again.
+    // If only instances that could not open it are left, they try again.
     world.nodes.pop();
     world.store.instances.remove("c");
     world.rounds(30);
@@ -358,7 +358,7 @@ fn what_its_place_can_not_open_goes_to_another_and_stays_there() {
     world.broken.remove(&(5, "b".into()));
     world.rounds(300);
     assert_eq!(row(&world, 5).owner, "b");
-    // An instance that starts again has forgotten it, and hears of it once more.
+    // A restarted instance does not remember that it failed, and finds out once more.
     world.nodes[0].owners = Owners::new("a", None);
     world.rounds(200);
     let before = (world.takes, world.hand_overs);

@@ -1,4 +1,4 @@
-//! Owners that answer, stall or break off, each at an address of its own.
+//! Owners that answer, stall or break off, each at its own address.
 
 use super::*;
 use crate::intake::connections::Handler;
@@ -11,10 +11,10 @@ use std::sync::Mutex;
 use tokio::io::{AsyncReadExt, AsyncWriteExt};
 use tokio::net::TcpStream;
 
-/// Slot, term, sender, and the part.
+/// Shard, term, sender, encoding and body.
 pub type Came = (u16, u64, String, Encoding, Bytes);
 
-/// The slots of an instance: what came, and what is said of it.
+/// The shards of an instance: what arrived, and how it is answered.
 #[derive(Default)]
 pub struct Slots {
     pub came: Mutex<Vec<Came>>,
@@ -45,7 +45,7 @@ impl Here for Slots {
 }
 
 impl Slots {
-    /// Which take so long for each post.
+    /// Shards that take this long for each post.
     pub fn slow(takes: Duration) -> Slots {
         Slots { takes, ..Slots::default() }
     }
@@ -55,7 +55,7 @@ impl Slots {
     }
 }
 
-/// Who answers questions of operators by these.
+/// Answers questions of operators with their own words.
 pub struct Echoes;
 
 impl Answers for Echoes {
@@ -64,7 +64,7 @@ impl Answers for Echoes {
     }
 }
 
-/// An instance with an address of its own.
+/// An instance with its own address.
 pub struct Peer {
     pub cluster: Arc<Cluster>,
     pub slots: Arc<Slots>,
@@ -76,7 +76,7 @@ pub fn secret(text: &str) -> Secret {
     Secret::new(text).unwrap()
 }
 
-/// An instance that has slot 3, or not.
+/// An instance that owns shard 3, or not.
 pub fn internal(slots: Slots, whose: Whose) -> (Arc<Cluster>, Arc<Slots>, Arc<Internal<Slots>>) {
     let (cluster, slots) = (Cluster::new("peer", None), Arc::new(slots));
     cluster.knows(&[(3, whose)]);
@@ -118,7 +118,7 @@ pub fn there(address: &str) -> Whose {
     Whose::There { name: "peer".into(), address: address.into(), term: 5 }
 }
 
-/// Who gets posts of senders.
+/// The instance that senders post to.
 pub fn receiver(whose: Whose, secret: Secret) -> Arc<Forward<Slots>> {
     let cluster = Cluster::new("receiver", None);
     cluster.knows(&[(3, whose)]);
@@ -131,7 +131,7 @@ pub async fn posted(forward: &Forward<Slots>, text: &str) -> Outcome {
     forward.post(3, "web-1", Original { encoding, body }).await
 }
 
-/// Somebody at an address who does as told with each request that came, and how many connections had one.
+/// A server that treats each request as told, and the number of its connections that had one.
 pub async fn strange(says: &'static [u8], stays: bool) -> (String, Arc<AtomicUsize>) {
     let listener = TcpListener::bind("127.0.0.1:0").await.unwrap();
     let address = listener.local_addr().unwrap().to_string();
@@ -155,7 +155,7 @@ pub async fn strange(says: &'static [u8], stays: bool) -> (String, Arc<AtomicUsi
     (address, count)
 }
 
-/// A way to an address on which so many bytes come in a tenth of a second.
+/// A proxy that passes on this many bytes in a tenth of a second.
 pub async fn slow_way(to: String, bytes: usize) -> String {
     let listener = TcpListener::bind("127.0.0.1:0").await.unwrap();
     let address = listener.local_addr().unwrap().to_string();
@@ -176,7 +176,7 @@ pub async fn slow_way(to: String, bytes: usize) -> String {
     address
 }
 
-/// Answers the first post of each connection, and ends it: at once, or once another post has come.
+/// Answers the first post of each connection and closes it: at once, or after another post has arrived.
 pub async fn ends_after_one(at_once: bool) -> (String, Arc<AtomicUsize>) {
     let taken = serde_json::to_string(&Outcome::taken(0)).unwrap();
     let head = format!("HTTP/1.1 200 OK\r\ntotxegun-says: answer\r\ncontent-length: {}\r\n\r\n", taken.len());

@@ -1,4 +1,4 @@
-//! Posts for instances that are not reached.
+//! Posts for instances that can't be reached.
 
 use super::*;
 use crate::cluster::terms::{Instance, Seen, Told};
@@ -16,7 +16,7 @@ fn other(name: &str, address: &str) -> Instance {
     }
 }
 
-/// Else each post would find out by itself, for ten seconds.
+/// Otherwise each post would find out by itself, for ten seconds.
 #[tokio::test]
 async fn who_is_not_reached_is_left_after_two_looks_and_then_asked_nothing_until_it_is() {
     let ((stalls, count), peer) = (strange(b"", true).await, Peer::here().await);
@@ -42,7 +42,7 @@ async fn who_is_not_reached_is_left_after_two_looks_and_then_asked_nothing_until
     assert_eq!(told.reached, Some(both.into()), "slots don't move so soon");
 }
 
-/// Else of two that are too busy to answer each other the one with the first name would get the slots of the other, too.
+/// Otherwise, of two instances too busy to answer each other, the one with the first name would get all shards.
 #[tokio::test]
 async fn who_is_too_busy_to_answer_itself_says_nothing_of_the_others() {
     let ((stalls, _), peer) = (strange(b"", true).await, Peer::here().await);

@@ -1,4 +1,4 @@
-//! How many posts are on their way at once, and which of them wait for which.
+//! How many posts are in flight at once, and which of them wait for which.
 
 use super::*;
 use crate::cluster::terms::{Instance, Seen};
@@ -14,7 +14,7 @@ fn all_post(forward: &Receiver, count: usize, body: &Bytes) -> Vec<JoinHandle<Ou
     (0..count).map(post).collect()
 }
 
-/// Who gets posts of senders, and knows so many others.
+/// The instance that senders post to, which knows this many others.
 fn among(others: usize, whose: Whose) -> Receiver {
     let forward = receiver(whose, secret("of all"));
     let instance = |number: usize| Instance {
@@ -31,7 +31,7 @@ fn among(others: usize, whose: Whose) -> Receiver {
     forward
 }
 
-/// Else further ones would wait until others' connections idle.
+/// Otherwise further posts would wait until others' connections are idle.
 #[tokio::test]
 async fn all_others_have_no_more_connections_than_there_are() {
     for others in [5, 9] {
@@ -47,7 +47,7 @@ async fn all_others_have_no_more_connections_than_there_are() {
     }
 }
 
-/// Else posts of a few bytes would wait for minutes for an instance that is brought megabytes over a slow way.
+/// Otherwise posts of a few bytes would wait minutes for an instance that receives megabytes over a slow line.
 #[tokio::test]
 async fn long_parts_that_come_slowly_hold_up_no_others() {
     let peer = Peer::here().await;

@@ -1,4 +1,4 @@
-//! Instances that speak TLS with each other.
+//! Instances that talk to each other by TLS.
 
 use super::peers::{internal, posted, secret, there, Slots};
 use super::*;
@@ -6,7 +6,7 @@ use crate::intake::connections::serve_over;
 use crate::intake::Limits;
 use crate::tls::Tls;
 
-/// An owner that speaks TLS with this certificate and these roots, and its port.
+/// An owner with this certificate and these roots, and its port.
 async fn over_tls(tls: Arc<Tls>) -> (u16, Arc<Slots>, tokio::sync::watch::Sender<bool>) {
     let listener = TcpListener::bind("127.0.0.1:0").await.unwrap();
     let port = listener.local_addr().unwrap().port();
@@ -23,7 +23,7 @@ fn asks_over(tls: Option<Arc<Tls>>, port: u16, of: &str) -> Forward<Slots> {
     Forward::new(cluster, secret(of), tls)
 }
 
-/// `server` and `other` each have a root of their own; `both` has the two.
+/// `server` and `other` each have a root of their own; `both` trusts the two.
 fn peers_folder() -> tempfile::TempDir {
     let at = crate::tls::tests::folder();
     crate::tls::tests::server(at.path());
@@ -48,7 +48,7 @@ async fn over_tls_both_sides_look_at_what_the_other_shows() {
     let ours = peer("server", "ca");
     let forward = asks_over(Some(ours.clone()), port, "of all");
     assert_eq!(posted(&forward, "{}").await, Outcome::taken(0));
-    // Who believes the owner, and is not believed by it; and the other way.
+    // A peer that trusts the owner and is not trusted by it; and the reverse.
     for (tls, why) in
         [(Some(peer("other", "both")), "another root has signed what it shows"), (None, "no TLS")]
     {
@@ -58,7 +58,7 @@ async fn over_tls_both_sides_look_at_what_the_other_shows() {
     let (elsewhere, strange, _stop) = over_tls(peer("other", "both")).await;
     let forward = asks_over(Some(ours.clone()), elsewhere, "of all");
     assert_eq!(posted(&forward, "{}").await, Reason::OwnerSilent.into(), "it is not believed");
-    // The secret is asked for all the same.
+    // The secret is checked all the same.
     let forward = asks_over(Some(ours), port, "another");
     assert_eq!(posted(&forward, "{}").await, Reason::OwnerSilent.into());
     assert_eq!((slots.count(), strange.count()), (1, 0));
@@ -88,7 +88,7 @@ async fn files_that_change_count_for_connections_that_are_kept() {
             }
         }
     };
-    // The root of what is shown is taken away, and then another certificate is shown.
+    // First the root of the shown certificate is removed, and then another certificate is shown.
     copy("ca.pem", "owners.pem");
     within(Reason::OwnerSilent.into()).await;
     for end in ["pem", "key"] {
@@ -97,7 +97,7 @@ async fn files_that_change_count_for_connections_that_are_kept() {
     within(Outcome::taken(0)).await;
 }
 
-/// A connection that is kept is made by nobody anew: so it would last for as long as posts come.
+/// A connection that is in use is never made anew, so without this it would last as long as posts arrive.
 #[tokio::test(flavor = "multi_thread", worker_threads = 2)]
 async fn a_connection_that_is_kept_ends_with_its_certificate() {
     let at = peers_folder();

@@ -1,4 +1,4 @@
-//! Instances, and the store that they share. A round is half a second.
+//! Simulated instances and the store that they share. A round is half a second.
 
 use super::*;
 use crate::cluster::terms::{Instance, Told};
@@ -25,14 +25,15 @@ impl Random {
 pub struct Store {
     pub rows: Vec<Row>,
     pub instances: BTreeMap<String, (u64, Option<Stay>, Told)>,
-    /// How many processes have begun under a name, and how often earlier ones have beaten since.
+    /// How many processes have started under a name, and how often earlier ones have sent heartbeats since.
     lives: BTreeMap<String, (u64, u64)>,
-    /// Who was the owner under which term.
+    /// Which instance was the owner under which term.
     pub terms: HashMap<(u16, u64), usize>,
 }
 
 impl Store {
-    /// Of an instance whose clock is so many microseconds ahead, and of which the process has this number; 0 of one that begins.
+    /// `clock` is how many microseconds the instance's clock is ahead; `life` is the number of its process, 0 for a new
+    /// one.
     pub fn beat(&mut self, name: &str, (stay, told): (Stay, Told), clock: i64, life: &mut u64) -> Seen {
         let lives = self.lives.entry(name.into()).or_default();
         lives.0 += u64::from(*life == 0);
@@ -75,15 +76,15 @@ impl Store {
 pub struct Node {
     pub name: String,
     pub owners: Owners,
-    /// What is under way, and comes in any order.
+    /// Steps in progress, which finish in any order.
     pub under_way: Vec<Step>,
     pub opening: Vec<(u16, u64)>,
     pub stands_for: u64,
-    /// So many microseconds is its clock ahead.
+    /// How many microseconds its clock is ahead.
     pub clock: i64,
-    /// Which process of its name it is; 0 before its first beat.
+    /// The number of its process; 0 before its first heartbeat.
     pub life: u64,
-    /// It beats, and does nothing else.
+    /// It sends heartbeats and does nothing else.
     pub is_stuck: bool,
 }
 
@@ -91,12 +92,12 @@ pub struct World {
     pub random: Random,
     pub store: Store,
     pub nodes: Vec<Node>,
-    /// Whether answers are lost, openings fail, and so on.
+    /// Whether answers get lost, openings fail, and so on.
     pub is_rough: bool,
-    /// Slots that an instance can't open.
+    /// Shards that an instance can't open.
     pub broken: BTreeSet<(u16, String)>,
     pub stalls_for: u64,
-    /// Who does not reach whom.
+    /// Which instance can't reach which.
     pub cut: BTreeSet<(String, String)>,
     pub takes: usize,
     pub hand_overs: usize,
@@ -134,7 +135,8 @@ impl World {
         });
     }
 
-    /// Half a second: each that does not stand still beats, some of what is under way is done, in any order.
+    /// One round: each instance that does not stand still sends a heartbeat and finishes some of its steps, in any
+    /// order.
     pub fn round(&mut self) {
         let first = self.random.below(self.nodes.len() as u64) as usize;
         for place in 0..self.nodes.len() {
@@ -173,7 +175,7 @@ impl World {
         }
     }
 
-    /// Those that this one reaches.
+    /// The instances that this one reaches.
     fn reached(&self, node: usize) -> BTreeSet<String> {
         let name = &self.nodes[node].name;
         let others = self.nodes.iter().filter(|one| one.name != *name && one.stands_for == 0);
@@ -181,7 +183,7 @@ impl World {
         names.filter(|other| !self.cut.contains(&(name.clone(), other.clone()))).collect()
     }
 
-    /// From now on none of these reaches one of those, or is reached by it.
+    /// From now on none of these reaches one of those, or the reverse.
     pub fn cut(&mut self, these: &[&str], those: &[&str]) {
         for (one, other) in these.iter().flat_map(|one| those.iter().map(move |other| (*one, *other))) {
             self.cut.insert((one.into(), other.into()));
@@ -234,7 +236,7 @@ impl World {
         }
     }
 
-    /// Two never serve a slot under one term, and who serves it has the term of its own taking.
+    /// Two instances never serve a shard under one term, and a server has the term of its own takeover.
     fn look(&self) {
         for (place, node) in self.nodes.iter().enumerate() {
             for (slot, whose) in node.owners.whose() {
@@ -249,7 +251,7 @@ impl World {
         (0..count).for_each(|_| self.round());
     }
 
-    /// Each slot is served by its place alone, and all know it.
+    /// Each shard is served only where it belongs, and all instances know it.
     pub fn is_settled(&self) -> bool {
         let slots: Vec<u16> = (0..SLOTS).collect();
         let names: Vec<&str> = self.nodes.iter().map(|node| node.name.as_str()).collect();
@@ -272,14 +274,14 @@ impl World {
         })
     }
 
-    /// Anything may happen to anybody.
+    /// Disturbs a random instance.
     pub fn disturb(&mut self) {
         let node = self.random.below(self.nodes.len() as u64) as usize;
         match self.random.below(8) {
             0 => self.nodes[node].stands_for = self.random.below(40),
             1 => self.stalls_for = self.random.below(60),
             2 => {
-                // It is killed, and starts again under its name; what it had sent is executed or not.
+                // It is killed and starts again under its name; calls that it had sent are carried out or not.
                 let one = self.nodes.remove(node);
                 for Step { act, slot, term } in one.under_way {
                     if let (Act::Release | Act::HandOver, true) = (act, self.random.once_in(2)) {
