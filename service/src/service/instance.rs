@@ -1,4 +1,4 @@
-//! One of several instances that share a store: its slots come and go, as the cluster decides.
+//! One of several instances that share a store. `cluster/beats` has it open and close shards (`terms::Units`).
 
 use super::parts::limits;
 use super::peers::Peers;
@@ -25,36 +25,36 @@ use std::sync::{Arc, Mutex};
 use tokio::sync::watch;
 use tokio::task::JoinHandle;
 
-/// How many connections other instances have: for posts, and for what operators ask.
+/// The most connections of other instances: for posts, and for operators' questions.
 const PEERS: usize = forward::CONNECTIONS + 32;
 
-/// What is shared with other instances.
+/// The settings for a shared store.
 pub struct OfStore {
     pub database: Server,
     pub copies: Copies,
-    /// This instance's name, which no other has.
+    /// This instance's name, which no other one may use.
     pub instance: String,
-    /// Where others bring posts.
+    /// The address to which other instances send posts.
     pub peer: String,
-    /// What they show each other there, if they speak TLS.
+    /// The certificates that instances show each other, if they use TLS.
     pub peer_tls: Option<tls::Files>,
-    /// Nobody else reaches their network.
+    /// Only the instances can reach their network.
     pub peer_plain: bool,
-    /// What the meaning of posts hangs on: all say the same.
+    /// The settings that determine what posts mean; they must be the same on all instances.
     pub reading: String,
 }
 
-/// What takes the posts of slots that are here.
+/// Takes the posts for shards that are open here.
 type Here = Intake<Reported<Slot>>;
 
-/// The store, and what is known of the others.
+/// The store, and what is known of the other instances.
 pub(super) struct Joining {
     pub store: Arc<PostgresStore>,
     pub cluster: Arc<Cluster>,
     pub forward: Arc<Forward<Here>>,
     secret: Secret,
     peers: Peers,
-    /// Of who is shown the cluster.
+    /// None after `others` was called.
     metrics: Option<Box<OfCluster>>,
 }
 
@@ -81,7 +81,7 @@ impl Joining {
         })
     }
 
-    /// How operators reach the other instances; once.
+    /// How operators reach the other instances. Returns it only once.
     pub fn others(&mut self, of: &OfStore) -> Option<Others> {
         Some(Others {
             metrics: *self.metrics.take()?,
@@ -93,7 +93,7 @@ impl Joining {
         })
     }
 
-    /// Takes slots from now on.
+    /// Starts to take over shards.
     pub fn join(
         self,
         settings: &Settings,
@@ -125,7 +125,7 @@ impl Joining {
     }
 }
 
-/// Where operators of other instances' machines ask this one, of its address of TCP; empty if they can't.
+/// The address at which operators on other machines reach this instance's admin listener; empty if they can't.
 fn operate_for_others(operate: &str, is_local: bool, peer: &str) -> String {
     let host = |address: &str| address.rsplit_once(':').map(|(host, _)| host.to_string());
     let number = |host: &str| host.trim_matches(['[', ']']).parse::<IpAddr>().ok();
@@ -140,7 +140,7 @@ fn operate_for_others(operate: &str, is_local: bool, peer: &str) -> String {
     }
 }
 
-/// This instance among the others.
+/// This instance among the others, running.
 pub(super) struct Joined {
     cluster: Arc<Cluster>,
     instance: Arc<Instance>,
@@ -152,8 +152,8 @@ pub(super) struct Joined {
 }
 
 impl Joined {
-    /// A slot has ended alone: its writes found another owner, or it has failed, and another instance may have what this one
-    /// lacks. Where it was taken anew meanwhile that goes on.
+    /// A shard has ended alone: its writes found another owner, or it failed, and another instance may be able to open
+    /// it. If we have taken it again in the meantime, it goes on.
     pub fn ended(&self, slot: u16, term: Option<u64>, end: &End) {
         let Some(drive) = self.instance.forget(slot, term) else { return };
         self.instance.units.lose(slot);
@@ -163,10 +163,10 @@ impl Joined {
         }
     }
 
-    /// All slots are handed over; posts for them go to their new owners meanwhile.
+    /// Hands over all shards; posts for them go to their new owners meanwhile.
     pub async fn leave(&mut self) {
         self.stop_beats.send_replace(true);
-        let _ = (&mut self.beats).await; // it waits for a minute at most
+        let _ = (&mut self.beats).await; // takes a minute at most
         self.stop_peer.send_replace(true);
     }
 }
@@ -179,7 +179,7 @@ impl Drop for Joined {
     }
 }
 
-/// The slots of this process, as the cluster has them opened and ended.
+/// The shards of this process, which the cluster opens and closes.
 struct Instance {
     units: Units,
     store: Arc<PostgresStore>,
@@ -187,7 +187,7 @@ struct Instance {
 }
 
 impl Instance {
-    /// Nothing of a slot is written any more that is open under this term.
+    /// Stops all writes to a shard that is open under this term.
     fn forget(&self, slot: u16, term: Option<u64>) -> Option<Arc<PostgresDrive>> {
         let mut open = locked(&self.open);
         open.get(&slot).filter(|drive| Some(drive.term()) == term)?;
@@ -250,7 +250,7 @@ impl terms::Units for Instance {
     }
 }
 
-/// Of a slot whose files can't be read.
+/// What an operator can do if the files of a shard can't be read.
 fn to_do(slot: u16) -> String {
     format!(
         "If the store has lost rows of slot {slot}, put them back; or end all instances, and have it begin with nothing: `totxegun store \
@@ -258,7 +258,7 @@ fn to_do(slot: u16) -> String {
     )
 }
 
-/// Where posts go, by the store's slots.
+/// Routes posts to the store's shards.
 pub(super) fn slots(joining: &Joining, settings: &Settings) -> Arc<Slots<Reported<Slot>>> {
     let reading = Arc::new(settings.reading.clone());
     let resources = crate::otlp::Resources::new(joining.store.cluster.slots, reading);

@@ -1,5 +1,5 @@
-//! What a service without `--store` has in a folder. An instance delivers nothing of it, so it does not start there before an operator
-//! has said what becomes of it.
+//! Finds what a service without `--store` has left in the data folder. An instance would never deliver it, so it
+//! refuses to start until an operator has decided what to do with it.
 
 use super::Ended;
 use crate::files::{Folder, FolderFault};
@@ -7,7 +7,7 @@ use anyhow::anyhow;
 use std::ffi::OsStr;
 use std::path::Path;
 
-/// Passes if there is nothing, or a store has it. `store` is where the instance has its slots.
+/// Passes if there is nothing, or a store has it. `store` is the address of this instance's store.
 pub(super) fn look_at(data: &Path, store: &str) -> Result<(), Ended> {
     if !is_made(data) {
         return Ok(());
@@ -26,7 +26,7 @@ pub(super) fn look_at(data: &Path, store: &str) -> Result<(), Ended> {
     Ok(())
 }
 
-/// Whether there is something of a service's folder. What else an instance has there is its own.
+/// Whether the folder has anything of a service; other files there belong to the instance itself.
 pub(crate) fn is_made(data: &Path) -> bool {
     has(data, |_| true)
 }
@@ -36,7 +36,7 @@ fn has(data: &Path, wanted: impl Fn(&OsStr) -> bool) -> bool {
     entries.map(|entry| entry.file_name()).any(|name| is_kept(&name) && wanted(&name))
 }
 
-/// Whether a start reads what is so named in a folder.
+/// Whether a start reads a file of this name.
 pub(crate) fn is_kept(name: &OsStr) -> bool {
     name == "version" || name == "dead" || name.as_encoded_bytes().starts_with(b"slot-")
 }
@@ -52,7 +52,7 @@ mod tests {
         Folder::open(data, Durability::Process).unwrap()
     }
 
-    /// What a start there is refused by.
+    /// The error of a start there, if any.
     fn refusal(data: &Path) -> String {
         look_at(data, STORE).err().map(|ended| ended.to_string()).unwrap_or_default()
     }
@@ -72,7 +72,7 @@ mod tests {
         assert!(!refusal(&data).is_empty(), "of another version");
     }
 
-    /// Else it stays there, and nobody is told.
+    /// Otherwise the files stay there, and no operator learns of them.
     #[test]
     fn what_a_service_has_kept_in_a_folder_is_named_until_a_store_has_it() {
         let place = tempfile::tempdir().unwrap();

@@ -1,6 +1,7 @@
-//! The service as one process: opens all parts, runs them, and ends them.
+//! The service as one process: opens all parts, runs them, and ends them. `command/serve` calls `run`.
 //!
-//! Any part that ends ends all, with its cause: what is on disk is whole at any time, and the next start reads it.
+//! If any part ends, the process ends with its cause; only a shard of a store ends alone. The files are valid at any
+//! time, and the next start reads them.
 
 mod instance;
 mod left;
@@ -46,23 +47,23 @@ use std::time::Duration;
 use supervisor::Supervisor;
 use tokio::signal::unix::{signal, Signal, SignalKind};
 
-/// What `totxegun serve` was told.
+/// The settings of `totxegun serve`.
 pub struct Settings {
     pub data: PathBuf,
-    /// None where the folder has all.
+    /// None if a folder keeps everything.
     pub store: Option<OfStore>,
     pub listen: String,
     /// Where senders call gRPC, if they may.
     pub listen_grpc: Option<String>,
     pub operate: Operate,
-    /// TLS and names at the senders' addresses.
+    /// TLS and host names at the senders' addresses.
     pub door: Door,
-    /// Others may reach these addresses although strangers can post there.
+    /// Other machines may reach these addresses although strangers could post there: a proxy is in front.
     pub behind_proxy: bool,
     pub sink: Address,
     /// How long the sink keeps what it has.
     pub retention: Retention,
-    /// It may be another than the folder has.
+    /// The sink may be another one than the folder remembers.
     pub new_sink: bool,
     pub durability: Durability,
     pub every: Duration,
@@ -70,21 +71,21 @@ pub struct Settings {
     pub reading: Reading,
     /// How far from the service's clock points may end.
     pub clock: Clock,
-    /// What a forwarded point never covers two of.
+    /// The window (hour or day) that a forwarded point never leaves.
     pub across: Across,
     pub runs: runs::Options,
     pub live: Live,
-    /// Reads them anew, and says what can't change while the service runs. None if they can't be used.
+    /// Reads the live settings again and logs which changes need a restart. None if the new ones can't be used.
     pub reload: Box<dyn Fn() -> Option<Live> + Send + Sync>,
-    /// Who gets points that are outside the profile.
+    /// Where points outside the profile are forwarded.
     pub pass: Option<Arc<Pass>>,
     pub max_bytes: usize,
-    /// How long the files of late data may be together.
+    /// The most bytes of all files of late data together.
     pub max_late: u64,
     pub max_connections: usize,
-    /// How many serve senders.
+    /// How many threads serve senders.
     pub threads: usize,
-    /// So many fit.
+    /// How many series fit.
     pub max_series: usize,
     /// What time the samples of `/totals` have.
     pub totals_times: Times,
@@ -94,13 +95,13 @@ pub struct Settings {
 /// Settings that may change while the service runs.
 #[derive(Clone, Default)]
 pub struct Live {
-    /// What a sender may have that has no share of its own.
+    /// The quota of a sender without one of its own.
     pub of_each: Share,
     pub report_options: ReportOptions,
 }
 
 impl Settings {
-    /// Where all is kept.
+    /// The folder or database that keeps everything.
     fn place(&self) -> String {
         let folder = || self.data.display().to_string();
         self.store.as_ref().map_or_else(folder, |of| of.database.to_string())
@@ -111,23 +112,23 @@ impl Settings {
     }
 }
 
-/// Why the service did not start, or ended without being asked to; and why a command did not do what it was told.
+/// Why the service did not start, or ended without being told to; also why a command failed.
 #[derive(Debug, thiserror::Error)]
 pub enum Ended {
-    /// The disk, or what is on it.
+    /// A disk fault, or damaged files.
     #[error("{0}")]
     Disk(#[from] Fault),
-    /// The same of what does not keep the service from starting.
+    /// Damaged files that do not keep the service from starting.
     #[error("{0}")]
     Changed(String),
     /// What was taken of the book can't be written.
     #[error("{0}")]
     NoMemory(String),
-    /// Options that contradict each other, or by which strangers could post at an address, or the name of another instance: no later
-    /// try does better.
+    /// Options that contradict each other or would let strangers post, or another instance's name: trying again does
+    /// not help.
     #[error("{0:#}")]
     Line(anyhow::Error),
-    /// With what is wrong and what to do.
+    /// The text says what is wrong and what to do.
     #[error("{0:#}")]
     Other(#[from] anyhow::Error),
 }
@@ -153,10 +154,10 @@ impl From<FolderFault> for Ended {
     }
 }
 
-/// Runs the service until it is told to end: then all that was taken is in the outbox, or in the journal.
+/// Runs the service until it is told to end; by then everything it took is in the outbox or in the journal.
 pub async fn run(settings: Settings) -> Result<(), Ended> {
     let mut signals = Signals::new()?;
-    // One that comes during the start is handled after it.
+    // A SIGHUP during the start is handled after it.
     let hangup = received(SignalKind::hangup())?;
     let supervisor = Supervisor::from_environment();
     let senders = Senders::bind(&settings).await?;
@@ -192,7 +193,7 @@ pub async fn run(settings: Settings) -> Result<(), Ended> {
     running.stop().await
 }
 
-/// Reads the settings anew at each SIGHUP. Their file may be on a disk that stalls: nothing waits for it.
+/// Reads the settings again at each SIGHUP, on another thread, because their file may be on a disk that stalls.
 async fn reload(mut hangup: Signal, settings: Arc<Settings>, running: Lively) {
     while hangup.recv().await.is_some() {
         let settings = settings.clone();
@@ -211,7 +212,7 @@ async fn of_folder(settings: &Settings, senders: Senders, readers: Readers) -> R
     Ok((Parts::of_folder(folder, settings)?, senders, operators))
 }
 
-/// None if it was told to end meanwhile.
+/// None if it was told to end in the meantime.
 async fn of_store(
     settings: &Settings,
     of: &OfStore,
@@ -230,7 +231,7 @@ async fn of_store(
             let joining = Joining::new(of, peers, store, settings)?;
             let store = joining.store.clone();
             let parts = Parts::of_store(joining, settings)?;
-            // An instance whose sink is refused says nothing to the others.
+            // After the sink was checked: an instance whose sink is refused must not set rules for the others.
             store.agree(&of.reading).context("the store can't be used")?;
             Ok(Some((parts, senders, operators)))
         }
@@ -256,7 +257,7 @@ impl Signals {
         })
     }
 
-    /// Returns once one has come.
+    /// Returns after one of them has arrived.
     async fn ending(&mut self) {
         let name = tokio::select! {
             _ = self.terminate.recv() => "SIGTERM",

@@ -1,4 +1,4 @@
-//! Where operators come to.
+//! The listeners for operators: TCP for reading, a Unix socket for commands.
 
 use super::senders::{bind, is_local};
 use super::{Ended, Settings};
@@ -13,21 +13,21 @@ use std::sync::Arc;
 use tokio::net::{TcpListener, UnixListener};
 use tokio::sync::watch;
 
-/// How many connections of readers there are at a time.
+/// The most connections to the TCP address.
 const READERS: usize = 8;
 
-/// The operators' addresses, as they are given.
+/// The operators' addresses, as they are configured.
 #[derive(Clone)]
 pub struct Operate {
-    /// Where all may read.
+    /// Where everybody may read.
     pub tcp: Option<String>,
-    /// Where orders are taken.
+    /// Where commands are accepted.
     pub socket: PathBuf,
-    /// Whose orders are taken over TCP too.
+    /// Whose commands are accepted over TCP too.
     pub tokens: Option<Arc<Reloaded<Tokens>>>,
 }
 
-/// The address of TCP, before the folder is this process' own.
+/// The TCP listener, opened before the folder is locked.
 pub(super) struct Readers(Option<Arc<TcpListener>>);
 
 #[derive(Clone)]
@@ -52,7 +52,7 @@ impl Readers {
         Ok(Readers(Some(Arc::new(listener))))
     }
 
-    /// With the socket, which may be in the folder: nobody else has it.
+    /// Adds the Unix socket. It may be in the folder, so the folder must be locked by now.
     pub async fn and_socket(self, operate: &Operate) -> Result<Operators, Ended> {
         Ok(Operators {
             tcp: self.0,
@@ -73,25 +73,25 @@ async fn bind_socket(path: &Path) -> Result<UnixListener, Ended> {
 }
 
 impl Operators {
-    /// Where each is asked.
+    /// The addresses, for the log.
     pub fn shown(&self) -> String {
         let tcp = self.tcp.iter().map(|tcp| format!("read at {}, and ", tcp.shown()));
         format!("{}order at {}", tcp.collect::<String>(), self.socket.shown())
     }
 
-    /// Whether no other machine reaches them.
+    /// Whether no other machine can reach the addresses.
     pub fn is_local(&self) -> bool {
         self.tcp.as_ref().is_none_or(|tcp| is_local(tcp))
     }
 
-    /// Until both have ended.
+    /// Runs until both listeners have ended.
     pub async fn serve(self, limits: Limits, desk: Arc<Desk>, stop: watch::Receiver<bool>) {
         let at_tcp =
             AtTcp { desk: desk.clone(), orders_at: self.socket.shown(), tokens: self.tokens.clone() };
         self.serve_by(limits, Arc::new(at_tcp), desk, stop).await;
     }
 
-    /// The same, by others.
+    /// The same with other handlers.
     pub async fn serve_by<T: Handler, H: Handler>(
         self,
         limits: Limits,

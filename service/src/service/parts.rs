@@ -1,4 +1,4 @@
-//! Opens all parts.
+//! Opens all parts of the service and connects them.
 
 use super::instance::Joining;
 use super::operators::Operators;
@@ -22,14 +22,14 @@ use std::sync::Arc;
 use std::time::{Duration, Instant};
 use tokio::sync::watch;
 
-/// How long a head may take, and how long a connection is kept between requests.
+/// How long a request's head may take, and how long an idle connection is kept.
 const HEAD: Duration = Duration::from_secs(60);
 const IDLE: Duration = Duration::from_secs(600);
 
-/// How many connections operators have.
+/// The most connections of operators.
 const OPERATORS: usize = 64;
 
-/// All parts, open and not running yet.
+/// All parts, open but not running.
 pub(super) struct Parts {
     of: Of,
     shared: Arc<Shared>,
@@ -39,16 +39,16 @@ pub(super) struct Parts {
     threads: Arc<Threads>,
 }
 
-/// Where slots are kept.
+/// What keeps the shards.
 enum Of {
-    /// A folder, which has one.
+    /// A folder, with its single shard.
     Folder(Opened),
-    /// A store, of which there is none yet.
+    /// A store, of which this instance owns no shard yet.
     Store(Box<Joining>),
 }
 
 impl Parts {
-    /// Opens the files in place: nothing else runs yet. They come before the sink, which may be told that it is a new one.
+    /// Opens a folder's files before anything else runs, and before the sink, which may be declared a new one.
     pub fn of_folder(folder: Arc<Folder>, settings: &Settings) -> Result<Parts, Ended> {
         let shared = shared(settings)?;
         let opened = Files::of_folder(&folder)?.open(1, settings, &shared)?;
@@ -56,13 +56,13 @@ impl Parts {
         Parts::new(Of::Folder(opened), shared, Box::new(place), settings)
     }
 
-    /// The slots of a store are opened once they are taken.
+    /// The shards of a store are opened after takeovers.
     pub fn of_store(joining: Joining, settings: &Settings) -> Result<Parts, Ended> {
         let place = InStore::open(joining.store.clone()).context("the store can't be used")?;
         Parts::new(Of::Store(Box::new(joining)), shared(settings)?, Box::new(place), settings)
     }
 
-    /// With the sink, as this place remembers it.
+    /// Opens the sink as `place` remembers it.
     fn new(
         of: Of,
         shared: Arc<Shared>,
@@ -86,7 +86,7 @@ impl Parts {
         })
     }
 
-    /// Begins all of them, behind a folder's slot.
+    /// Starts all parts; the shard of a folder first.
     pub async fn start(
         self,
         settings: &Arc<Settings>,
@@ -123,7 +123,7 @@ impl Parts {
             }
             Of::Store(joining) => Some(joining),
         };
-        // Of series that are there already.
+        // After the folder's shard, so that the series it knows are counted.
         self.shared.shares.begin(Rules {
             max_series: settings.max_series as u64,
             of_each: settings.live.of_each.into(),

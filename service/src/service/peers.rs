@@ -1,4 +1,4 @@
-//! Where other instances bring posts.
+//! The listener for posts from other instances.
 
 use super::senders::{bind, is_local};
 use super::{Ended, OfStore};
@@ -11,12 +11,12 @@ use tokio::net::TcpListener;
 
 pub(super) struct Peers {
     pub listener: TcpListener,
-    /// None where they speak without.
+    /// None if the instances use no TLS.
     pub tls: Option<Arc<Tls>>,
 }
 
 impl Peers {
-    /// Listens at an address that other machines do not reach, or at which no stranger can read along or post.
+    /// Listens at an address that other machines can't reach, or at which no stranger can read or post.
     pub async fn bind(of: &OfStore, metrics: &Arc<Metrics>) -> Result<Peers, Ended> {
         let listener = bind("--peer", &of.peer).await?;
         if !is_local(&listener) && of.peer_tls.is_none() && !of.peer_plain {
@@ -34,8 +34,8 @@ impl Peers {
     }
 }
 
-/// Passes where others may reach this instance by what they are told. Debian's `/etc/hosts` has a machine's own name at
-/// 127.0.1.1, and at 0.0.0.0 each finds itself.
+/// Passes if other instances can reach this one by this name. Debian's `/etc/hosts` maps a machine's own name to
+/// 127.0.1.1, and 0.0.0.0 leads each machine to itself.
 fn look_at_name(peer: &str, at: IpAddr) -> Result<(), Ended> {
     let host = host(peer);
     let is_meant =

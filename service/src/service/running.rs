@@ -1,4 +1,4 @@
-//! The parts at work, and their end.
+//! The running parts, and the order in which they end.
 
 use super::instance::Joined;
 use super::unit::{cause, End};
@@ -14,14 +14,14 @@ use std::time::Duration;
 use tokio::sync::watch;
 use tokio::task::JoinHandle;
 
-/// How long posts that are under way are waited for at the end, before the last checkpoint. The journal has what was
-/// taken, so what takes longer is left to the next start.
+/// How long to wait for posts under way before the last checkpoint. The journal has what was taken, so the next start
+/// finishes the rest.
 const LAST_POSTS: Duration = Duration::from_secs(2);
 
-/// All that is waited for at the end takes less, beside slots that are handed over.
+/// A limit on all other waits at the end together, except hand-overs.
 const LAST: Duration = Duration::from_secs(30);
 
-/// The parts at work. The intake ends first, then the slots; the others have nothing to end.
+/// The running parts. The intake ends first, then the shards; the others have nothing to finish.
 pub(super) struct Running {
     pub intake: JoinHandle<()>,
     pub operate: JoinHandle<()>,
@@ -29,14 +29,14 @@ pub(super) struct Running {
     pub stop_operate: watch::Sender<bool>,
     pub at_work: Arc<AtWork>,
     pub ends: Ends,
-    /// None where a folder has all.
+    /// None if a folder keeps everything.
     pub joined: Option<Joined>,
     pub live: Lively,
-    /// A post that is under way has its thread until the keepers have ended: who is answered 200 by then is told so.
+    /// Kept until the workers of the shards have ended, so that posts under way can finish and be answered.
     pub _threads: Arc<Threads>,
 }
 
-/// Whom changed settings concern.
+/// The parts that changed settings affect.
 #[derive(Clone)]
 pub(super) struct Lively {
     pub reporter: Arc<Reporter>,
@@ -51,7 +51,8 @@ impl Lively {
 }
 
 impl Running {
-    /// Returns once a part has ended that nobody told to end. A slot that is lost has ended alone, and so has each of a store.
+    /// Returns when the whole process has to end because of a part. A fenced shard ends alone, as does each shard of a
+    /// store.
     pub async fn ended(&mut self) -> Ended {
         loop {
             tokio::select! {
@@ -67,7 +68,7 @@ impl Running {
         }
     }
 
-    /// What ends with a slot: all, where a folder has it and it failed, and else the slot alone.
+    /// The cause to end the process, if a shard's end requires that: a folder's shard has failed.
     fn ended_with(&self, ending: Ending) -> Option<Ended> {
         match (&self.joined, ending.end) {
             (Some(joined), end) => joined.ended(ending.slot, ending.term, &end),
@@ -82,18 +83,18 @@ impl Running {
         self.joined.as_ref().map_or(LAST, |_| LAST + LEAVES_WITHIN)
     }
 
-    /// Nothing more is accepted, what was taken goes into the outbox.
+    /// Stops accepting posts, and brings what was taken into the outbox.
     pub async fn stop(mut self) -> Result<(), Ended> {
         if let Some(joined) = &mut self.joined {
             joined.leave().await;
         }
         self.stop_intake.send_replace(true);
-        let _ = tokio::time::timeout(LAST_POSTS, &mut self.intake).await; // who is slower was not answered
+        let _ = tokio::time::timeout(LAST_POSTS, &mut self.intake).await; // a slower post was not answered
         self.stop_operate.send_replace(true);
-        // With an order that is under way a file would be open, and so not be closed.
+        // A command in progress keeps a file open, which then could not be closed.
         let (_, ended) = tokio::join!(&mut self.operate, self.at_work.stop_all());
         let ended = ended?;
-        // A slot that failed before it was told to end has said so here alone.
+        // A shard that failed before it was told to end reports that only here.
         while let Ok(ending) = self.ends.try_recv() {
             if let Some(why) = self.ended_with(ending) {
                 return Err(why);
@@ -110,7 +111,7 @@ async fn of_joined(joined: &mut Option<Joined>) -> Ended {
     match joined {
         Some(joined) => tokio::select! {
             end = &mut joined.beats => match end {
-                // A start anew does no better.
+                // A restart would not help.
                 Ok(Err(later)) => Ended::Line(later.into()),
                 end => cause("the beats", end.map(|ended| ended.map_err(anyhow::Error::from))),
             },
@@ -139,7 +140,7 @@ mod tests {
     use std::future::Future;
     use std::sync::atomic::{AtomicBool, Ordering::Relaxed};
 
-    /// With one unit, and an intake whose last posts are under way so long.
+    /// With one shard, and an intake whose last posts take as long as this future.
     fn running(
         unit: Unit,
         threads: Arc<Threads>,
@@ -168,7 +169,7 @@ mod tests {
         }
     }
 
-    /// As that of a call whose deadline has passed: no connection waits for it.
+    /// For example a call whose deadline has passed: no connection waits for it.
     #[tokio::test]
     async fn a_post_without_its_sender_goes_on_until_the_keeper_has_ended() {
         let place = tempfile::tempdir().unwrap();
@@ -184,7 +185,7 @@ mod tests {
         assert!(ended.is_ok(), "the post was dropped: {ended:?}");
     }
 
-    /// Else what they are answered from would be open at the end, and so no file of it closed.
+    /// Otherwise the files that the answers come from would be open at the end and could not be closed.
     #[tokio::test]
     async fn operators_who_are_being_answered_are_waited_for() {
         let place = tempfile::tempdir().unwrap();
@@ -202,7 +203,7 @@ mod tests {
         assert!(running.stop().await.is_ok() && answered.load(Relaxed));
     }
 
-    /// While posts that are under way are waited for, or just before the signal came.
+    /// While the last posts are waited for, or just before the signal came.
     #[tokio::test]
     async fn a_fault_of_a_slot_that_nobody_has_told_to_end_yet_is_told() {
         let place = tempfile::tempdir().unwrap();

@@ -1,4 +1,4 @@
-//! Where senders come to.
+//! The listeners for senders: HTTP, and gRPC if it is on.
 
 use super::{Ended, Settings};
 use crate::grpc::Grpc;
@@ -23,13 +23,13 @@ pub(super) async fn bind(option: &str, address: &str) -> Result<TcpListener, End
     })?)
 }
 
-/// Whether no other machine reaches it.
+/// Whether no other machine can reach it.
 pub(super) fn is_local(listener: &TcpListener) -> bool {
     let place = listener.local_addr();
     place.is_ok_and(|place| place.ip().to_canonical().is_loopback())
 }
 
-/// Listens at an address that other machines do not reach, or at which no stranger can read along or post.
+/// Listens at an address that other machines can't reach, or at which no stranger can read or post.
 async fn bind_closed(option: &str, address: &str, settings: &Settings) -> Result<TcpListener, Ended> {
     let listener = bind(option, address).await?;
     match is_local(&listener) || settings.behind_proxy || settings.door.is_closed() {
@@ -42,7 +42,7 @@ async fn bind_closed(option: &str, address: &str, settings: &Settings) -> Result
     }
 }
 
-/// What a stranger could do, and what keeps it from that.
+/// What a stranger could do, and the options that prevent it.
 fn could(has_tls: bool, has_names: bool) -> &'static str {
     match (has_tls, has_names) {
         (false, false) => {
@@ -61,7 +61,7 @@ pub(super) struct Senders {
 }
 
 impl Senders {
-    /// Listens at their addresses, which nobody accepts at yet.
+    /// Opens the listeners; nothing accepts connections yet.
     pub async fn bind(settings: &Settings) -> Result<Senders, Ended> {
         let senders = Arc::new(bind_closed("--listen", &settings.listen, settings).await?);
         let callers = match &settings.listen_grpc {
@@ -77,7 +77,7 @@ impl Senders {
         self.senders.shown() + &callers.collect::<String>()
     }
 
-    /// Until both have ended.
+    /// Runs until both have ended.
     pub async fn serve<T: Taker>(
         self,
         limits: Limits,
@@ -100,7 +100,7 @@ impl Senders {
 mod tests {
     use super::could;
 
-    /// Else who has given the files is asked for them again.
+    /// Otherwise somebody who has given the files would be asked for them again.
     #[test]
     fn what_is_missing_is_asked_for() {
         for (has_tls, has_names, has) in

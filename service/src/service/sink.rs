@@ -1,4 +1,5 @@
-//! The sink is the one that the folder or the store (`in_store`) remembers, or the operator says that it is a new one.
+//! Makes sure that the sink is the one that the folder or the store (`in_store`) remembers, or that the operator has
+//! declared a new one (`--new-sink`).
 
 mod in_store;
 
@@ -11,26 +12,26 @@ pub(super) use in_store::InStore;
 use std::sync::atomic::{AtomicBool, Ordering::Relaxed};
 use std::sync::Arc;
 
-/// Where the sink is remembered.
+/// Where the sink is remembered: in a folder or a store.
 pub(super) trait Remembers: Send + Sync + 'static {
     fn sink(&self) -> Option<KnownSink>;
 
-    /// Durable, or not done, when this returns.
+    /// On success this is durable; on failure it is not done.
     fn set_sink(&self, sink: KnownSink) -> Result<(), Ended>;
 
-    /// The error is why it may not be another one now. A folder is this process' own.
+    /// Fails if the sink may not be replaced now; for a folder it always may.
     fn may_change(&self) -> Result<(), Ended> {
         Ok(())
     }
 
-    /// How many requests wait, where that is known.
+    /// How many requests wait, if that is known.
     fn waiting(&self) -> Option<u64> {
         None
     }
 
     fn refusal(&self, known: &KnownSink, found: &str) -> String;
 
-    /// Of a store, which database it is in.
+    /// For a store, which database it is in.
     fn store_database(&self) -> Option<String> {
         None
     }
@@ -38,20 +39,20 @@ pub(super) trait Remembers: Send + Sync + 'static {
 
 pub(super) struct InFolder {
     pub folder: Arc<Folder>,
-    /// What waits in it goes into the sink.
+    /// The outbox whose requests go into the sink.
     pub outbox: Arc<Outbox>,
 }
 
 struct Remembered {
     place: Box<dyn Remembers>,
-    /// The one of this start, so far without an id.
+    /// The sink of this start, whose id is not known yet.
     now: KnownSink,
-    /// Until it was taken.
+    /// Set until the new sink was recorded.
     takes_new: AtomicBool,
     acts: Arc<Acts>,
 }
 
-/// What a start was told of its sink, and where it is noted that this is a new one.
+/// The sink settings of a start, and the log for a sink change.
 pub(super) struct Told<'a> {
     pub address: &'a Address,
     pub retention: Retention,
@@ -73,7 +74,7 @@ impl Told<'_> {
 }
 
 impl Remembered {
-    /// Before anything is made in a place that is another kind's.
+    /// Checked first, so that nothing is made at an address that belongs to another kind of sink.
     fn look_at_kind(&self) -> Result<(), Ended> {
         match self.place.sink() {
             Some(known) if known.kind != self.now.kind && !self.takes_new.load(Relaxed) => {
@@ -83,8 +84,8 @@ impl Remembered {
         }
     }
 
-    /// Of a sink whose id is not known yet, since it can't be reached or has none: it is known by its address. One that
-    /// was met is remembered by now.
+    /// Checks a sink whose id is unknown, because it can't be reached or has none, by its address. A sink that was
+    /// reached has been recorded by now.
     fn look_at_address(&self) -> Result<(), Ended> {
         let takes_new = self.takes_new.load(Relaxed);
         match self.place.sink() {
@@ -169,7 +170,7 @@ impl Memory for Remembered {
                 Ok(())
             }
             Some(known) if !may_be && !known.is(&now) => Err(self.refusal(&known, &now)),
-            _ if id.is_none() => Ok(()), // one is made now
+            _ if id.is_none() => Ok(()), // the sink makes one now
             known => self.remember(known, now).map_err(|ended| ended.to_string()),
         }
     }

@@ -1,18 +1,18 @@
-//! Tells a supervisor (systemd's `Type=notify`) how far the service is, by datagrams to `NOTIFY_SOCKET`.
+//! Reports the state of the service to a supervisor (systemd's `Type=notify`), by datagrams to `NOTIFY_SOCKET`.
 
 use std::os::linux::net::SocketAddrExt;
 use std::os::unix::net::{SocketAddr, UnixDatagram};
 use std::time::Duration;
 
-/// How often it is said that a start still goes on, and how much longer it may take then.
+/// How often to report that a start is still going on, and how much more time that asks for.
 const STARTING: Duration = Duration::from_secs(5);
 const LONGER: &str = "EXTEND_TIMEOUT_USEC=30000000\nSTATUS=recovering";
 
-/// Where there is none, nothing is told.
+/// Does nothing if there is no supervisor.
 #[derive(Clone)]
 pub struct Supervisor {
     to: Option<SocketAddr>,
-    /// How often it wants to hear that the process is well.
+    /// The interval of the watchdog, halved.
     every: Option<Duration>,
 }
 
@@ -28,8 +28,8 @@ impl Supervisor {
         }
     }
 
-    /// Says when the service is ready first, and from then on that it lives. It is a task of the runtime, so a
-    /// runtime that stands still is noticed.
+    /// Reports that the service is ready, and after that regularly that it is alive. This is a task of the runtime, so
+    /// a runtime that hangs is noticed.
     pub async fn watch(self, is_ready: impl Fn() -> bool) {
         if self.to.is_none() {
             return;
@@ -52,12 +52,12 @@ impl Supervisor {
         }
     }
 
-    /// The end takes so long at most: else a supervisor that waits for less kills what is being handed over.
+    /// Asks for this much time to end: otherwise a supervisor that waits less kills shards that are being handed over.
     pub fn stopping(&self, within: Duration) {
         self.tell(&format!("STOPPING=1\nEXTEND_TIMEOUT_USEC={}", within.as_micros()));
     }
 
-    /// A datagram of some bytes: it waits only where the supervisor has many that it has not read.
+    /// Sends a datagram. Blocks only if the supervisor has many unread ones.
     fn tell(&self, text: &str) {
         let Some(to) = &self.to else { return };
         let told = UnixDatagram::unbound().and_then(|socket| socket.send_to_addr(text.as_bytes(), to));
@@ -68,7 +68,7 @@ impl Supervisor {
     }
 }
 
-/// A path, or behind an `@` a name without a file.
+/// A path, or after an `@` an abstract socket name.
 fn address(text: &str) -> Option<SocketAddr> {
     match text.strip_prefix('@') {
         Some(name) => SocketAddr::from_abstract_name(name.as_bytes()).ok(),
@@ -103,7 +103,7 @@ mod tests {
         watching.abort();
     }
 
-    /// With `TimeoutStopSec` alone an instance of many slots would be killed while it hands them over.
+    /// With `TimeoutStopSec` alone an instance with many shards would be killed during its hand-overs.
     #[test]
     fn it_is_told_how_long_the_end_may_take() {
         let folder = tempfile::tempdir().unwrap();

@@ -1,5 +1,5 @@
-//! A slot at work: its book with journal and outbox, its keeper, its delivery. They begin and end together, while the process
-//! goes on.
+//! An open shard: its book with journal and outbox, its worker (`keeper`) and its delivery. They start and end
+//! together, while the process goes on.
 
 use super::{Ended, Settings};
 use crate::core::Core;
@@ -15,16 +15,16 @@ use tokio::sync::watch;
 use tokio::task::{JoinError, JoinSet};
 use tokio::time::Instant;
 
-/// How long the last checkpoint is waited for. The journal has what was taken, so what takes longer is left to who has the
-/// slot next.
+/// How long to wait for the last checkpoint. The journal has what was taken, so the next owner or start finishes the
+/// rest.
 const LAST_CHECKPOINT: Duration = Duration::from_secs(5);
-/// How long what is changing a file is waited for: a fault there is told by the exit status.
+/// How long to wait for a part that is changing a file: its fault would set the exit status.
 const LAST_CHANGES: Duration = Duration::from_secs(2);
 
-/// A slot of several has so many times its share of all series at least.
+/// A shard has room for at least this many times its share of all series.
 const UNEVEN: usize = 4;
 
-/// Where a slot is kept.
+/// The files of a shard.
 pub(super) struct Files {
     number: u16,
     outbox: Arc<Outbox>,
@@ -42,14 +42,15 @@ impl Files {
         Ok(Files { number: 0, outbox, dead, has_posts, journal })
     }
 
-    /// Of a store's slot, whose files are open.
+    /// For a shard of a store, whose files are open.
     pub fn of_drive(number: u16, (journal, outbox, dead): (Journal, Outbox, Dead)) -> Files {
         let has_posts = journal.size().1.is_some();
         let (outbox, dead) = (Arc::new(outbox), Arc::new(dead));
         Files { number, outbox, dead, has_posts, journal: Box::new(|| Ok(journal)) }
     }
 
-    /// Opens one of so many slots: its posts are answered 503 until its book is filled. That is primed beside all else.
+    /// Opens one of `slots` shards: its posts get 503 until its book is recovered. Seeding runs in parallel with the
+    /// rest.
     pub fn open(self, slots: u16, settings: &Settings, shared: &Shared) -> Result<Opened, Ended> {
         let Files { number, outbox, dead, has_posts, journal } = self;
         let room = room(settings.max_series, slots, outbox.series_count());
@@ -72,41 +73,41 @@ impl Files {
     }
 }
 
-/// A slot whose files are open and whose book is being primed; nothing of it is at work.
+/// A shard whose files are open and whose book is being seeded; nothing of it runs yet.
 pub(super) struct Opened {
     pub slot: Arc<Slot>,
     dead: Arc<Dead>,
     priming: Option<Priming>,
 }
 
-/// How a slot ended that nobody told to end.
+/// How a shard ended without being told to.
 #[derive(Debug)]
 pub(super) enum End {
-    /// Another instance has it: nothing else ends.
+    /// Another instance owns the shard; nothing else ends.
     Lost,
     Failed(Ended),
 }
 
-/// A slot at work. All of it ends where this is dropped.
+/// An open shard. Dropping it ends all of its parts.
 pub(super) struct Unit {
     pub of_desk: Arc<operate::Unit>,
-    /// One.
+    /// Has one task.
     keeper: JoinSet<Result<(), Trouble>>,
-    /// One.
+    /// Has one task.
     delivery: JoinSet<Result<(), Fault>>,
     stop_keeper: watch::Sender<bool>,
     stop_delivery: watch::Sender<bool>,
 }
 
-/// How many series a slot has room for: a book takes its memory from the beginning, and an instance may have all slots. So
-/// each has more than its share, since resources are uneven, and more than it has already.
+/// How many series a shard has room for. A book takes its memory from the start, and one instance may own all shards.
+/// So a shard gets more than its share, because resources are uneven, and more than it has already.
 fn room(max_series: usize, slots: u16, known: usize) -> usize {
     let share = (UNEVEN * max_series).div_ceil(usize::from(slots.max(1)));
     share.max(2 * known).min(max_series)
 }
 
 impl Unit {
-    /// Begins its keeper, and its delivery into this sink.
+    /// Starts its worker, and its delivery into this sink.
     pub fn begin(opened: Opened, settings: &Settings, sink: &Arc<dyn Sink>) -> Unit {
         let Opened { slot, dead, priming } = opened;
         let number = slot.number();
@@ -135,7 +136,7 @@ impl Unit {
         }
     }
 
-    /// Returns once a part has ended that nobody told to end.
+    /// Returns when a part has ended without being told to.
     pub async fn ended(&mut self) -> End {
         let end = tokio::select! {
             Some(end) = self.keeper.join_next() => End::of("the keeper", end),
@@ -147,11 +148,11 @@ impl Unit {
         }
     }
 
-    /// Takes no posts any more: what was taken goes into the outbox. False where that took too long.
+    /// Ends the shard: brings what was taken into the outbox. False if that took too long.
     pub async fn stop(mut self) -> Result<bool, Ended> {
         self.stop_keeper.send_replace(true);
         let in_time = last(&mut self.keeper, "the keeper", Instant::now() + LAST_CHECKPOINT).await;
-        // What is sent meanwhile is sent again by who has the slot next. A keeper that is late may be changing a file too.
+        // The next owner sends again what is being sent now. A late worker may be changing a file too.
         self.stop_delivery.send_replace(true);
         let until = Instant::now() + LAST_CHANGES;
         let (late, delivery) = tokio::join!(
@@ -166,7 +167,7 @@ impl Unit {
     }
 }
 
-/// Waits so long for parts that were told to end: a fault of one of them.
+/// Waits for parts that were told to end, and returns the fault of one of them.
 async fn last<E: Into<Trouble> + 'static>(
     parts: &mut JoinSet<Result<(), E>>,
     part: &str,

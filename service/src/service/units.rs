@@ -1,4 +1,4 @@
-//! The slots that are at work in this process. They come and go while it goes on; a folder's one stays.
+//! The open shards of this process. They come and go while the process runs; a folder's single shard stays.
 
 use super::unit::{cause, End, Files, Opened, Unit};
 use super::{Ended, Settings};
@@ -14,26 +14,26 @@ use std::sync::{Arc, Mutex};
 use tokio::sync::{mpsc, watch};
 use tokio::task::{JoinError, JoinHandle, JoinSet};
 
-/// The slots' tasks.
+/// The tasks of the shards.
 pub(super) struct AtWork {
     of_desk: Arc<operate::Units>,
     tasks: Mutex<BTreeMap<u16, Task>>,
     ends: mpsc::UnboundedSender<Ending>,
 }
 
-/// What ended by itself.
+/// Receives the shards that ended without being told to.
 pub(super) type Ends = mpsc::UnboundedReceiver<Ending>;
 
-/// A slot that ended by itself.
+/// A shard that ended without being told to.
 #[derive(Debug)]
 pub(super) struct Ending {
     pub slot: u16,
-    /// Under which it was open; none of a folder. By the time this is read it may be open under another.
+    /// The term under which it was open; none for a folder. By now it may be open again under another term.
     pub term: Option<u64>,
     pub end: End,
 }
 
-/// It ends where this is dropped.
+/// Dropping it ends the shard.
 struct Task {
     stop: watch::Sender<bool>,
     task: JoinHandle<Result<bool, Ended>>,
@@ -52,7 +52,7 @@ impl AtWork {
         (Arc::new(at_work), ended)
     }
 
-    /// The slots as operators see them.
+    /// The shards as operators see them.
     pub fn units(&self) -> &Arc<operate::Units> {
         &self.of_desk
     }
@@ -65,7 +65,7 @@ impl AtWork {
         locked(&self.tasks).insert(number, Task { stop, task });
     }
 
-    /// Ends a slot once all that was taken is in its outbox; false where that took too long.
+    /// Ends a shard after everything taken is in its outbox; false if that took too long.
     pub async fn stop(&self, number: u16) -> Result<bool, Ended> {
         let task = locked(&self.tasks).remove(&number);
         let Some(mut task) = task else { return Ok(true) };
@@ -75,7 +75,7 @@ impl AtWork {
         ended.unwrap_or_else(|error| Err(failed(error)))
     }
 
-    /// The same of all at once.
+    /// Ends all shards at once.
     pub async fn stop_all(self: &Arc<Self>) -> Result<bool, Ended> {
         let numbers: Vec<u16> = locked(&self.tasks).keys().copied().collect();
         let mut stopping = JoinSet::new();
@@ -91,7 +91,7 @@ impl AtWork {
         all
     }
 
-    /// Ends a slot that is another's: it answers and delivers nothing any more.
+    /// Ends a fenced shard: nothing of it is answered or delivered any more.
     pub fn lose(&self, number: u16) {
         let task = locked(&self.tasks).remove(&number);
         if let Some(unit) = self.of_desk.remove(number) {
@@ -115,50 +115,50 @@ async fn run(
         biased;
         () = stop.wait_true() => unit.stop().await,
         end = unit.ended() => {
-            let _ = ends.send(Ending { slot, term, end }); // the process may be ending
+            let _ = ends.send(Ending { slot, term, end }); // fails only if the process is ending
             Ok(false)
         }
     }
 }
 
-/// What opens slots, and ends them while posts go on.
+/// Opens shards, and ends them while posts go on.
 pub(super) struct Units {
     pub settings: Arc<Settings>,
     pub shared: Arc<Shared>,
     pub sink: Arc<dyn Sink>,
     pub reporter: Arc<Reporter>,
-    /// Where posts go.
+    /// Routes posts to shards.
     pub slots: Arc<Slots<Reported<Slot>>>,
     pub at_work: Arc<AtWork>,
 }
 
 impl Units {
-    /// Has a slot here.
+    /// Opens a shard here.
     pub async fn open(&self, files: Files) -> Result<(), Ended> {
         let (settings, shared, slots) = (self.settings.clone(), self.shared.clone(), self.slots.count());
         self.begin(blocking(move || files.open(slots, &settings, &shared)).await?);
         Ok(())
     }
 
-    /// Has one at work that is open.
+    /// Starts a shard that is open.
     pub fn begin(&self, opened: Opened) {
         let unit = Unit::begin(opened, &self.settings, &self.sink);
         let slot = &unit.of_desk.slot;
         let outbox = slot.outbox.clone();
         let owner = move |series: &SeriesKey| outbox.owner(&series.digest());
         let taker = Reported::new(slot.clone(), owner, self.reporter.clone());
-        self.slots.set(slot.number(), Some(taker)); // first, since one that is lost at once is nobody's
+        self.slots.set(slot.number(), Some(taker)); // first, so that a shard that is fenced at once is removed again
         self.at_work.start(unit);
     }
 
-    /// Gives a slot to another: posts are nobody's from now on, and what was taken goes into the outbox. False where that
-    /// took too long: its journal has the rest.
+    /// Hands a shard over: stops its posts and brings what was taken into the outbox. False if that took too long; its
+    /// journal has the rest.
     pub async fn hand_over(&self, number: u16) -> Result<bool, Ended> {
         self.slots.set(number, None);
         self.at_work.stop(number).await
     }
 
-    /// Ends a slot that another has.
+    /// Ends a shard that another instance owns.
     pub fn lose(&self, number: u16) {
         self.slots.set(number, None);
         self.at_work.lose(number);

@@ -1,5 +1,5 @@
-//! A store that can't be reached when the service starts: it is waited for, as it is while the service runs. Meanwhile posts
-//! are 503, and operators are told why.
+//! Waits for a store that can't be reached when the service starts. In the meantime posts get 503, and operators learn
+//! why.
 
 use super::operators::Operators;
 use super::parts::limits;
@@ -23,14 +23,14 @@ use tokio::sync::watch;
 use tokio::task::JoinHandle;
 use tokio::time::{sleep, timeout};
 
-/// A store that answers within is not waited for.
+/// A store that answers this fast needs no listeners in the meantime.
 const SOON: Duration = Duration::from_secs(1);
-/// Between two tries.
+/// The pause between two tries.
 const PAUSE: Duration = Duration::from_secs(1);
 
 static TOLD: RateLimit = RateLimit::every(Duration::from_secs(10));
 
-/// Tries until it answers, or says what waiting does not mend.
+/// Tries until the store answers, or until there is a fault that waiting does not fix.
 async fn tried(of: &OfStore) -> Result<PostgresStore, Ended> {
     loop {
         let (database, copies) = (of.database.clone(), of.copies);
@@ -47,7 +47,7 @@ async fn tried(of: &OfStore) -> Result<PostgresStore, Ended> {
     }
 }
 
-/// The store; none where the service was told to end before it answered.
+/// The store; none if the service was told to end before the store answered.
 pub(super) async fn store(
     settings: &Settings,
     of: &OfStore,
@@ -67,7 +67,7 @@ pub(super) async fn store(
     opened
 }
 
-/// What serves the addresses before there is a store.
+/// Serves the addresses before there is a store.
 struct Waiting {
     stop: watch::Sender<bool>,
     serving: [JoinHandle<()>; 2],
@@ -90,7 +90,7 @@ impl Waiting {
     async fn end(self) {
         self.stop.send_replace(true);
         for serving in self.serving {
-            let _ = timeout(SOON, serving).await; // who is slower was answered, or comes again
+            let _ = timeout(SOON, serving).await; // a slower request was answered, or will be retried
         }
     }
 }

@@ -11,12 +11,12 @@ use std::time::Duration;
 use tokio::runtime::{Handle, RuntimeFlavor};
 use tokio::task::block_in_place;
 
-/// So long an instance that lives beats once at least; and one that stood still delivers nothing any more.
+/// A live instance sends a heartbeat within this time, and one that stalled for longer delivers nothing any more.
 const STILL: Duration = Duration::from_secs(12);
 
 pub struct InStore {
     store: Arc<PostgresStore>,
-    /// As it was read last.
+    /// As it was last read.
     known: Mutex<Option<KnownSink>>,
 }
 
@@ -27,7 +27,7 @@ impl InStore {
     }
 }
 
-/// What the store has, which is none as long as nobody has met one.
+/// Parses the store's record; none before any instance has set it.
 fn known(text: &str) -> anyhow::Result<Option<KnownSink>> {
     KnownSink::of_text(text).with_context(|| {
         format!(
@@ -41,7 +41,7 @@ impl Remembers for InStore {
         locked(&self.known).clone()
     }
 
-    /// All instances deliver to one, so the first that meets it says so for all.
+    /// All instances deliver to one sink, so the first one that reaches it sets it for all.
     fn set_sink(&self, sink: KnownSink) -> Result<(), Ended> {
         let mut known = locked(&self.known);
         let text = |sink: &KnownSink| sink.text().context("the sink can't be written");
@@ -58,7 +58,8 @@ impl Remembers for InStore {
         }
     }
 
-    /// What one has under way would go into the former sink, and what is not acknowledged there into both.
+    /// Another running instance would still deliver to the old sink, and requests without an acknowledgement would go
+    /// to both.
     fn may_change(&self) -> Result<(), Ended> {
         tracing::info!(
             "--new-sink: if there were other instances, it is looked for {STILL:?} whether one runs"
@@ -86,7 +87,7 @@ impl Remembers for InStore {
     }
 }
 
-/// Waits here. The thread that asks PostgreSQL has a runtime of its own, and nothing else to do.
+/// Blocks this thread. The PostgreSQL sink has a runtime of its own on a thread with nothing else to do.
 fn in_place<T>(work: impl FnOnce() -> T) -> T {
     match Handle::try_current().map(|handle| handle.runtime_flavor()) {
         Ok(RuntimeFlavor::MultiThread) => block_in_place(work),
@@ -100,7 +101,7 @@ mod tests {
     use crate::files::KnownSink;
     use tokio::runtime::Builder;
 
-    /// One that is there and can't be read is not taken for none: what waits would go into any.
+    /// A record that can't be read must not count as none: waiting requests could then go to any sink.
     #[test]
     fn a_sink_of_an_earlier_build_is_refused_by_name() {
         let sink = KnownSink::new("sqlite", "/a.db");

@@ -1,4 +1,4 @@
-//! What a start says of a sink that is, or is not, the one that the folder has.
+//! What a start says if the sink is, or is not, the one that the folder remembers.
 
 use super::*;
 use crate::files::Durability;
@@ -27,14 +27,14 @@ impl Place {
         serde_json::from_slice(&std::fs::read(self.version()).unwrap()).unwrap()
     }
 
-    /// Has `version` say this of the sink.
+    /// Writes this into the `sink` field of `version`.
     fn say(&self, sink: Value) {
         let mut said = self.said();
         said["sink"] = sink;
         std::fs::write(self.version(), said.to_string()).unwrap();
     }
 
-    /// A start, which ends at once.
+    /// A start that ends at once.
     fn start(&self, sink: &str, takes_new: bool) -> Result<Arc<dyn Sink>, String> {
         let folder = Arc::new(Folder::open(&self.file("data"), Durability::Disk).unwrap());
         let (journal, outbox) = folder.slot().unwrap();
@@ -114,7 +114,7 @@ fn a_new_sink_is_taken_by_name_and_kept() {
     assert!(begun.contains("\"act\":\"new sink\"") && begun.contains(&what), "{acts}");
     assert!(ended.contains("done; requests that waited: 1") && ended.lines().count() == 1, "{acts}");
     place.is_refused(one.to_str().unwrap(), &["other.db (id ", "one.db (id "]);
-    // Also one that is not there yet, by its address.
+    // Including a sink that is not there yet, by its address.
     let down = "postgres://u@127.0.0.1:9/d";
     place.is_refused(down, &["postgres 127.0.0.1:9/d", "other.db"]);
     assert_eq!(place.start(down, true).err(), None);
@@ -145,7 +145,7 @@ fn no_secret_is_written_or_said() {
     ] {
         let place = Place::new();
         assert_eq!(place.start(sink, false).err(), None);
-        // A password that changes makes no other sink.
+        // A changed password does not make another sink.
         assert_eq!(place.start(&sink.replace("secret", "hidden"), false).err(), None);
         let written = std::fs::read_to_string(place.version()).unwrap();
         assert!(written.contains("\"id\":null") && !written.contains("secret"), "{written}");
@@ -154,7 +154,7 @@ fn no_secret_is_written_or_said() {
     }
 }
 
-/// A start that ends once the line is written has delivered nothing; the next one delivers into the same.
+/// A start that ends right after it recorded the sink has delivered nothing; the next one delivers into the same sink.
 #[tokio::test]
 async fn an_end_before_the_first_delivery_is_harmless() {
     let place = Place::new();
@@ -166,7 +166,7 @@ async fn an_end_before_the_first_delivery_is_harmless() {
     assert_eq!(sink.deliver(&request).await, Fate::Taken);
 }
 
-/// One that is replaced while it is open is told, made again, and remembered; after a fault it is not.
+/// A file that is replaced while it is open is reported, made again and recorded; after a fault it is not.
 #[tokio::test]
 async fn a_file_that_is_replaced_in_a_run_is_remembered() {
     let place = Place::new();

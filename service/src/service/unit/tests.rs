@@ -7,7 +7,7 @@ use crate::otlp::Clock;
 use std::future::Future;
 use std::path::Path;
 
-/// A unit without deliveries, of which the keeper ends so after being told to.
+/// A shard without deliveries, whose worker ends in this way after it was told to.
 pub fn unit(
     place: &Path,
     number: u16,
@@ -47,7 +47,7 @@ pub fn over(
 }
 
 impl Unit {
-    /// With one that ends so, whatever it is told.
+    /// With a worker that ends in this way, whatever it is told.
     pub fn with_keeper(mut self, end: impl Future<Output = Result<(), Fault>> + Send + 'static) -> Unit {
         let mut keeper = JoinSet::new();
         keeper.spawn(async move { end.await.map_err(Trouble::from) });
@@ -60,7 +60,7 @@ pub fn no_disk() -> Fault {
     Fault::Io { path: "/outbox".into(), source: std::io::Error::other("no disk") }
 }
 
-/// It is in the middle of a change of its files, as a rule of a commit.
+/// It may be in the middle of changing its files, usually for a commit.
 #[tokio::test]
 async fn a_fault_of_a_keeper_that_is_late_is_told() {
     let place = tempfile::tempdir().unwrap();
@@ -72,7 +72,7 @@ async fn a_fault_of_a_keeper_that_is_late_is_told() {
     assert!(matches!(ended, Err(Ended::Disk(_))), "{ended:?}");
 }
 
-/// Another instance is to have it, and to know why.
+/// Another instance has to open the shard, and to know the reason.
 #[tokio::test]
 async fn a_slot_that_failed_in_a_store_ends_with_the_reason_and_one_that_is_lost_without() {
     for why in [None, Some("no room")] {

@@ -1,4 +1,4 @@
-//! Slots with their files in folders of their own, which come and go while posts go on.
+//! Shards with their files in folders, which are opened and closed while posts go on.
 
 mod finer_units;
 mod reach;
@@ -26,7 +26,7 @@ use std::time::{Duration, Instant};
 
 const SLOTS: u16 = 3;
 
-/// A sink that takes all.
+/// A sink that takes everything.
 #[derive(Default)]
 struct Taken {
     came: Mutex<Vec<Forwarded>>,
@@ -48,7 +48,7 @@ impl Sink for Taken {
     }
 }
 
-/// It stays there when the test ends: a slot that still writes then would end the process of all tests.
+/// The folder is kept after the test: a shard that is still writing would otherwise end the process of all tests.
 fn folder() -> PathBuf {
     tempfile::tempdir().unwrap().into_path()
 }
@@ -152,7 +152,7 @@ impl Service {
         }
     }
 
-    /// Posts a point of each of these slots' processes, which ends then.
+    /// Posts one point, which ends at `end`, for a resource in each of these shards.
     async fn post(&self, slots: &[u16], end: u64) -> Outcome {
         let head = Head { sender: "A".into(), encoding: Encoding::Json, packing: Packing::Plain };
         let body = request(slots, end);
@@ -168,7 +168,7 @@ impl Service {
         (status, String::from_utf8(body.to_vec()).unwrap())
     }
 
-    /// The slots whose requests came to the sink, and the sum of all points.
+    /// The shards whose requests the sink got, and the sum of all points.
     async fn taken(&self) -> (Vec<u16>, i64) {
         while self.desk.units.sum(|unit| unit.undelivered.outbox.waiting().0) > 0 {
             tokio::time::sleep(Duration::from_millis(1)).await;
@@ -185,7 +185,7 @@ impl Service {
     }
 }
 
-/// The attributes of a process whose resource has a slot.
+/// The attributes of a resource that belongs to this shard.
 fn attributes(slot: u16) -> String {
     let of =
         |number: u32| format!(r#"[{{"key":"service.instance.id","value":{{"stringValue":"p{number}"}}}}]"#);
@@ -205,7 +205,7 @@ fn request(slots: &[u16], end: u64) -> Bytes {
     format!(r#"{{"resourceMetrics":[{}]}}"#, resources.join(",")).into()
 }
 
-/// All that was taken is in its outbox then, and its files are another's.
+/// After a hand-over everything taken is in the outbox, and another owner may open the files.
 #[tokio::test]
 async fn a_slot_is_handed_over_while_the_others_go_on() {
     let place = folder();
@@ -219,7 +219,7 @@ async fn a_slot_is_handed_over_while_the_others_go_on() {
     let nobody = service.post(&[1], 20).await;
     assert_eq!(nobody, Reason::NoOwner.into());
     assert_eq!(service.post(&[0, 2], 20).await, Outcome::taken(0));
-    service.open(1).await; // nobody has its folder any more
+    service.open(1).await; // no shard has its folder open any more
     assert_eq!(service.post(&[1], 5).await.status(), 400, "it knows what it had");
     assert_eq!(service.post(&[1], 20).await, Outcome::taken(0));
     for slot in 0..SLOTS {
@@ -270,7 +270,7 @@ async fn what_ends_by_itself_is_told_with_its_slot() {
     assert!(at_work.stop(0).await.unwrap());
 }
 
-/// It may be open again by the time that this is read, under a later term, and that is not to end with it.
+/// By the time this is read the shard may be open again under a later term, which must not end with it.
 #[tokio::test]
 async fn what_ends_in_a_store_is_told_with_its_term() {
     let store = Arc::<Store>::default();
@@ -285,7 +285,8 @@ async fn what_ends_in_a_store_is_told_with_its_term() {
     }
 }
 
-/// Of a store that went back the sink may have all that the journal has, and nothing of what comes: it would leave out both.
+/// After a store was restored, the sink may have everything that the journal has, and nothing of what follows; in one
+/// group it would leave out both.
 #[tokio::test]
 async fn what_a_start_puts_in_again_is_a_group_of_its_own() {
     let place = folder();
@@ -300,7 +301,7 @@ async fn what_a_start_puts_in_again_is_a_group_of_its_own() {
     assert_eq!(service.taken().await, (vec![0, 0], 2));
 }
 
-/// Else a sender would be taken by one slot that another refuses, and nobody would know.
+/// Otherwise one shard would accept a sender that another one refuses, unnoticed.
 #[tokio::test]
 async fn orders_are_all_slots_and_503_where_one_is_not_here() {
     let place = folder();

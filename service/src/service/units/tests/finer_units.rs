@@ -1,4 +1,4 @@
-//! What `--whole auto` decides, of slots that go from one instance to another, or from one start to the next.
+//! What `--whole auto` decides, if shards move between instances or between starts.
 
 use super::*;
 use crate::files::drive::{self, lost, memory::Step, memory::Store, Drive};
@@ -19,7 +19,7 @@ fn finer(settings: Settings, choices: &[&str]) -> Settings {
     Settings { reading: Reading { finer_units, ..reading }, ..settings }
 }
 
-/// An instance whose slots have their files in folders here.
+/// An instance whose shards have their files in folders here.
 fn instance(place: &Path, choices: &[&str]) -> Service {
     let store = OfStore {
         database: address("postgres://u@h/d").unwrap(),
@@ -33,18 +33,18 @@ fn instance(place: &Path, choices: &[&str]) -> Service {
     Service::of(Settings { store: Some(store), ..finer(settings(place), choices) }, None)
 }
 
-/// A process that has them without a store.
+/// A process that has the same folders without a store.
 fn process(place: &Path, choices: &[&str]) -> Service {
     Service::of(finer(settings(place), choices), None)
 }
 
-/// A delta of a slot's process.
+/// Posts a delta point for a resource of this shard.
 async fn post(service: &Service, slot: u16, unit: &str, value: &str) -> Outcome {
     let point = format!(r#"{value},"startTimeUnixNano":"1","timeUnixNano":"2""#);
     post_of(service, slot, &sum("m", unit, 1, &point)).await
 }
 
-/// What a run has come to, which began when the folder was there.
+/// Posts a cumulative point of a run that began after the folder was made.
 async fn post_run(service: &Service, unit: &str, value: &str, nanoseconds: u64) -> Outcome {
     let (start, time) = (AHEAD, AHEAD + nanoseconds);
     let point = format!(r#"{value},"startTimeUnixNano":"{start}","timeUnixNano":"{time}""#);
@@ -66,7 +66,8 @@ async fn post_of(service: &Service, slot: u16, metric: &str) -> Outcome {
     service.intake.put(head, body.into(), service.budget.hold()).await
 }
 
-/// Else a repeat that comes to the next owner is of another series, and counts twice, or its double is not taken.
+/// Otherwise a retry that reaches the next owner would belong to another series and count twice, or its double would be
+/// rejected.
 #[tokio::test]
 async fn what_one_instance_has_decided_is_so_at_the_next() {
     let place = tempfile::tempdir().unwrap();
@@ -86,7 +87,7 @@ async fn what_one_instance_has_decided_is_so_at_the_next() {
         assert!(other.units.hand_over(1).await.unwrap(), "in time");
         one.open(1).await;
     }
-    // Where the second slot knows nothing of the name it does as the first one here.
+    // If the second shard knows nothing of the metric's name, it does as the first one here.
     one.open(2).await;
     assert_eq!(post(&one, 2, "s", WHOLE).await, Outcome::taken(0));
     assert_eq!(one.ask("POST", "/flush").await.0, 503, "it has not all slots");
@@ -98,13 +99,14 @@ async fn what_one_instance_has_decided_is_so_at_the_next() {
         points.collect::<Vec<_>>()
     };
     assert!(matches!(points[..], [ref point] if point.value == Value::Sum(7_000_000)), "{points:?}");
-    // Nothing is written any more when the folder goes.
+    // Nothing is written any more when the folder is removed.
     for (service, slot) in [(&one, 1), (&one, 2), (&other, 0)] {
         assert!(service.units.hand_over(slot).await.unwrap(), "in time");
     }
 }
 
-/// Else the doubles of a metric are not taken until the next start, for a post that counts as never sent.
+/// Otherwise the doubles of a metric would be rejected until the next start, because of a post that counts as never
+/// sent.
 #[tokio::test]
 async fn a_refused_post_decides_no_unit() {
     for serves in [instance, process] {
@@ -123,7 +125,7 @@ async fn a_refused_post_decides_no_unit() {
     }
 }
 
-/// Requests that came to sinks, by their keys.
+/// The requests that sinks got, by key.
 #[derive(Default)]
 struct Came(BTreeMap<String, Vec<u8>>);
 
@@ -149,7 +151,7 @@ fn sums<const N: usize>(sums: [(&str, i64); N]) -> Vec<(String, i64)> {
     sums.map(|(name, sum)| (name.to_string(), sum)).into()
 }
 
-/// Else a repeat behind a start, and the rest of a run, are of the rule's series, and count twice.
+/// Otherwise a retry after a start, and the rest of a run, would belong to the rule's series and count twice.
 #[tokio::test]
 async fn what_a_rule_brings_in_a_coarser_unit_decides_nothing_at_the_next_start() {
     for serves in [instance, process] {
@@ -184,7 +186,7 @@ async fn what_a_rule_brings_in_a_coarser_unit_decides_nothing_at_the_next_start(
 }
 
 impl Service {
-    /// Whether a slot could be opened before it was lost.
+    /// Whether a shard could be opened before it was fenced.
     async fn has_opened(&self, slot: u16, drive: Arc<dyn Drive>) -> bool {
         let Ok(files) = drive::open(drive, "00000000000000aa") else {
             return false;
@@ -196,7 +198,7 @@ impl Service {
         loop {
             match slot.phase() {
                 Phase::Recovering => tokio::select! {
-                    _ = slot.journal.lost() => return false, // where its delivery finds it first, its keeper is gone
+                    _ = slot.journal.lost() => return false, // if its delivery finds out first, its worker is gone
                     () = tokio::time::sleep(Duration::from_millis(1)) => {}
                 },
                 phase => return phase == Phase::Serving,
@@ -205,14 +207,14 @@ impl Service {
     }
 }
 
-/// Ahead of each sync, and behind it; and so at the start that follows.
+/// Before and after each sync, and again at the start that follows.
 #[tokio::test]
 async fn whenever_a_slot_is_lost_each_point_counts_once_in_its_unit() {
     let place = folder();
     let (mut at, mut is_lost) = (0, true);
     while std::mem::take(&mut is_lost) {
         let (store, mut came) = (Arc::<Store>::default(), Came::default());
-        // The second owner is lost there too, and gets again what the first one got.
+        // The second owner is fenced at the same step, and gets again what the first one got.
         for most in [at, at, usize::MAX] {
             let (steps, over) = (AtomicUsize::new(0), Arc::new(AtomicBool::new(false)));
             let ends = over.clone();

@@ -1,5 +1,5 @@
-//! Instances that share slots: what an operator asks at one of them is done in all slots, or it is said in which it is not and
-//! where to ask.
+//! Instances that share shards: a command at one of them is carried out in all shards, or the answer names the shards
+//! in which it is not, and where to ask.
 
 mod again;
 mod ready;
@@ -15,19 +15,19 @@ use crate::store::postgres::Copies;
 use serde_json::Value as Json;
 use std::collections::HashMap;
 
-/// How one that is asked behaves.
+/// How an instance behaves when it is asked.
 #[derive(Clone, Copy, PartialEq, Eq)]
 enum Mood {
     Well,
-    /// It says that it is not there.
+    /// It answers that it is not there.
     Refuses,
     /// It never answers.
     StandsStill,
-    /// It does what it is asked, and its answer is lost.
+    /// It carries out the command, and its answer is lost.
     LosesAnswers,
 }
 
-/// Who is at which address.
+/// The instance at each address.
 #[derive(Default)]
 struct Net(Mutex<HashMap<String, (Arc<Desk>, Mood)>>);
 
@@ -82,7 +82,7 @@ impl Asks for Through {
     }
 }
 
-/// Instances a and b: a has slots 0 and 2, b has slot 1.
+/// Instances a and b: a has shards 0 and 2, b has shard 1.
 struct Both {
     net: Arc<Net>,
     a: Service,
@@ -110,7 +110,7 @@ fn instance(name: &str, place: &Path, net: &Arc<Net>) -> (Service, Arc<Cluster>)
     (service, cluster)
 }
 
-/// What a beat reads of both.
+/// What a heartbeat reads of both.
 fn seen() -> Seen {
     let instance = |name: &str| Instance {
         name: name.into(),
@@ -149,7 +149,7 @@ impl Both {
         Both { net, a, b, clusters: [of_a, of_b] }
     }
 
-    /// A point of each slot, at the instance that has it.
+    /// A point for each shard, posted at the instance that owns it.
     async fn post(&self, end: u64) -> [u16; 2] {
         [self.a.post(&[0, 2], end).await.status(), self.b.post(&[1], end).await.status()]
     }
@@ -193,7 +193,7 @@ async fn an_order_is_carried_out_in_all_slots_and_each_instance_writes_down_who_
     assert!(at_a.iter().any(|(who, act, _)| who == "operator (at b)" && act == "release"), "{at_a:?}");
 }
 
-/// Else a sender would be taken by one slot that another refuses, and nobody would know.
+/// Otherwise one shard would accept a sender that another one refuses, unnoticed.
 #[tokio::test]
 async fn where_an_instance_is_silent_it_is_said_by_slot_what_was_done_and_asked_again_it_is_whole() {
     let both = Both::new().await;
@@ -225,7 +225,7 @@ async fn where_an_instance_is_silent_it_is_said_by_slot_what_was_done_and_asked_
     }
 }
 
-/// What an instance says that has not the slot: its status, where to ask, and its message.
+/// The answer of an instance that does not own the shard: its status, where to ask, and its message.
 async fn redirected(service: &Service, method: &str, path: &str) -> (u16, String, String) {
     let request = Request::builder().method(method).uri(path).body(Body::empty()).unwrap();
     let answer = crate::intake::connections::Handler::answer(service.desk.clone(), request).await;
@@ -240,7 +240,7 @@ async fn redirected(service: &Service, method: &str, path: &str) -> (u16, String
 async fn a_slot_that_moves_is_found_where_it_has_come_to() {
     let both = Both::new().await;
     assert_eq!(both.post(10).await, [200, 200]);
-    // It comes here while its former instance stands still, and with it whoever has asked there.
+    // The shard moves here while its former instance stalls with the question.
     both.net.mood("b", Mood::StandsStill);
     let desk = both.a.desk.clone();
     let flushing = tokio::spawn(async move {
@@ -254,12 +254,12 @@ async fn a_slot_that_moves_is_found_where_it_has_come_to() {
     both.clusters[0].knows(&[(0, here.clone()), (1, here.clone()), (2, here)]);
     let ended = tokio::time::timeout(Duration::from_secs(20), flushing).await;
     assert_eq!(ended.unwrap().unwrap(), 200);
-    // One that nobody has is looked for, and named.
+    // A shard without an owner is looked for, and named.
     both.a.units.hand_over(1).await.unwrap();
     both.clusters[0].knows(&[(0, there("b")), (1, Whose::Nobody), (2, there("b"))]);
     let (status, text) = both.a.ask("POST", "/flush").await;
     assert!(status == 503 && text.contains("not slot 1: no instance has it"), "{status} {text}");
-    // Who is asked for what it has not says so.
+    // An instance that is asked about a shard it does not have says so.
     both.clusters[0].knows(&[(1, there("b"))]);
     both.net.mood("b", Mood::Well);
     both.b.units.hand_over(1).await.unwrap();
@@ -338,7 +338,7 @@ async fn series_are_found_in_all_slots_and_forgotten_by_the_instances_that_have_
     );
     assert_eq!(both.a.post(&[2], 10).await.status(), 200, "as a new one");
     assert_eq!(both.a.post(&[0], 5).await.status(), 400, "it is known");
-    // Of several each instance does its own, and says where the others are.
+    // If a command concerns several instances, each carries out its part and says where the others are.
     let all = "/forget?series=m&all&force";
     let (status, location, told) = redirected(&both.a, "POST", all).await;
     assert_eq!((status, location), (307, format!("http://b.example:4319{all}")));

@@ -1,4 +1,4 @@
-//! Dead requests, and orders that are given again.
+//! Dead letters, and commands that are repeated.
 
 use super::*;
 
@@ -34,7 +34,7 @@ async fn dead_requests_are_shown_and_settled_by_the_instance_that_has_them() {
     let (status, resent) = json(&both.b, "POST", "/dead/1-abc-7/resend").await;
     assert_eq!((status, &resent["taken"]), (200, &Json::Bool(true)), "{resent}");
     assert_eq!(both.b.sink.came.lock().unwrap()[0].key(), "1-abc-7");
-    // No other machine reaches it; and nobody has the slot.
+    // No other machine can reach its admin address; and the shard has no owner.
     let mut seen = seen();
     seen.instances[1].operate.clear();
     both.clusters[0].has_seen(seen);
@@ -46,7 +46,7 @@ async fn dead_requests_are_shown_and_settled_by_the_instance_that_has_them() {
     assert!(status == 503 && why.starts_with("slot 1: no instance has it"), "{status} {why}");
 }
 
-/// As where the instance is lost with its answer, and another has its slot.
+/// As when the instance is fenced before it answers, and another one takes its shard.
 #[tokio::test]
 async fn an_order_that_is_given_again_since_its_answer_was_lost_is_answered_as_it_was_carried_out() {
     let both = Both::new().await;

@@ -1,8 +1,8 @@
-//! Whether an instance among others takes posts.
+//! Whether an instance among others is ready.
 
 use super::*;
 
-/// A balancer would take it out else, for as long as its journals take to read.
+/// Otherwise a load balancer would take it out for as long as its journals take to read.
 #[tokio::test]
 async fn an_instance_is_ready_while_it_takes_posts_of_any_slot() {
     let both = Both::new().await;

@@ -1,4 +1,4 @@
-//! What an instance among others tells who operates them.
+//! What an instance among others reports to operators.
 
 use super::*;
 
@@ -8,7 +8,7 @@ async fn quarantined(service: &Service) -> Option<u64> {
     count.and_then(|count| count.parse().ok())
 }
 
-/// Who adds up what all instances say has the number, also while nobody has the first slot.
+/// A sum over all instances gives the right number, even while the first shard has no owner.
 #[tokio::test]
 async fn a_quarantined_sender_is_counted_once_whoever_has_which_slot() {
     let both = Both::new().await;
@@ -28,7 +28,7 @@ async fn a_quarantined_sender_is_counted_once_whoever_has_which_slot() {
     assert_eq!(counted().await, [Some(1), Some(0)]);
 }
 
-/// It is looked at, and loads itself anew, just when an instance stands still.
+/// Operators look at the page, which reloads itself, just when an instance stalls.
 #[tokio::test]
 async fn the_page_waits_for_no_instance_that_stands_still() {
     let both = Both::new().await;
