@@ -1,5 +1,8 @@
-//! Brings a slot's outbox to the sink: one request after the other, or several at once, each under its own key until it is
-//! taken.
+//! Delivers a shard's outbox to the sink: one request after another, or several in one transaction, each under its own
+//! key.
+//!
+//! `service/unit` runs one delivery for each open shard. A request leaves the outbox only after the sink has it, or
+//! after it is a dead letter.
 
 mod epochs;
 mod files;
@@ -22,30 +25,31 @@ use together::Size;
 use tokio::sync::{watch, Notify};
 use tokio::time::timeout;
 
-/// How long a request is sent again at which the sink fails, or does not let this service in. What OTLP says is to send
-/// it no more; but a sink says so also while a part of it is down, or a token has expired, and then each request of that
-/// time would be put aside. For ever would hold up all behind a request that no sink can take, until the disk is full.
+/// For how long a request is retried while the sink fails or denies access. OTLP says not to retry these answers; but a
+/// sink also gives them while a part of it is down, or after a token has expired, and then each request of that time
+/// would become a dead letter. Retrying forever would block all later requests on one that no sink can take, until the
+/// disk is full.
 const FAILING: Duration = Duration::from_secs(24 * 3600);
 
-/// How long it is not said that nothing is sent, since it is not sure that the slot is this instance's: where others take it
-/// over, or the store is slow for once, that passes.
+/// How long to wait before reporting that nothing is sent because we can't prove that we own the shard: during a
+/// takeover, or if the store is slow once, that passes.
 const UNSURE: Duration = Duration::from_secs(60);
 
-/// How long until it is looked again whether a letter has room.
+/// How long to wait before checking again whether the disk has room for a dead letter.
 const ROOM: Duration = Duration::from_millis(if cfg!(test) { 10 } else { 1000 });
 
 /// The state of a delivery, for `status`.
 #[derive(Clone, Debug, Default, PartialEq, Eq, serde::Serialize, serde::Deserialize)]
 pub struct Delivery {
-    /// Why the last try was not taken, where it was not, or why none is made.
+    /// Why the last try failed, if it did, or why there is none.
     pub trouble: Option<String>,
-    /// How often the first waiting request was tried; 0 once it is taken.
+    /// How often the first waiting request was tried; 0 after it was taken.
     pub tries: u64,
-    /// When it is tried again, in seconds since 1970, while that is waited for.
+    /// When the next try is due, in seconds since 1970, while the delivery waits for it.
     pub next_try: Option<u64>,
 }
 
-/// A delivery, as operators see and hurry it.
+/// A delivery, as operators see it and hurry it.
 #[derive(Default)]
 pub struct Attempts {
     state: Mutex<Delivery>,
@@ -57,14 +61,14 @@ impl Attempts {
         locked(&self.state).clone()
     }
 
-    /// What is to be tried again later is tried now.
+    /// Makes a waiting retry happen now.
     pub fn hurry(&self) {
         self.hurried.notify_one();
     }
 }
 
-/// Brings a slot's outbox to the sink. It returns by a fault of a file, once it is told to stop, or once the slot is lost; what
-/// changes a file is then done to its end first, so that its fault is told.
+/// Delivers a shard's outbox until a file fails, `stop` is set or the shard is fenced. A change of a file that is in
+/// progress is finished first, so that its fault is reported.
 pub async fn deliver(
     slot: u16,
     outbox: Arc<Outbox>,
@@ -90,16 +94,16 @@ struct Run<S> {
     sink: Arc<dyn Sink>,
     metrics: Arc<Metrics>,
     attempts: Arc<Attempts>,
-    /// The sink knows from which epochs requests go on.
+    /// The sink knows which epochs the requests continue.
     is_told: AtomicBool,
-    /// How long a request is sent again at which the sink fails.
+    /// For how long a request is retried while the sink fails.
     failing: Duration,
-    /// How long it is not said that it is not sure of its slot.
+    /// How long to wait before reporting that we can't prove that we own the shard.
     unsure: Duration,
     stop: watch::Receiver<bool>,
 }
 
-/// Why a delivery ends: by a fault, or else it was stopped.
+/// Why a delivery ends: because of a fault, or, if none, because it was stopped.
 type End = Option<Fault>;
 
 impl<S: Store> Run<S> {
@@ -111,9 +115,9 @@ impl<S: Store> Run<S> {
     async fn run(&self) -> Result<Infallible, End> {
         let mut size = Size::of(&*self.sink);
         if self.files.tenure().is_some() {
-            self.wait_until_sure(0).await?; // another owner's epochs would be cut off
+            self.wait_until_sure(0).await?; // else another owner's epochs would be dropped
         }
-        let _later = self.tell_epochs().await?; // before the next request, if it fails
+        let _later = self.tell_epochs().await?; // on failure it is repeated before the next request
         loop {
             let (waiting, body) = self.unless_stopped(self.files.first()).await??;
             let request = self.request(waiting.number, body);
@@ -121,7 +125,7 @@ impl<S: Store> Run<S> {
                 continue;
             }
             self.settle(request).await?;
-            // Only what the sink has, or what lies in `dead/`, leaves the outbox.
+            // A request leaves the outbox only if the sink has it, or `dead/` does.
             self.files.acknowledge(waiting.number).await?;
         }
     }
@@ -130,7 +134,8 @@ impl<S: Store> Run<S> {
         Forwarded { slot: self.slot, epoch: self.files.epoch(), number, body }
     }
 
-    /// Sends a request, the same bytes under the same key, until its fate is known; what is not taken whole is kept.
+    /// Sends a request, with the same bytes and the same key, until its outcome is known. What the sink does not take
+    /// becomes a dead letter.
     async fn settle(&self, request: Forwarded) -> Result<(), End> {
         let mut failing = None;
         loop {
@@ -172,7 +177,7 @@ impl<S: Store> Run<S> {
         }
     }
 
-    /// Waits so long, or until somebody asks for the next try.
+    /// Waits for this long, or until someone asks for the next try.
     async fn pause(&self, wait: Duration) -> Result<(), End> {
         locked(&self.attempts.state).next_try = Some(log::seconds() + wait.as_secs_f64().ceil() as u64);
         let hurried = timeout(wait, self.attempts.hurried.notified());
@@ -181,7 +186,8 @@ impl<S: Store> Run<S> {
         Ok(())
     }
 
-    /// Returns once a request may be sent. Where that takes long it says so: else nobody would see why nothing is.
+    /// Waits until a request may be sent. If that takes long, it is reported: otherwise nobody would see why nothing is
+    /// sent.
     async fn wait_until_sure(&self, number: u64) -> Result<(), End> {
         let mut sure = pin!(self.unless_stopped(self.files.may_deliver(number)));
         if let Ok(sure) = timeout(self.unsure, &mut sure).await {
@@ -203,7 +209,7 @@ impl<S: Store> Run<S> {
         Ok(())
     }
 
-    /// Keeps a letter once the disk has room for it. Until then its request stays in the outbox.
+    /// Keeps a dead letter when the disk has room for it. Until then its request stays in the outbox.
     async fn keep(&self, key: &str, reason: String, body: Vec<u8>) -> Result<(), End> {
         let mut before = None;
         while !self.files.keep(key.into(), reason.clone(), body.clone()).await? {
@@ -234,7 +240,7 @@ impl<S: Store> Run<S> {
         Ok(())
     }
 
-    /// What the sink fails at is sent again, until it has done so for long, one time after the other.
+    /// Turns failures into retries until the sink has failed for too long without a break.
     fn with_patience(&self, fate: Fate, failing: &mut Option<Instant>) -> Fate {
         match fate {
             Fate::Failed { reason, after } | Fate::Denied { reason, after }
@@ -260,8 +266,8 @@ impl<S: Store> Run<S> {
         }
     }
 
-    /// The key of what is kept says that the request was taken: sent again under its own key, the points that the
-    /// sink took could count twice.
+    /// The key of the letter says that the request was taken: if it were sent again under its own key, the points that
+    /// the sink took could count twice.
     async fn keep_part(
         &self,
         request: Forwarded,
@@ -285,7 +291,7 @@ impl<S: Store> Run<S> {
         Ok(())
     }
 
-    /// Notes a try that failed. How many it were.
+    /// Notes a failed try and returns how many there were.
     fn failed(&self, key: &str, reason: String, outcome: &str) -> u64 {
         self.metrics.deliveries.with_label_values(&[outcome]).inc();
         let mut state = locked(&self.attempts.state);
@@ -314,7 +320,7 @@ impl<S: Store> Run<S> {
     }
 }
 
-/// Why a part of a request is kept: of all its points, or of those alone that the sink did not take.
+/// The reason of a partly taken request's letter, which has all of its points, or only the rejected ones.
 pub fn of_part(rejected: u64, reason: &str, is_known: bool) -> String {
     let points = if rejected == 1 { "point" } else { "points" };
     match is_known {

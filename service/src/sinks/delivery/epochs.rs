@@ -1,12 +1,12 @@
-//! A sink is told from which epochs a slot's requests go on, before these come.
+//! Tells the sink which epochs a shard's requests continue, before the first request is sent.
 
 use super::{End, Run, Store};
 use crate::sinks::{Beyond, Fate};
 use std::sync::atomic::Ordering::Relaxed;
 
 impl<S: Store> Run<S> {
-    /// Has the sink know from which epochs requests go on, and says what it has that the store has not. The error is what is to be
-    /// done of a request until it knows.
+    /// Tells the sink which epochs the requests continue, and reports what the sink has that the store has lost. The
+    /// error is the outcome of a request while the sink does not know this.
     pub(super) async fn tell_epochs(&self) -> Result<Result<(), Fate>, End> {
         if self.files.tenure().is_none() || self.is_told.load(Relaxed) {
             return Ok(Ok(()));

@@ -1,29 +1,29 @@
-//! What a delivery needs of its slot's files: the outbox, and letters in `dead/`.
+//! What a delivery needs of its shard's files: the outbox and the dead letters.
 
 use crate::files::outbox::Waiting;
 use crate::files::{Dead, Epochs, Fault, Lost, Outbox, Tenure};
 use crate::work::blocking;
 use std::sync::Arc;
 
-/// What a delivery needs of the files.
+/// The files, as a delivery needs them; tests replace them.
 pub(super) trait Store: Sync {
     fn epoch(&self) -> String;
-    /// Under which the slot is this instance's, where there are several.
+    /// What identifies us as the owner of the shard; none for a folder.
     fn tenure(&self) -> Option<Tenure> {
         None
     }
-    /// Those of requests that wait, and of those to come.
+    /// The epochs of waiting and future requests.
     fn epochs(&self) -> Epochs;
     async fn first(&self) -> Result<(Waiting, Vec<u8>), Fault>;
-    /// Returns once a request may be sent: it is durable, and the slot is this instance's.
+    /// Returns when the request may be sent: it is durable, and we own the shard.
     async fn may_deliver(&self, number: u64) -> Result<(), Fault>;
-    /// Those that wait behind the first, by their numbers: so many, of so many bytes together.
+    /// The waiting requests after the first, with their numbers, up to `most` requests and `bytes` bytes.
     async fn behind_first(&self, most: usize, bytes: usize) -> Vec<(u64, Vec<u8>)>;
     async fn lost(&self) -> Lost;
     async fn acknowledge(&self, number: u64) -> Result<(), Fault>;
-    /// Durable once it returns. Whether the disk has room for it.
+    /// Keeps a dead letter durably; false if the disk has no room for it.
     async fn keep(&self, key: String, reason: String, body: Vec<u8>) -> Result<bool, Fault>;
-    /// The sink has what an earlier run may have kept under this key, before it was killed.
+    /// The sink has this request, which an earlier run may have kept before it was killed: removes that letter.
     async fn let_go(&self, key: String, body: Vec<u8>) -> Result<(), Fault>;
 }
 
@@ -50,7 +50,8 @@ impl Store for Files {
     }
 
     async fn may_deliver(&self, number: u64) -> Result<(), Fault> {
-        // Also behind a settling: its answer may have been long on its way, and the slot be another's meanwhile.
+        // Checked again after each settle: its answer may have been long on its way, and another instance may own the
+        // shard by now.
         while !self.outbox.may_deliver(number) {
             let outbox = self.outbox.clone();
             blocking(move || outbox.settle()).await?;

@@ -1,4 +1,4 @@
-//! What becomes of requests, by a sink that answers by a script and files that are in memory.
+//! What becomes of requests, with a sink that follows a script and files in memory.
 
 use super::*;
 use crate::files::outbox::Waiting;
@@ -12,13 +12,13 @@ mod held;
 mod lost;
 mod several;
 
-/// Says these fates, then `Taken`.
+/// Answers with these fates, and then always `Taken`.
 #[derive(Default)]
 struct Script {
     fates: Mutex<VecDeque<Fate>>,
     came: Mutex<Vec<Forwarded>>,
     at: Mutex<Vec<Instant>>,
-    /// What it says of epochs, and then that it has nothing beyond.
+    /// Its answers about epochs; after these, that it has nothing beyond.
     beyond: Mutex<VecDeque<Result<Beyond, Fate>>>,
     asked: Mutex<u64>,
     held: Keys,
@@ -50,24 +50,24 @@ impl Sink for Script {
 
 type Letter = (String, String, Vec<u8>);
 
-/// Its requests wait in memory. A fault ends the delivery, so a test that wants an end runs out of requests.
+/// The waiting requests are in memory. A fault ends a delivery, so a test ends it by running out of requests.
 #[derive(Default)]
 struct Memory {
-    /// Turned on within the call of a file, which then goes on for a while.
+    /// Set during a call on a file, which then goes on for a while.
     stop: Option<watch::Sender<bool>>,
     waiting: Mutex<VecDeque<u64>>,
     dead: Mutex<Vec<Letter>>,
     acknowledged: Mutex<Vec<u64>>,
     dead_fails: bool,
-    /// So often the disk has no room for a letter.
+    /// How often the disk has no room for a dead letter.
     full: Mutex<u64>,
     acknowledge_fails: bool,
-    /// Turned on once the slot is another instance's.
+    /// Set when another instance owns the shard.
     lost: Option<watch::Receiver<bool>>,
     term: Option<u64>,
-    /// How often it is still found to be this instance's, where that ends.
+    /// How often we are still found to own the shard, if that ends.
     ours: Option<Mutex<u64>>,
-    /// Turned on once it is sure that it is.
+    /// Set when it is proven that we own the shard.
     sure: Option<watch::Receiver<bool>>,
 }
 
@@ -173,7 +173,7 @@ fn again(after: Option<Duration>) -> Fate {
     Fate::Again { reason: "busy".into(), after }
 }
 
-/// Delivers all that waits.
+/// Delivers everything that waits.
 async fn run(memory: &Memory, fates: Vec<Fate>) -> Tried {
     let (_never, stop) = watch::channel(false);
     let (tried, end) = run_until(memory, fates, stop).await;
@@ -181,7 +181,7 @@ async fn run(memory: &Memory, fates: Vec<Fate>) -> Tried {
     tried
 }
 
-/// Delivers all that waits, or until it is told to stop.
+/// Delivers everything that waits, or until it is told to stop.
 async fn run_until(
     memory: &Memory,
     fates: Vec<Fate>,
@@ -279,7 +279,7 @@ fn away() -> Fate {
     Fate::Away { reason: "refused".into() }
 }
 
-/// However long it was away: else a sink that is back gets nothing for a minute.
+/// However long it was away: otherwise a sink that is back would get nothing for a minute.
 #[tokio::test]
 async fn a_sink_that_is_away_is_asked_again_soon() {
     let memory = waiting([1, 2]);
@@ -290,7 +290,7 @@ async fn a_sink_that_is_away_is_asked_again_soon() {
     assert!(last < Duration::from_secs(10), "{last:?}: as of one that is busy");
 }
 
-/// By `flush`: whoever has mended the sink need not wait.
+/// The `flush` command does this: whoever has fixed the sink need not wait.
 #[tokio::test]
 async fn who_hurries_a_delivery_has_it_tried_at_once() {
     for fate in [
@@ -325,7 +325,7 @@ async fn what_is_refused_is_kept_and_the_next_goes_on() {
     assert_eq!((tried.outcome("taken"), tried.outcome("again"), tried.outcome("refused")), (1, 1, 1));
 }
 
-/// A sink that is down for a moment takes it then; one that never can is not asked for ever.
+/// A sink that is down for a moment takes the request later; one that never can is not asked forever.
 #[tokio::test]
 async fn what_a_sink_fails_at_is_sent_again_for_a_while() {
     let failed_for = |after| Fate::Failed { reason: "500".into(), after };
@@ -348,7 +348,7 @@ async fn what_a_sink_fails_at_is_sent_again_for_a_while() {
     assert!(of_first > 4, "it was put aside although it had not failed for long: {of_first}");
 }
 
-/// Kept under another key, it can't be taken for a request that the sink does not have.
+/// Under another key it can't be taken for a request that the sink does not have.
 #[tokio::test]
 async fn what_is_taken_in_part_is_kept_and_not_sent_again() {
     let memory = waiting([1]);
@@ -375,7 +375,7 @@ async fn of_what_is_taken_in_part_the_rest_alone_is_kept_where_it_is_known() {
     assert_eq!(tried.outcome("partial"), 1);
 }
 
-/// What `deliver` returns must be a task of its own.
+/// The future that `deliver` returns must be `Send`, to run as a task.
 #[test]
 fn a_delivery_can_be_spawned() {
     fn is_send<T: Send>(_: impl FnOnce(Arc<Outbox>, Arc<Dead>, Arc<dyn Sink>, Arc<Metrics>) -> T) {}

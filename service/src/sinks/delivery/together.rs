@@ -1,12 +1,13 @@
-//! Requests that go in one go, where the sink can: after a flush of many hours, or hours in which it was away, thousands wait.
+//! Delivers several requests in one transaction, if the sink can: after a flush of many hours, or an outage of hours,
+//! thousands wait.
 
 use super::{End, Run, Store};
 use crate::sinks::{Forwarded, Sink};
 
-/// The most bytes of requests that go in one go, but for a longer first one.
+/// The most bytes of requests in one transaction, unless the first one alone is longer.
 const BYTES: usize = 4 << 20;
 
-/// How many requests are tried in one go.
+/// How many requests to try in one transaction.
 pub(super) struct Size {
     now: usize,
     most: usize,
@@ -18,7 +19,7 @@ impl Size {
         Size { now: most, most }
     }
 
-    /// One of them may be at fault: fewer are tried then, until that one is by itself.
+    /// After a failure fewer are tried, down to one: so a request that is at fault is found.
     fn tried(&mut self, count: usize, is_taken: bool) {
         self.now = match is_taken {
             true => self.now.saturating_mul(2),
@@ -29,8 +30,8 @@ impl Size {
 }
 
 impl<S: Store> Run<S> {
-    /// Brings the first request and those behind it in one go, and has them leave the outbox; whether it did. Else nothing of
-    /// them is in the sink, or their keys say what is.
+    /// Delivers the first request and those after it in one transaction, and acknowledges them. False if that failed:
+    /// then the sink has none of them, or their keys tell which it has.
     pub(super) async fn together(&self, first: &Forwarded, size: &mut Size) -> Result<bool, End> {
         let room = BYTES.saturating_sub(first.body.len());
         let behind = match size.now {
@@ -64,7 +65,7 @@ impl<S: Store> Run<S> {
             self.wait_until_sure(last.number).await?;
         }
         if self.tell_epochs().await?.is_err() {
-            return Ok(false); // each by itself, by which it is known why
+            return Ok(false); // sent one by one, each reports why
         }
         let tenure = self.files.tenure();
         self.unless_stopped(self.sink.deliver_together(all, tenure.as_ref())).await

@@ -1,4 +1,4 @@
-//! A sink is told of a slot's epochs before its requests come, and says what it has beyond.
+//! The sink learns a shard's epochs before its first request, and tells what it has beyond them.
 
 use super::*;
 
@@ -24,7 +24,7 @@ async fn a_sink_says_once_what_it_has_beyond() {
     assert_eq!(tried.metrics.sink_ahead.with_label_values(&["2"]).get(), 7);
 }
 
-/// Else what was put aside before, and is sent again, would be left out.
+/// Otherwise dead letters from before, sent again, would be left out.
 #[tokio::test]
 async fn nothing_is_sent_before_the_sink_knows() {
     let away = || Err(again(None));

@@ -1,8 +1,8 @@
-//! A delivery and its files: what fails there ends it, and nothing is in two places.
+//! A delivery and its files: a fault of a file ends the delivery, and nothing is in two places.
 
 use super::*;
 
-/// What is in no file must not leave the outbox.
+/// A request that is in no other file must not leave the outbox.
 #[tokio::test]
 async fn a_letter_that_can_not_be_kept_ends_the_delivery() {
     for fate in [Fate::refused("400"), Fate::TakenPartly { rejected: 1, reason: String::new(), left: None }] {
@@ -13,7 +13,7 @@ async fn a_letter_that_can_not_be_kept_ends_the_delivery() {
     }
 }
 
-/// It is not sent again: of what is taken in part a sink that knows no keys would count twice.
+/// The request is not sent again meanwhile: a sink that knows no keys would count its taken part twice.
 #[tokio::test]
 async fn a_request_stays_in_the_outbox_until_its_letter_has_room() {
     let partly = || Fate::TakenPartly { rejected: 1, reason: "no".into(), left: None };
@@ -63,7 +63,7 @@ async fn a_fault_of_a_file_is_told_by_a_delivery_that_is_told_to_stop() {
     }
 }
 
-/// An earlier run put it aside, and was killed before it went on. Sent again by hand, it would count twice where the sink
+/// An earlier run kept it as a dead letter and was then killed. Sent again by hand, it would count twice in a sink that
 /// knows no keys.
 #[tokio::test]
 async fn what_the_sink_takes_is_put_aside_no_more() {

@@ -1,8 +1,8 @@
-//! Who is not let in, and who waits for a key.
+//! Access denied by the sink, and keys that someone else is sending.
 
 use super::*;
 
-/// Else a token that expired would put aside each request of the time until somebody sees it.
+/// Otherwise an expired token would turn each request into a dead letter until somebody notices.
 #[tokio::test]
 async fn who_is_not_let_in_comes_again_and_is_counted() {
     let denied = || Fate::Denied { reason: "401".into(), after: None };
@@ -14,7 +14,7 @@ async fn who_is_not_let_in_comes_again_and_is_counted() {
     assert_eq!(counted, [2, 1, 2, 0]);
 }
 
-/// As by an operator who sends a letter again that the outbox has too.
+/// As when an operator sends a dead letter again that the outbox has too.
 #[tokio::test]
 async fn a_key_that_somebody_else_sends_is_waited_for() {
     let memory = waiting([1]);

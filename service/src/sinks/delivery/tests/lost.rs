@@ -1,4 +1,4 @@
-//! A slot that another instance takes while its requests are delivered.
+//! A shard that another instance takes while its requests are delivered.
 
 use super::*;
 use crate::files::drive::{self, memory};
@@ -20,7 +20,7 @@ async fn a_delivery_ends_once_its_slot_is_lost() {
     assert!(memory.acknowledged.lock().expect("acknowledged").is_empty());
 }
 
-/// The next owner delivers it too, and a sink may forget keys.
+/// The next owner delivers the request too, and a sink may drop old keys.
 #[tokio::test]
 async fn each_try_is_made_while_the_slot_is_this_instances() {
     let (_never, stop) = watch::channel(false);
@@ -30,7 +30,7 @@ async fn each_try_is_made_while_the_slot_is_this_instances() {
     assert_eq!(tried.keys(), ["2-e-1", "2-e-1"]);
 }
 
-/// Else nothing is delivered, for ever, and nobody sees why.
+/// Otherwise nothing would be delivered, and nobody would see why.
 #[tokio::test]
 async fn it_is_said_where_it_is_long_not_sure_that_the_slot_is_this_instances() {
     let (tell, sure) = watch::channel(false);
@@ -58,7 +58,7 @@ async fn it_is_said_where_it_is_long_not_sure_that_the_slot_is_this_instances() 
     assert_eq!((sink.came.lock().expect("came").len(), run.attempts.state()), (2, Delivery::default()));
 }
 
-/// The sink may have it already, of the owner before.
+/// The sink may already have it from the previous owner.
 #[tokio::test]
 async fn the_next_owner_sends_what_waits_under_the_same_key() {
     for term in [4, 5] {
@@ -67,7 +67,8 @@ async fn the_next_owner_sends_what_waits_under_the_same_key() {
     }
 }
 
-/// The store had its commit, and another took the slot before the answer came: so where the instance is stopped there.
+/// The store made our commit, and another instance took the shard before the answer came, because this process was
+/// suspended.
 #[tokio::test(flavor = "multi_thread")]
 async fn nothing_is_sent_behind_an_answer_that_was_long_on_its_way() {
     let (store, stops) = (Arc::<memory::Store>::default(), Arc::new(AtomicBool::new(false)));
@@ -75,7 +76,7 @@ async fn nothing_is_sent_behind_an_answer_that_was_long_on_its_way() {
     let owner = store.take_with(move |step| {
         if step == memory::Step::Committed && stop.swap(false, SeqCst) {
             drop(taken.take());
-            std::thread::sleep(Duration::from_millis(350)); // more than `OURS` of a test
+            std::thread::sleep(Duration::from_millis(350)); // more than `OURS` in tests
         }
         Ok(())
     });

@@ -1,15 +1,15 @@
-//! A sink that takes several requests in one go.
+//! A sink that takes several requests in one transaction.
 
 use super::*;
 
-/// Refuses these, and takes all others, each once.
+/// Refuses these requests and takes all others, each once.
 #[derive(Default)]
 struct Several {
     refused: Vec<u64>,
-    /// By themselves alone it takes any.
+    /// While it is away, it takes requests only one by one.
     is_away: Mutex<bool>,
     taken: Mutex<Vec<u64>>,
-    /// How many came at once.
+    /// How many requests came at once.
     came: Mutex<Vec<usize>>,
     held: Keys,
 }
@@ -74,7 +74,7 @@ async fn as_many_as_it_takes_go_in_one_go() {
     assert_eq!(*sink.came.lock().expect("came"), [1]);
 }
 
-/// It drags no other into `dead/`.
+/// A refused request takes no other with it into `dead/`.
 #[tokio::test]
 async fn one_that_is_refused_goes_by_itself() {
     for refused in [vec![1], vec![5], vec![20], vec![3, 4, 11], (1..=20).collect()] {
@@ -87,7 +87,7 @@ async fn one_that_is_refused_goes_by_itself() {
     }
 }
 
-/// Else it would be asked again and again without a pause.
+/// Otherwise it would be asked again and again without a pause.
 #[tokio::test]
 async fn while_it_is_away_one_is_tried_by_itself() {
     let (sink, _) = delivered(Several { is_away: Mutex::new(true), ..Several::default() }, 20).await;
