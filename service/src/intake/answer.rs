@@ -1,4 +1,5 @@
-//! An answer to a sender, as it goes over its connection.
+//! Writes the HTTP/1.1 response to a sender: status line, headers, body. `front` calls it with the outcome of a
+//! request.
 
 use super::head::Connection;
 use crate::log::seconds;
@@ -8,10 +9,10 @@ use std::cell::RefCell;
 use std::io::Write;
 use std::time::{Duration, UNIX_EPOCH};
 
-/// What most posts are answered; its date follows, and its body.
+/// The head of the most common response, up to the date; a body of `{}` follows.
 const TAKEN: &str = "HTTP/1.1 200 OK\r\ncontent-type: application/json\r\ncontent-length: 2\r\ndate: ";
 
-/// Writes an answer in the kind of its request.
+/// Writes a response in the encoding of its request.
 pub fn write(out: &mut Vec<u8>, outcome: &Outcome, encoding: Encoding, connection: Connection) {
     let is_usual =
         encoding == Encoding::Json && connection == Connection::Kept && *outcome == Outcome::taken(0);
@@ -21,7 +22,7 @@ pub fn write(out: &mut Vec<u8>, outcome: &Outcome, encoding: Encoding, connectio
     });
 }
 
-/// The same without its body, whose length it has: what HEAD is answered.
+/// Writes the response to a HEAD request: the same headers, including the body's length, without the body.
 pub fn write_head(out: &mut Vec<u8>, outcome: &Outcome, encoding: Encoding, connection: Connection) {
     write(out, outcome, encoding, connection);
     out.truncate(out.len() - outcome.body(encoding).len());
@@ -55,7 +56,7 @@ fn write_any(out: &mut Vec<u8>, outcome: &Outcome, encoding: Encoding, connectio
 }
 
 thread_local! {
-    /// The second it is, and its text.
+    /// The current second and its text as an HTTP date.
     static DATE: RefCell<(u64, String)> = const { RefCell::new((0, String::new())) };
 }
 

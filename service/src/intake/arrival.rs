@@ -1,9 +1,10 @@
-//! A body on its way: what it has of memory while its sender is waited for, and how long.
+//! Bounds the memory and the time of bodies that are still arriving. `body` asks it before each wait for more bytes.
 //!
-//! A sender may stop at any byte, and memory holds what came. So bodies that are waited for have at most half of what posts
-//! may take, and long ones less: the rest is for those that are here. While they have over a quarter no long one begins, so
-//! that those that began have room, and who is slow gives way. Nobody waits for room, so no two wait for each other. Who is
-//! alone is refused for none of that: one that has over a quarter here would take over all once it is read (`post`).
+//! A sender may pause at any byte while its bytes occupy memory. So all arriving bodies together may use at most half
+//! of the budget, and long ones less; the rest is for bodies that have arrived. Above a quarter of the budget, no
+//! further body may become long, so that those that are long already have room, and slow bodies are refused. No body
+//! ever waits for room, so there is no deadlock. None of these bounds refuses a body that arrives alone: one that uses
+//! more than a quarter of the budget here would exceed all of it when it is parsed (`post`).
 
 use super::refusal::{Full, Refusal};
 use super::weight::Hold;
@@ -13,25 +14,25 @@ use std::pin::pin;
 use std::time::{Duration, Instant};
 use tokio::time::sleep;
 
-/// What bodies that are waited for have at most, in eighths of all.
+/// The most that arriving bodies may use together, in eighths of the budget.
 const MOST: usize = 4;
-/// A long one comes no further where all have more than so many.
+/// A long body is refused if all arriving bodies would use more than this, in eighths.
 const MOST_WITH_LONG: usize = 3;
-/// Where they have more than so many, room is short.
+/// Above this many eighths, no body becomes long and slow bodies are refused.
 const SHORT_OF_ROOM: usize = 2;
-/// Who is slower gives way then: so many bytes a second, and so long beside.
+/// The speed, in bytes a second, that a body must keep while room is short, after this grace time.
 const PACE: usize = 1 << 20;
 const GRACE: Duration = Duration::from_secs(2);
-/// How often it is looked whether one has to.
+/// How often a waiting body is checked against these bounds.
 const LOOK: Duration = Duration::from_millis(250);
 
-/// A body that may not be whole yet.
+/// A body that may still be arriving.
 pub struct Arrival<'h> {
     hold: &'h mut Hold,
     received: usize,
-    /// Since when it has something.
+    /// When its first bytes were received.
     since: Instant,
-    /// What it takes of the room of bodies that are waited for.
+    /// The bytes that it has reserved in `Budget::arriving`.
     taken: usize,
 }
 
@@ -40,7 +41,7 @@ impl<'h> Arrival<'h> {
         Arrival { hold, received: 0, since: Instant::now(), taken: 0 }
     }
 
-    /// So many bytes are here.
+    /// Records how many bytes have been received in all.
     pub fn has(&mut self, received: usize) -> Result<(), Refusal> {
         if self.received == 0 {
             self.since = Instant::now();
@@ -49,7 +50,7 @@ impl<'h> Arrival<'h> {
         self.hold.set(memory_of(received)).map_err(Refusal::from)
     }
 
-    /// What comes next, as long as it may be waited for.
+    /// Waits for the next part, as long as the bounds allow it.
     pub async fn next<T>(&mut self, coming: impl Future<Output = T>) -> Result<T, Refusal> {
         let coming = pin!(coming);
         tokio::select! {
@@ -61,7 +62,7 @@ impl<'h> Arrival<'h> {
 
     async fn gives_way(&mut self) -> Refusal {
         if self.received == 0 {
-            return pending().await; // it has nothing
+            return pending().await; // it occupies no memory yet
         }
         loop {
             if let Err(refusal) = self.stays() {
@@ -101,7 +102,7 @@ impl Drop for Arrival<'_> {
     }
 }
 
-/// What so many bytes take: a vector that grows has up to twice its bytes.
+/// The memory that a received body takes: a growing vector has up to twice its bytes.
 fn memory_of(received: usize) -> usize {
     2 * received
 }
@@ -115,7 +116,7 @@ mod tests {
     use std::future::ready;
     use std::task::Poll;
 
-    /// Whether a body is waited for.
+    /// Whether the body may still be waited for.
     async fn waits(arrival: &mut Arrival<'_>) -> Result<bool, u16> {
         let mut next = pin!(arrival.next(pending::<()>()));
         match std::future::poll_fn(|context| Poll::Ready(next.as_mut().poll(context))).await {
@@ -177,7 +178,7 @@ mod tests {
         assert_eq!(waits(&mut slow).await, Err(503));
     }
 
-    /// Else one is refused for ever that could be read.
+    /// Otherwise a body that the service could parse would be refused every time.
     #[tokio::test]
     async fn who_is_alone_and_can_be_read_is_refused_for_no_share_however_slowly_it_comes() {
         for most in [1 << 20, 9 << 20, 256 << 20] {

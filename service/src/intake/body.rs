@@ -1,4 +1,5 @@
-//! The body of a post: received within its time, unpacked within its length, weighed while it is there.
+//! Receives the body of a post within its time, and unpacks it within its length and the memory budget. `Intake` calls
+//! it for HTTP; bodies from gRPC or from another instance are only unpacked here.
 
 use super::arrival::Arrival;
 use super::head::Packing;
@@ -12,14 +13,14 @@ use std::io::Read;
 use std::time::Duration;
 use tokio::io::{AsyncRead, AsyncWrite};
 
-/// A body's most bytes, packed and unpacked: what the book reads.
+/// The most bytes of a body, packed and unpacked: the most that the book reads.
 pub const MOST: usize = 4 << 20;
 
-/// How long, and how much, is still read of a request that was refused.
+/// How long, and how many bytes, the service goes on reading a refused request so that the sender can read its answer.
 pub const LEFT_TIME: Duration = Duration::from_secs(5);
 pub const LEFT_BYTES: usize = 64 << 20;
 
-/// Receives a body. A body that says itself that it is too long is refused before any of it is read.
+/// Receives a body. If its announced length is too long, it is refused before any of it is read.
 pub async fn receive<S: AsyncRead + AsyncWrite + Unpin>(
     wire: &mut Wire<S>,
     hold: &mut Hold,
@@ -32,7 +33,7 @@ pub async fn receive<S: AsyncRead + AsyncWrite + Unpin>(
         return Ok(Bytes::new());
     };
     if wire.is_whole() {
-        return Ok(first); // most bodies are one piece: nothing is copied
+        return Ok(first); // most bodies are one piece, which is not copied
     }
     let mut whole = Vec::from(first);
     while let Some(part) = next(wire, whole.len(), &mut arrival).await? {
@@ -41,7 +42,7 @@ pub async fn receive<S: AsyncRead + AsyncWrite + Unpin>(
     Ok(whole.into())
 }
 
-/// The next part after `have` bytes.
+/// The next part of the body, after `have` bytes.
 async fn next<S: AsyncRead + AsyncWrite + Unpin>(
     wire: &mut Wire<S>,
     have: usize,
@@ -57,8 +58,8 @@ async fn next<S: AsyncRead + AsyncWrite + Unpin>(
     Ok(Some(part))
 }
 
-/// Reads what still comes after a refusal and throws it away: a connection that is closed over unread bytes may
-/// take the answer with it.
+/// Reads the rest of a refused request and discards it: closing a connection with unread bytes resets it, and the
+/// sender may lose the answer.
 pub async fn throw_away<S: AsyncRead + AsyncWrite + Unpin>(wire: &mut Wire<S>) {
     let reading = async {
         let mut thrown = 0;
@@ -67,18 +68,18 @@ pub async fn throw_away<S: AsyncRead + AsyncWrite + Unpin>(wire: &mut Wire<S>) {
             thrown += part.len();
         }
     };
-    let _ = tokio::time::timeout(LEFT_TIME, reading).await; // who takes longer loses the answer
+    let _ = tokio::time::timeout(LEFT_TIME, reading).await; // a slower sender may lose the answer
 }
 
-/// How many gzip members a body may have (RFC 1952, 2.2). Even an empty one costs some microseconds. A packer that makes a
-/// member of each 64 KiB makes 65 of the longest body.
+/// How many gzip members a body may have (RFC 1952, 2.2). Each costs some microseconds, even an empty one. The longest
+/// body packed in members of 64 KiB has 65.
 pub const MAX_MEMBERS: usize = 100;
 
-/// How gzip begins, and neither JSON nor a message of protobuf.
+/// The first bytes of gzip data. Neither JSON nor a protobuf request begins with them.
 const GZIP: &[u8] = &[0x1f, 0x8b];
 
-/// Unpacks a body. What grows over `most` ends there, and takes no more memory than a body that does not. Python's gRPC
-/// (1.51) packs some messages twice.
+/// Unpacks a body. Unpacking stops as soon as the body exceeds `most`, so a bomb takes no more memory than a body of
+/// that length. Gzip is unpacked twice if needed, because Python's gRPC (1.51) packs some messages twice.
 pub fn unpack(packed: Bytes, packing: Packing, most: usize, hold: &mut Hold) -> Result<Bytes, Refusal> {
     match packing {
         Packing::Plain => Ok(packed),
@@ -90,7 +91,7 @@ pub fn unpack(packed: Bytes, packing: Packing, most: usize, hold: &mut Hold) -> 
     }
 }
 
-/// What `unpack` makes of a body, with so much memory beside it.
+/// Unpacks by `unpack`, while `beside` bytes more are reserved for the decoder.
 fn unpacked(
     packed: &[u8],
     unpack: fn(&[u8], usize) -> Result<Vec<u8>, Refusal>,
@@ -119,7 +120,7 @@ fn gunzip(mut packed: &[u8], most: usize) -> Result<Vec<u8>, Refusal> {
     Err(Refusal::TooManyMembers)
 }
 
-/// All frames of a body.
+/// Unpacks all frames of a body.
 fn unzstd(packed: &[u8], most: usize) -> Result<Vec<u8>, Refusal> {
     let mut reader = zstd::Decoder::new(packed).ok_or(Refusal::NoMemory)?;
     let mut plain = room_for(packed, most);
@@ -127,7 +128,7 @@ fn unzstd(packed: &[u8], most: usize) -> Result<Vec<u8>, Refusal> {
     Ok(plain)
 }
 
-/// Reads all behind what is there, which is never over `most` then.
+/// Appends all that `reader` yields to `plain`, up to `most` bytes in all.
 fn read_up_to(
     most: usize,
     reader: &mut impl Read,
@@ -196,7 +197,7 @@ pub(super) mod tests {
         assert_eq!(read(gzip(b""), 64 << 20), Ok(Bytes::new()));
     }
 
-    /// RFC 8878, 3: frames that follow each other are one body, and skippable ones have nothing of it.
+    /// RFC 8878, 3: consecutive frames are one body, and skippable frames add nothing to it.
     #[test]
     fn frames_of_zstd_are_one_body() {
         let skipped = [&b"\x50\x2a\x4d\x18\x03\0\0\0"[..], b"abc"].concat();
@@ -218,14 +219,14 @@ pub(super) mod tests {
         assert_eq!(read_zstd(gzip(b"text")), Err(400));
     }
 
-    /// Its window would take as much memory as its head says.
+    /// A decoder allocates the window that a frame's header asks for.
     #[test]
     fn a_window_of_zstd_is_bounded() {
         let log = zstd::WINDOW_LOG as u8;
         let with_window = |log| read_zstd(zstd::tests::frame_with_window(log, b"text"));
         assert_eq!(with_window(log), Ok(Bytes::from_static(b"text")));
         assert_eq!(with_window(log + 1), Err(400));
-        // A frame of zstd 0.7, whose window libzstd takes as it is.
+        // A frame of zstd 0.7, for which libzstd does not bound the window.
         let old = b"\x27\xb5\x2f\xfd\x00\x88\x40\x00\x04text\xc0\x00\x00";
         assert_eq!(read_zstd(&old[..]), Err(400));
         let small = read_packed(Packing::Zstd, zstd(b"{}"), 1 << zstd::WINDOW_LOG);
@@ -257,7 +258,7 @@ pub(super) mod tests {
         assert_eq!(read(both.into(), 64 << 20), Ok(Bytes::from_static(b"[1,2]")));
     }
 
-    /// Otherwise two megabytes of empty members would take a reader for a second.
+    /// Otherwise two megabytes of empty members would occupy a reader for a second.
     #[test]
     fn too_many_gzip_members_are_refused_at_once() {
         let parts = |count: usize| read(gzip(b"ab").repeat(count).into(), 64 << 20);
@@ -280,7 +281,7 @@ pub(super) mod tests {
         assert_eq!(read(gzip(b"{}"), MOST), Err(413), "there is never so much");
     }
 
-    /// What is received of a body that comes in parts, and is broken off after them.
+    /// Receives a body that is sent in `parts`; after them the connection breaks off.
     async fn received(framed: Framing, parts: &[&[u8]], most: usize) -> Result<Bytes, u16> {
         let budget = Budget::new(most);
         let (mut sender, stream) = tokio::io::duplex(16 << 10);

@@ -1,5 +1,6 @@
-//! How connections of an address are accepted, in a bounded number (`permits`); and those of the operators' address: each serves
-//! many requests, slow and idle ones are closed, and these at once where others wait. The senders' are in `front`.
+//! Accepts the connections of an address, as many at a time as it has `permits`, and serves those of the admin
+//! addresses and of other instances. Slow and idle connections are closed, and idle ones sooner while another client
+//! waits for a permit. `front` and `grpc` serve the connections of senders.
 
 use super::pace::{Overdue, Pace, Watched};
 use super::permits::{ConnectionPermit, ConnectionPermits};
@@ -24,39 +25,40 @@ use tokio::net::{TcpListener, TcpStream};
 use tokio::sync::watch;
 use tokio::task::JoinSet;
 
-/// How long to wait where the system has no connection to give, for want of file descriptors.
+/// The pause after an accept has failed, for example for want of file descriptors.
 const NO_CONNECTION: Duration = Duration::from_millis(100);
-/// That it has none is told once a second at most, of all addresses together.
+/// Limits the warning about it to one a second for all addresses together.
 static TOLD: RateLimit = RateLimit::new();
 
-/// How often it is looked whether an operator's connection is overdue.
+/// How often a connection is checked for being overdue.
 const LOOK: Duration = Duration::from_secs(1);
 
-/// How long who is being answered is waited for at the end, an operator or another instance.
+/// How long the shutdown waits for the last answers to operators and other instances.
 const LAST_ANSWERS: Duration = Duration::from_secs(2);
 
-/// The answer to a head that did not come whole. How it would be answered is not known yet, so it is JSON.
+/// The response to a head that did not arrive in time. The encoding of the request is unknown, so it is JSON.
 const LATE: &[u8] =
     b"HTTP/1.1 408 Request Timeout\r\ncontent-type: application/json\r\ncontent-length: 44\r\n\
 connection: close\r\n\r\n{\"message\":\"the request did not come whole\"}";
 
-/// What answers requests.
+/// Answers requests.
 pub trait Handler: Send + Sync + 'static {
     fn answer(self: Arc<Self>, request: Request<Body>) -> impl Future<Output = Response<Body>> + Send;
 }
 
-/// What the connections of an address may take.
+/// The limits of the connections of one address.
 #[derive(Clone, Debug)]
 pub struct Limits {
-    /// How many there are at a time; further ones wait in the system's queue.
+    /// How many there may be at a time; further ones wait in the system's queue.
     pub connections: usize,
-    /// How long a head may take from its first byte on.
+    /// How long a head may take from its first byte.
     pub head: Duration,
-    /// How long a connection is kept between requests.
+    /// How long a connection may be idle between requests.
     pub idle: Duration,
 }
 
-/// Accepts the next connection, and then waits for its permit: so it is known whether a client waits for one.
+/// Accepts the next connection, then waits for its permit. In this order the permits know whether a client waits for
+/// one.
 async fn accepted<L: Listener>(
     permits: &ConnectionPermits,
     listener: &L,
@@ -75,8 +77,8 @@ async fn accepted<L: Listener>(
     }
 }
 
-/// Accepts until `stop` is true or its sender is gone: the connections that are open then. Several may accept at one listener: who
-/// comes is accepted by one of them.
+/// Accepts connections until `stop` is true or its sender is dropped, and returns those that are still open. Several
+/// callers may accept from one listener; each connection goes to one of them.
 async fn accept<L: Listener>(
     listener: Arc<L>,
     permits: Arc<ConnectionPermits>,
@@ -98,24 +100,24 @@ async fn accept<L: Listener>(
     open
 }
 
-/// Waits for the end of each.
+/// Waits until each connection has ended.
 async fn ended(open: &mut JoinSet<()>) {
     while open.join_next().await.is_some() {}
 }
 
-/// The same, but not for longer than an answer may take at the end: nothing is left of them then.
+/// The same within `LAST_ANSWERS`; after that, the remaining connections are aborted.
 async fn ended_in_time(mut open: JoinSet<()>) {
     if tokio::time::timeout(LAST_ANSWERS, ended(&mut open)).await.is_err() {
         open.shutdown().await;
     }
 }
 
-/// What carries a connection of senders: TCP itself, or TLS over it. Nothing is asked of which it is for each byte.
+/// The stream of a connection of senders: TCP, or TLS over it. The type is static, so no byte costs a dynamic call.
 pub trait Transport: AsyncRead + AsyncWrite + Unpin + Send + 'static {}
 
 impl<S: AsyncRead + AsyncWrite + Unpin + Send + 'static> Transport for S {}
 
-/// What senders speak at an address.
+/// The protocol that senders speak at an address.
 pub trait Protocol: 'static {
     const OVER_TLS: tls::Protocol;
 
@@ -128,7 +130,7 @@ pub trait Protocol: 'static {
     ) -> impl Future<Output = ()> + Send;
 }
 
-/// What the connections of an address of senders share.
+/// State shared by the connections of one sender address.
 pub struct Shared<T> {
     pub(crate) limits: Limits,
     pub(crate) door: Door,
@@ -148,8 +150,8 @@ impl<T: Taker> Shared<T> {
     }
 }
 
-/// Serves senders, with each connection on one of the threads, until `stop` is true or its sender is gone: then nothing
-/// more is accepted, requests that are under way are answered, and it returns after the last of them.
+/// Serves senders, each connection on one of the threads, until `stop` is true or its sender is dropped. After that it
+/// accepts nothing more, has the requests in flight answered, and returns after the last of them.
 pub async fn spread<P: Protocol, T: Taker>(
     listener: Arc<impl Listener<Stream = TcpStream>>,
     shared: Arc<Shared<T>>,
@@ -157,7 +159,7 @@ pub async fn spread<P: Protocol, T: Taker>(
 ) {
     let (permits, stop) = (shared.permits.clone(), shared.stop.clone());
     let begin = |open: &mut JoinSet<()>, stream: TcpStream, permit: Arc<ConnectionPermit>| {
-        // Its thread's runtime takes it over from this one.
+        // The stream is registered with the runtime of its serving thread, not with this one.
         let peer = stream.peer_addr().ok().map(|peer| peer.ip());
         let Ok(stream) = stream.into_std() else { return };
         let (shared, threads) = (shared.clone(), threads.clone());
@@ -182,7 +184,8 @@ pub async fn spread<P: Protocol, T: Taker>(
     ended(&mut accept(listener, permits, stop, begin).await).await;
 }
 
-/// A connection that begins with a handshake: this has its place too, and none of the threads that serve posts.
+/// Does the handshake of a connection before it is served. The handshake counts as a connection, and runs on none of
+/// the threads that serve posts.
 async fn over_tls<P: Protocol, T: Taker>(
     stream: std::net::TcpStream,
     peer: Option<IpAddr>,
@@ -194,7 +197,7 @@ async fn over_tls<P: Protocol, T: Taker>(
     let mut stop = shared.stop.clone();
     let shaken = tokio::select! {
         shaken = tls.handshake(stream, P::OVER_TLS, || shared.permits.has_waiter()) => shaken,
-        _ = stop.wait_true() => None, // nothing is owed to it
+        _ = stop.wait_true() => None, // no request has come, so no answer is owed
     };
     let Some(shaken) = shaken else { return };
     let (thread, turn) = threads.place();
@@ -205,10 +208,11 @@ async fn over_tls<P: Protocol, T: Taker>(
         }
         drop(turn);
     });
-    let _ = serving.await; // it fails only where it panics
+    let _ = serving.await; // it fails only if the connection panics
 }
 
-/// Serves operators, on the runtime that it is called on, with the same end; but who is not answered soon then is not waited for.
+/// Serves operators or other instances on the calling runtime until `stop` is true. In contrast to `spread`, it waits
+/// only `LAST_ANSWERS` for connections that are still open.
 pub async fn serve<L: Listener, H: Handler>(
     listener: Arc<L>,
     limits: Limits,
@@ -229,8 +233,8 @@ pub async fn serve<L: Listener, H: Handler>(
     ended_in_time(accept(listener, permits, stop, begin).await).await;
 }
 
-/// The same over TLS, where there is some, and clients show certificates: each connection begins with a handshake, which has
-/// its place too, and ends with what was shown.
+/// Does the same over TLS with client certificates, if there is a `tls`. Each connection begins with a handshake, which
+/// counts as a connection, and ends when the certificate of the client is no longer valid.
 pub async fn serve_over<H: Handler>(
     listener: Arc<TcpListener>,
     tls: Option<Arc<Tls>>,
@@ -255,7 +259,7 @@ pub async fn serve_over<H: Handler>(
             };
             let shaken = tokio::select! {
                 shaken = tls.runtime().spawn(shaking) => shaken.ok().flatten(),
-                _ = stop.wait_true() => None, // nothing is owed to it
+                _ = stop.wait_true() => None, // no request has come, so no answer is owed
             };
             if let Some(shaken) = shaken {
                 let chain = shaken.chain(&tls);
@@ -303,7 +307,7 @@ async fn connection<S: Transport, H: Handler>(
         if let Some(user) = user {
             request.extensions_mut().insert(user);
         }
-        // Boxed, so that the stream can be had back where a head is late.
+        // Boxed, so that the service is `Unpin` and the stream can be taken back after a late head.
         Box::pin(async move {
             pace.request_begins();
             let response = handler.answer(request).await;
@@ -331,14 +335,14 @@ async fn connection<S: Transport, H: Handler>(
                 Some(Overdue::Idle) => break,
                 Some(Overdue::Head) => {
                     let mut stream = served.into_parts().io;
-                    let _ = stream.write_all(LATE).await; // who does not read it has gone
+                    let _ = stream.write_all(LATE).await; // a client that does not read it is gone
                     return;
                 }
             },
         }
     }
     let mut stream = served.into_parts().io;
-    let _ = stream.shutdown().await; // who has gone needs no end
+    let _ = stream.shutdown().await; // the client may be gone already
 }
 
 #[cfg(test)]

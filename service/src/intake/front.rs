@@ -1,5 +1,5 @@
-//! A connection of a sender over HTTP: it serves many requests one after another, and is closed where it is slow or idle. All
-//! else of HTTP is hyper's, with which a post takes more processor time.
+//! Serves one HTTP/1.1 connection of a sender: many requests, one after another, until the connection is slow, idle, or
+//! evicted. It has HTTP/1.1 of its own (`wire`, `head`) because a post costs more processor time with hyper.
 
 use super::connections::{Limits, Protocol, Shared, Transport};
 use super::head::{self, Connection};
@@ -21,7 +21,7 @@ use std::time::Duration;
 use tokio::sync::watch;
 use tokio::time::{Instant, Sleep};
 
-/// How often within the time of a head it is looked whether it has come.
+/// How many times the timer of a connection fires within the time of a head.
 const LOOKS: u32 = 4;
 
 /// OTLP/HTTP.
@@ -58,13 +58,13 @@ impl Protocol for Http {
     }
 }
 
-/// Answers what has no head that can be read. How it would be answered is not known, so it is JSON.
+/// Answers a request whose head can't be parsed. Its encoding is unknown, so the answer is JSON.
 async fn refused<S: Transport>(wire: &mut Wire<S>, outcome: &Outcome, waiting: &mut Waiting) {
     let sent = wire.answer(|out| answer::write(out, outcome, Encoding::Json, Connection::Closed));
     waiting.is_sent(sent).await;
 }
 
-/// Serves a request. Whether a next one may follow.
+/// Serves a request. Returns whether another one may follow.
 async fn served<S: Transport, T: Taker>(
     wire: &mut Wire<S>,
     intake: &Intake<T>,
@@ -87,7 +87,7 @@ async fn served<S: Transport, T: Taker>(
     waiting.is_sent(sent).await && connection != Connection::Closed
 }
 
-/// The next head. None where none comes any more.
+/// Reads the next head; none if the connection is over.
 async fn next<S: Transport>(
     wire: &mut Wire<S>,
     waiting: &mut Waiting,
@@ -115,8 +115,8 @@ async fn next<S: Transport>(
     }
 }
 
-/// Whether a head may be whole, of which there was no end in so many bytes: so it is read once or twice, not for each
-/// byte that comes.
+/// Whether `input`, whose first `seen` bytes had no end of a head, may now contain a whole one. So a head is parsed
+/// once or twice, and not again for each byte that arrives.
 fn may_be_whole(input: &[u8], seen: usize) -> bool {
     let new = &input[seen.saturating_sub(3).min(input.len())..];
     !input.is_empty()
@@ -126,24 +126,26 @@ fn may_be_whole(input: &[u8], seen: usize) -> bool {
             || new.windows(3).any(|three| three == b"\n\r\n"))
 }
 
-/// What came of waiting for more of a head.
+/// The result of waiting for more of a head.
 enum Came {
     Bytes,
-    /// The sender has gone or sent nothing for long, or the service ends and owes nothing.
+    /// The sender has closed or was idle for too long, or the connection is to end and no answer is owed.
     Nothing,
-    /// A head began, and did not come whole within its time.
+    /// A head began and did not arrive whole in time.
     TooLate,
 }
 
-/// How long a connection waits. One timer serves all its requests: it looks now and then how often it has looked.
+/// How long a connection has waited. One timer serves all its requests: instead of being reset for each, it fires once
+/// in a `period` and counts.
 struct Waiting {
     period: Duration,
     looks: u32,
     most_idle: u32,
     look: Pin<Box<Sleep>>,
-    /// The service ends, or the connection is evicted.
+    /// Resolves when the service ends or the connection is evicted.
     stop: Pin<Box<dyn Future<Output = ()> + Send>>,
-    /// Both are waited for once, and not with each request: all connections wait for the end by one lock.
+    /// Whether the timer and `stop` have been polled. They are polled once, not for each request, because all
+    /// connections wait for `stop` by one lock.
     are_waited_for: bool,
     stopped: watch::Receiver<bool>,
     ending: bool,
@@ -179,17 +181,19 @@ impl Waiting {
         }
     }
 
-    /// Whether a next request may come after an answer.
+    /// Whether the connection stays open after an answer.
     fn may_go_on(&self) -> bool {
         !self.has_stopped() && !self.permits.has_to_close()
     }
 
-    /// Nobody has seen a change by this receiver, and the first one is the end; so is it where the sender has gone.
+    /// Whether the connection is to end. `stopped` never marks a change as seen and `stop` changes only once, so any
+    /// change is the end; so is a dropped sender.
     fn has_stopped(&self) -> bool {
         self.permit.is_evicted() || !matches!(self.stopped.has_changed(), Ok(false))
     }
 
-    /// Whether nothing more is to be waited for: whoever waits here is woken then.
+    /// Whether `stop` has resolved. It is polled only if that may have changed, since polling takes a lock that all
+    /// connections share.
     fn is_ending(&mut self, context: &mut Context<'_>) -> bool {
         if !self.ending && (!self.are_waited_for || self.has_stopped()) {
             self.ending = self.stop.as_mut().poll(context).is_ready();
@@ -197,8 +201,8 @@ impl Waiting {
         self.ending
     }
 
-    /// Whether an answer is sent. Who does not read it is waited for no longer than who sends nothing; for one look, while
-    /// others wait for its place.
+    /// Waits until an answer is sent; whether it was. A sender that does not read gets as long as an idle one, or about
+    /// one period while another client waits for a permit.
     async fn is_sent(&mut self, sending: impl Future<Output = std::io::Result<()>>) -> bool {
         let mut sending = pin!(sending);
         let mut looks = 0;
@@ -219,7 +223,7 @@ impl Waiting {
         let came = self.filled(wire).await;
         if was_idle && !is_blank(&wire.input) {
             self.permit.mark_busy();
-            self.looks = 0; // now the head's time begins
+            self.looks = 0; // the time of the head begins here
         }
         came
     }
@@ -240,7 +244,7 @@ impl Waiting {
             if !self.are_waited_for || self.look.is_elapsed() {
                 while self.look.as_mut().poll(context).is_ready() {
                     self.look.as_mut().reset(Instant::now() + self.period);
-                    self.looks += 1; // the first of them may have come at once
+                    self.looks += 1; // the timer may have expired long ago, so the first one says nothing
                     match is_idle {
                         true if self.looks > self.most_idle => return Poll::Ready(Came::Nothing),
                         false if self.looks > LOOKS => return Poll::Ready(Came::TooLate),
@@ -255,7 +259,8 @@ impl Waiting {
     }
 }
 
-/// Whether nothing of a head has come. Empty lines before it say nothing (RFC 9112, 2.2): some senders end a body with one.
+/// Whether no byte of a head has come. Empty lines before a head are ignored (RFC 9112, 2.2): some senders end a body
+/// with one.
 fn is_blank(input: &[u8]) -> bool {
     input.iter().all(|byte| b"\r\n".contains(byte))
 }
@@ -274,7 +279,7 @@ mod tests {
         assert!(!may_be_whole(b"", 0));
     }
 
-    /// Else it would have its place for ever.
+    /// Otherwise the connection would hold its permit for ever.
     #[tokio::test]
     async fn an_answer_to_a_bad_head_that_nobody_reads_ends() {
         let listener = TcpListener::bind("127.0.0.1:0").await.unwrap();

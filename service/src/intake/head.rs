@@ -1,4 +1,5 @@
-//! What the head of a request says: how its body is framed and written, who sends it, and what becomes of the connection.
+//! Parses the head of a request: how its body is framed, encoded and packed, who sends it, and whether the connection
+//! stays open. `front` calls it. A head that a proxy could read in another way is refused.
 
 use super::refusal::{Refusal, Turned};
 use super::sender::{sender, Poster};
@@ -25,31 +26,31 @@ pub struct Head {
     pub packing: Packing,
 }
 
-/// A request, as far as its head says.
+/// What the head of a request says.
 #[derive(Debug)]
 pub struct Asked {
     pub head: Result<Head, Turned>,
-    /// In which it is answered.
+    /// The encoding of the answer.
     pub encoding: Encoding,
     pub body: Body,
-    /// The sender waits until it is told to go on.
+    /// The sender waits for `100 Continue`.
     pub waits: bool,
     /// Its method is HEAD: an answer has no body.
     pub wants_head: bool,
     pub connection: Connection,
 }
 
-/// What a request says of its connection.
+/// Whether the connection stays open after the request.
 #[derive(Clone, Copy, Debug, PartialEq, Eq)]
 pub enum Connection {
     Kept,
-    /// An older sender wants to be told that it is kept.
+    /// Kept, and the answer has to say so: HTTP/1.0.
     KeptIfSaid,
     Closed,
 }
 
-/// Reads a head at the beginning of what came: where it ends, and what it says. None where it is not whole yet. `who` is who
-/// may have sent it.
+/// Parses the head at the beginning of `input`: its length and what it says; none if it is not whole yet. `who` is the
+/// peer of the connection.
 pub fn read(input: &[u8], who: &Who) -> Result<Option<(usize, Asked)>, Refusal> {
     let mut headers = [const { MaybeUninit::uninit() }; HEADERS];
     let mut request = Request::new(&mut []);
@@ -60,7 +61,7 @@ pub fn read(input: &[u8], who: &Who) -> Result<Option<(usize, Asked)>, Refusal> 
         Err(_) => return Err(Refusal::Malformed),
     };
     let is_old = request.version == Some(0);
-    // Without it, or with two, nobody knows for whom it is: a server has to refuse it (RFC 9112, 3.2).
+    // Without a host, or with two, the target of the request is ambiguous: a server has to refuse it (RFC 9112, 3.2).
     if !is_old && named(request.headers, "host").count() != 1 {
         return Err(Refusal::Malformed);
     }
@@ -81,7 +82,7 @@ pub fn read(input: &[u8], who: &Who) -> Result<Option<(usize, Asked)>, Refusal> 
 }
 
 impl Head {
-    /// Looks at a head in order: the host, the path, the method, the sender, the content.
+    /// Checks the head in this order: host, path, method, sender, content.
     fn read(request: &Request, who: &Who) -> Result<Head, Turned> {
         let target = request.path.filter(|target| !target.starts_with('/'));
         let target = target.and_then(|target| target.parse::<hyper::Uri>().ok());
@@ -103,8 +104,8 @@ impl Head {
     }
 }
 
-/// How a body is written and packed. One without a length is refused: it is empty, and an empty one of protobuf is a request
-/// of no points, so what comes after would be lost.
+/// The encoding and packing of the body. A request without a length is refused: its body would be empty, an empty
+/// protobuf body is a valid request without points, and so whatever the sender meant to send would be lost.
 fn content(headers: &[Header]) -> Result<(Encoding, Packing), Refusal> {
     let encoding = encoding(headers).ok_or(Refusal::ContentType)?;
     let packing = packing(headers)?;
@@ -112,7 +113,7 @@ fn content(headers: &[Header]) -> Result<(Encoding, Packing), Refusal> {
     says.next().map(|_| (encoding, packing)).ok_or(Refusal::NoLength)
 }
 
-/// Whether a target has the path of metrics, whatever its query and, in its absolute form, its host.
+/// Whether a request target has the path of metrics, in origin or absolute form, with or without a query.
 fn is_of_metrics(target: &str) -> bool {
     const PATH: &str = "/v1/metrics";
     match target.strip_prefix(PATH) {
@@ -127,15 +128,16 @@ fn named<'a>(headers: &'a [Header<'a>], name: &'a str) -> impl Iterator<Item = &
     found.map(|header| header.value)
 }
 
-/// The words of a list that may stand in several headers; empty ones are none (RFC 9110, 5.6.1.2). What is no text is a
-/// word that nothing is.
+/// The tokens of a list that may span several headers; empty ones are skipped (RFC 9110, 5.6.1.2). A value that is not
+/// UTF-8 matches no token.
 fn words<'a>(headers: &'a [Header<'a>], name: &'a str) -> impl Iterator<Item = &'a str> + 'a {
     named(headers, name).flat_map(|value| {
         std::str::from_utf8(value).unwrap_or("?").split(',').map(str::trim).filter(|word| !word.is_empty())
     })
 }
 
-/// How a body is framed. What could be read in two ways is refused: a proxy may have read it in the other.
+/// The framing of the body. Ambiguous framing is refused: a proxy may have read it in the other way (request
+/// smuggling).
 fn framing(headers: &[Header], is_old: bool) -> Result<Body, Refusal> {
     let mut coding = named(headers, "transfer-encoding");
     let mut lengths = named(headers, "content-length");
@@ -171,7 +173,8 @@ fn connection(headers: &[Header], is_old: bool) -> Connection {
     connection
 }
 
-/// How a request says that its body is written: the first content type up to its first `;`. As a rule it has none.
+/// The encoding that the content type names. Parameters after a `;` are ignored; most requests have none, so the whole
+/// value is compared first.
 fn encoding(headers: &[Header]) -> Option<Encoding> {
     let whole = std::str::from_utf8(named(headers, "content-type").next()?).ok()?;
     encoding_of(whole).or_else(|| encoding_of(whole.split(';').next()?.trim_matches([' ', '\t'])))
@@ -182,7 +185,7 @@ fn encoding_of(kind: &str) -> Option<Encoding> {
     [Encoding::Json, Encoding::Protobuf].into_iter().find(is_so)
 }
 
-/// How `Content-Encoding` and `grpc-encoding` name it; `identity` is `Plain`. `x-gzip` is gzip (RFC 9110, 8.4.1.3).
+/// The packing that `Content-Encoding` or `grpc-encoding` names. `x-gzip` is gzip (RFC 9110, 8.4.1.3).
 pub fn named_packing(coding: &[u8]) -> Option<Packing> {
     const NAMES: [(&[u8], Packing); 4] = [
         (b"identity", Packing::Plain),
@@ -193,7 +196,7 @@ pub fn named_packing(coding: &[u8]) -> Option<Packing> {
     NAMES.iter().find(|(name, _)| coding.eq_ignore_ascii_case(name)).map(|(_, packing)| *packing)
 }
 
-/// A body is packed once at most.
+/// The packing of a body, which may be packed once at most.
 fn packing(headers: &[Header]) -> Result<Packing, Refusal> {
     let mut found = Packing::Plain;
     for coding in words(headers, "content-encoding") {

@@ -1,4 +1,4 @@
-//! How an address is listened on: one of TCP, or a socket of this machine.
+//! Opens the listeners of addresses: TCP ports, and Unix sockets of this machine.
 
 use super::user::User;
 use std::future::Future;
@@ -10,11 +10,12 @@ use tokio::io::{AsyncRead, AsyncWrite};
 use tokio::net::{TcpListener, TcpStream, UnixListener, UnixStream};
 use tokio::time::Instant;
 
-/// How long it may be taken still: a service that was killed has it until the system has ended it.
+/// How long `listen` retries while the address is in use: a killed process holds it until the kernel has ended that
+/// process.
 const PATIENCE: Duration = Duration::from_secs(1);
 const PAUSE: Duration = Duration::from_millis(20);
 
-/// Listens on an address. No child process has the listener: the library opens it so.
+/// Listens on a TCP address. The standard library opens the socket with CLOEXEC, so no child process inherits it.
 pub async fn listen(address: &str) -> Result<TcpListener> {
     let until = Instant::now() + PATIENCE;
     loop {
@@ -27,10 +28,10 @@ pub async fn listen(address: &str) -> Result<TcpListener> {
     }
 }
 
-/// Who may connect to a socket: its owner and its group.
+/// The mode of the socket: its owner and its group may connect.
 const SOCKET_MODE: u32 = 0o660;
 
-/// Listens at a socket of this machine. What a run that was killed has left there is taken away.
+/// Listens on a Unix socket. A socket file that a killed process has left is removed first.
 pub async fn listen_at_socket(path: &Path) -> Result<UnixListener> {
     let is_socket = std::fs::symlink_metadata(path).is_ok_and(|file| file.file_type().is_socket());
     let is_left = |error: std::io::Error| error.kind() == ErrorKind::ConnectionRefused;
@@ -42,16 +43,16 @@ pub async fn listen_at_socket(path: &Path) -> Result<UnixListener> {
     Ok(listener)
 }
 
-/// Where connections come from.
+/// A source of connections.
 pub trait Listener: Send + Sync + 'static {
     type Stream: AsyncRead + AsyncWrite + Unpin + Send + 'static;
 
     fn accepted(&self) -> impl Future<Output = Result<Self::Stream>> + Send;
 
-    /// Who is at the other end, where the system knows it.
+    /// The user at the other end, if the system knows it.
     fn user(stream: &Self::Stream) -> Option<User>;
 
-    /// As people write it. Port 0 is any free one.
+    /// The address as people write it, with the actual port if 0 was asked for.
     fn shown(&self) -> String;
 }
 
@@ -60,7 +61,7 @@ impl Listener for TcpListener {
 
     async fn accepted(&self) -> Result<TcpStream> {
         let (stream, _) = self.accept().await?;
-        let _ = stream.set_nodelay(true); // an answer is one write already
+        let _ = stream.set_nodelay(true); // an answer is one write anyway
         Ok(stream)
     }
 
@@ -96,7 +97,7 @@ mod tests {
     use super::*;
     use std::os::unix::fs::MetadataExt;
 
-    /// One that is listened at is somebody's, and what is no socket is no socket that was left.
+    /// A socket that a process listens on, and a file that is no socket, must stay.
     #[tokio::test]
     async fn a_socket_that_was_left_is_taken_away_and_no_other() {
         let at = tempfile::tempdir().unwrap();

@@ -1,8 +1,11 @@
-//! Where senders post: OTLP/HTTP in protobuf or JSON, packed or not, on kept connections, and nothing else.
+//! The intake of posts: OTLP/HTTP with protobuf or JSON bodies, compressed or not, over keep-alive connections.
 //!
-//! `front` serves the connections on `threads` of their own, each with one of so many `permits`, `wire` reads them, `head` and `body` say what came, `answer`
-//! is what goes back. A request is refused here before a book is asked, or read whole, put into the book's form by `otlp`, and
-//! given to its slot, or in parts to several (`post`). Whoever can post can't operate: every path but `/v1/metrics` is 404.
+//! `service` starts it, and `grpc` hands its bodies to it (`Intake::put`). `front` serves the connections on the
+//! threads of `threads`, at most as many as there are `permits`; `wire` reads them, `head` and `body` decode a request,
+//! and `answer` writes the response. The intake either refuses a request itself, before any book sees it, or reads it
+//! whole, has `otlp` bring it into the book's form, and gives it to its shard, or in parts to several shards (`post`).
+//!
+//! Senders must not be able to operate the service: every path but `/v1/metrics` is answered 404.
 
 mod answer;
 mod arrival;
@@ -49,34 +52,34 @@ use tokio::io::{AsyncRead, AsyncWrite};
 use tokio::task::JoinSet;
 use wire::Wire;
 
-/// How long a body may take after its head.
+/// How long the body may take to arrive, counted from the end of the head.
 const PATIENCE: Duration = Duration::from_secs(60);
 
-/// How many times its length a packed body is thought to have at least.
+/// The compression ratio that a packed body is assumed to have at least.
 const UNPACKED: usize = 8;
 
-/// How many long bodies are read at a time.
+/// How many long bodies are parsed at the same time.
 const READERS: usize = 2;
 
-/// What takes a slot's posts. Each is whole even where the caller goes away.
+/// Takes the posts of a shard. If the caller goes away, the post is still taken whole or not at all.
 pub trait Taker: Send + Sync + 'static {
-    /// The slot itself, which says how its posts are read.
+    /// The shard itself, which decides how its posts are parsed.
     fn slot(&self) -> Option<&Slot> {
         None
     }
 
-    /// The points of a request in the book's form by number, also those that are cumulative; none where it is to be taken as
-    /// it is.
+    /// The points of a request, cumulative ones included, by series number; none if the request has to be taken as
+    /// text.
     fn numbered_text(&self, text: &Bytes) -> Result<Option<ByNumber>, core::Refused> {
         self.slot().map_or(Ok(None), |slot| slot.numbered_text(text))
     }
 
-    /// Whether requests are wanted as they came, too.
+    /// Whether `post` also needs the request as the sender sent it.
     fn wants_originals(&self) -> bool {
         false
     }
 
-    /// Takes a request, which is also here as it came where that is wanted.
+    /// Takes a request. `original` is the request as the sender sent it, if `wants_originals`.
     fn post(
         self: &Arc<Self>,
         sender: &str,
@@ -85,15 +88,15 @@ pub trait Taker: Send + Sync + 'static {
     ) -> impl Future<Output = Outcome> + Send;
 }
 
-/// Who hears of answers, also of those that no slot was asked for.
+/// Observes the outcome of every request, including those refused before a shard was asked.
 pub trait Hears: Send + Sync + 'static {
     fn answered(&self, _sender: &str, _outcome: &Outcome) {}
 
-    /// A part of a request was refused that is answered as taken.
+    /// Called for each part that was refused although its request is answered as taken.
     fn part_refused(&self, _sender: &str, _outcome: &Outcome) {}
 }
 
-/// Nobody.
+/// The observer that ignores everything.
 impl Hears for () {}
 
 impl Taker for Slot {
@@ -106,17 +109,17 @@ impl Taker for Slot {
     }
 }
 
-/// What reads requests and gives posts to slots.
+/// Reads requests and gives the posts to their shards.
 pub struct Intake<T> {
     slots: Arc<Slots<T>>,
     hears: Arc<dyn Hears>,
     reading: Arc<Reading>,
-    /// The memory that all posts may take.
+    /// The memory budget of all posts in flight.
     pub(crate) budget: Arc<Budget>,
     pub(crate) metrics: Arc<Metrics>,
     readers: Readers,
     patience: Duration,
-    /// Says whether posts are taken.
+    /// Says whether posts are taken; set once, by `set_available`.
     available: OnceLock<Box<Available>>,
 }
 
@@ -134,23 +137,23 @@ impl<T: Taker> Intake<T> {
         Intake { slots, hears, reading, budget, metrics, readers, patience: PATIENCE, available }
     }
 
-    /// Says, once, by what it is told whether posts are taken.
+    /// Sets, once, the function that says whether posts are taken.
     pub fn set_available(&self, available: impl Fn() -> bool + Send + Sync + 'static) {
         let _ = self.available.set(Box::new(available));
     }
 
-    /// Whether posts are taken, for who asks before it posts.
+    /// Whether posts are taken, for clients that ask before they post.
     pub fn is_available(&self) -> bool {
         self.available.get().is_some_and(|available| available())
     }
 
-    /// With another time that a body may take.
+    /// Replaces the time that a body may take.
     pub fn with_patience(mut self, patience: Duration) -> Intake<T> {
         self.patience = patience;
         self
     }
 
-    /// Reads a request whose head is read, and says what becomes of it.
+    /// Reads the body of a request and returns the request's outcome.
     async fn outcome<S: AsyncRead + AsyncWrite + Unpin>(
         &self,
         head: Result<Head, Turned>,
@@ -171,7 +174,7 @@ impl<T: Taker> Intake<T> {
         }
     }
 
-    /// What is answered without asking a slot.
+    /// Reports a request that was refused before any shard was asked.
     pub(crate) fn refused(&self, sender: &str, refusal: &Refusal) -> Outcome {
         let outcome = Outcome::from(refusal);
         self.hears.answered(sender, &outcome);
@@ -185,7 +188,7 @@ impl<T: Taker> Intake<T> {
     ) -> Result<Post<T>, Refusal> {
         let mut hold = self.budget.hold();
         let packed = match wire.whole_body() {
-            Some(body) => body, // as most are here: they need no timer
+            Some(body) => body, // most bodies: they need no timer
             None => tokio::time::timeout(self.patience, body::receive(wire, &mut hold))
                 .await
                 .map_err(|_| Refusal::Late)??,
@@ -200,13 +203,13 @@ impl<T: Taker> Intake<T> {
         if is_short(&mut head, &mut body, &mut hold)? {
             return post::prepare(head, body, hold, &self.slots, &self.reading, &self.metrics);
         }
-        hold.set(2 * body.len())?; // it may wait for its turn
+        hold.set(2 * body.len())?; // a long body may queue for a reader
         let (slots, reading, metrics) = (self.slots.clone(), self.reading.clone(), self.metrics.clone());
         let read = move || post::prepare(head, body, hold, &slots, &reading, &metrics);
         self.readers.read_long(read).await
     }
 
-    /// Takes a body that came another way.
+    /// Takes a post whose body did not arrive over HTTP/1.1: gRPC's.
     pub(crate) async fn put(&self, head: Head, packed: Bytes, hold: Hold) -> Outcome {
         let sender = head.sender.name.clone();
         match self.prepared(head, packed, hold).await {
@@ -215,7 +218,8 @@ impl<T: Taker> Intake<T> {
         }
     }
 
-    /// The memory is held until the post is answered: a connection looks for its sender only then.
+    /// Takes a post that was read. Its memory stays reserved until the answer, since a connection notices only then
+    /// that its sender is gone.
     async fn take(&self, post: Post<T>) -> Outcome {
         let Post { sender, asked, hold } = post;
         let outcome = match asked {
@@ -227,7 +231,7 @@ impl<T: Taker> Intake<T> {
         outcome
     }
 
-    /// All slots are asked at once: each waits for a disk, or for another instance.
+    /// Asks all shards at once, since each waits for a disk or for another instance.
     async fn take_parts(&self, sender: &str, parts: Vec<AskedPart<T>>) -> Outcome {
         let (mut asking, mut of_parts) = (JoinSet::new(), Vec::new());
         for (place, AskedPart { part, resources, ask }) in parts.into_iter().enumerate() {
@@ -243,7 +247,7 @@ impl<T: Taker> Intake<T> {
             of_parts.push(OfPart { outcome, part, resources });
         }
         while let Some(answered) = asking.join_next().await {
-            // One that panicked stays unknown.
+            // A part whose task panicked keeps the outcome `unknown`.
             if let Ok((place, outcome)) = answered {
                 of_parts[place].outcome = outcome;
             }
@@ -267,7 +271,8 @@ impl<T: Taker> Intake<T> {
         outcome
     }
 
-    /// Takes what another instance got of a request; none where the slot is not here. That one counts the post.
+    /// Takes the part of a request that another instance received; none if this instance does not own the shard. The
+    /// other instance counts the post.
     pub async fn forwarded(&self, slot: u16, sender: &str, part: Original) -> Option<Outcome> {
         let taker = self.slots.here(slot)?;
         let (length, mut hold, reading) = (part.body.len(), self.budget.hold(), self.reading.clone());
@@ -279,12 +284,13 @@ impl<T: Taker> Intake<T> {
     }
 }
 
-/// Of a part that nobody has answered: it may have been taken.
+/// The outcome of a part that was never answered: it may have been taken.
 fn unknown() -> Outcome {
     Reason::Fault.into()
 }
 
-/// Whether a body is short: one that may be is unpacked as far as that. A few kilobytes may be packed megabytes.
+/// Whether a body is short enough to be parsed on the serving thread. A packed body that may be short is unpacked up to
+/// the limit to find out, since a few kilobytes can unpack to megabytes.
 fn is_short(head: &mut Head, body: &mut Bytes, hold: &mut Hold) -> Result<bool, Refusal> {
     if head.packing != Packing::Plain && body.len() <= Readers::SHORT / UNPACKED {
         match body::unpack(body.clone(), head.packing, Readers::SHORT, hold) {
@@ -303,7 +309,7 @@ mod tests {
     const SHORT: usize = Readers::SHORT;
     use crate::otlp::Encoding;
 
-    /// How a body goes on, and whether it is read in place.
+    /// The packing and length of a body after `is_short`, and whether it is parsed on the serving thread.
     fn seen(packing: Packing, body: Bytes) -> (Packing, usize, bool) {
         let (sender, encoding) = ("-".into(), Encoding::Json);
         let mut head = Head { sender, encoding, packing };
@@ -312,7 +318,7 @@ mod tests {
         (head.packing, body.len(), is_short)
     }
 
-    /// Else a post of a few kilobytes would hold up all others of its thread.
+    /// Otherwise a post of a few kilobytes could block all other connections of its thread.
     #[test]
     fn what_is_long_unpacked_is_not_read_in_place() {
         let plain = Packing::Plain;

@@ -1,4 +1,5 @@
-//! How far a connection is with a request, so that a slow or an idle one is seen without a timer for each request.
+//! Tracks the phase of a connection that hyper serves, so that slow and idle connections are found without a timer for
+//! each request. `connections` asks it about once a second.
 
 use super::connections::Limits;
 use crate::work::locked;
@@ -9,20 +10,20 @@ use std::task::{ready, Context, Poll};
 use std::time::{Duration, Instant};
 use tokio::io::{AsyncRead, AsyncWrite, ReadBuf};
 
-/// How long who idles has its place where others wait for it.
+/// How long a connection may be idle while another client waits for a permit.
 const SHORT: Duration = Duration::from_secs(1);
 
 #[derive(Clone, Copy, Debug, PartialEq, Eq)]
 enum Phase {
-    /// Nothing came yet.
+    /// No byte has come yet.
     New,
-    /// Nothing of a next request came yet.
+    /// No byte of the next request has come yet.
     Idle,
-    /// Nobody takes what is left of an answer.
+    /// The rest of an answer can't be sent: the client does not read.
     Unread,
-    /// A part of a head came.
+    /// A part of a head has come.
     Head,
-    /// A request is under way: its own times are bounded where it is read.
+    /// A request is in flight; its handler bounds its time.
     Request,
 }
 
@@ -33,7 +34,7 @@ pub enum Overdue {
     Head,
 }
 
-/// Shared by a connection and its requests: its phase, and since when.
+/// Shared by a connection and its requests: the phase and when it began.
 pub struct Pace(Mutex<(Phase, Instant)>);
 
 impl Pace {
@@ -49,12 +50,13 @@ impl Pace {
         self.change(|_| Some(Phase::Idle));
     }
 
-    /// Whether nothing came yet, so that nothing is owed.
+    /// Whether no byte has come yet, so that no answer is owed.
     pub fn is_new(&self) -> bool {
         locked(&self.0).0 == Phase::New
     }
 
-    /// Who idles, or reads nothing of an answer, is so much sooner where others wait for its place.
+    /// What is overdue, if anything. The limits for idle connections and for clients that don't read are shorter while
+    /// another client waits for a permit.
     pub fn overdue(&self, limits: &Limits, is_full: bool) -> Option<Overdue> {
         let (idle, unread) = match is_full {
             true => (limits.idle.min(SHORT), limits.idle.min(limits.head / 4)),
@@ -70,7 +72,7 @@ impl Pace {
         (since.elapsed() >= most).then_some(overdue)
     }
 
-    /// Whether all that was to be sent now has gone.
+    /// Records whether the last write was accepted by the socket.
     fn sent(&self, all: bool) {
         self.change(|phase| match (phase, all) {
             (Phase::Idle, false) => Some(Phase::Unread),
@@ -83,7 +85,7 @@ impl Pace {
         self.change(|phase| matches!(phase, Phase::New | Phase::Idle | Phase::Unread).then_some(Phase::Head));
     }
 
-    /// The next phase begins now, where there is one.
+    /// Enters the next phase now, if there is one.
     fn change(&self, next: impl FnOnce(Phase) -> Option<Phase>) {
         let mut now = locked(&self.0);
         if let Some(next) = next(now.0) {
@@ -92,7 +94,7 @@ impl Pace {
     }
 }
 
-/// A connection whose reads and writes its pace sees.
+/// A connection whose reads and writes are reported to its `Pace`.
 pub struct Watched<S> {
     stream: S,
     pace: Arc<Pace>,

@@ -1,7 +1,8 @@
-//! Connection permits of an address, and which connection is closed when all are taken and one more client has connected.
+//! Owns the connection permits of an address and decides which connection is closed when all are taken and one more
+//! client has connected.
 //!
-//! The longest idle connection is closed, so that clients that only hold connections keep no sender out. A sender that posts
-//! often is closed only if no connection is idle, and then with an answer that says so.
+//! The connection that has been idle for longest is closed, so clients that only hold connections keep no sender out. A
+//! sender that posts often loses its connection only if no connection is idle, and then with an answer that says so.
 
 use super::Listener;
 use crate::work::{locked, within};
@@ -11,7 +12,7 @@ use std::sync::{Arc, Mutex, Weak};
 use std::time::{Duration, Instant};
 use tokio::sync::{Notify, OwnedSemaphorePermit, Semaphore};
 
-/// A connection that has waited for its next request for less than this is not closed: its sender may just be about to post.
+/// A connection that has been idle for less than this is not closed: its sender may just be about to post.
 const MIN_IDLE: Duration = Duration::from_secs(1);
 /// How often the acceptor looks for an idle connection while a client waits.
 const LOOK: Duration = Duration::from_millis(100);
@@ -26,7 +27,7 @@ pub struct ConnectionPermits {
     taken: Mutex<Vec<Weak<ConnectionPermit>>>,
     /// A client has connected and waits for a permit.
     has_waiter: AtomicBool,
-    /// No connection is idle, so the next one that is answered closes.
+    /// No connection is idle: the next connection that answers a request closes.
     wants_close: AtomicBool,
     was_full: AtomicBool,
 }
@@ -34,7 +35,7 @@ pub struct ConnectionPermits {
 /// The permit of one connection, held until it is dropped.
 pub struct ConnectionPermit {
     opened: Instant,
-    /// `BUSY`, `EVICTED`, or since when the connection is idle, in milliseconds after `opened`.
+    /// `BUSY`, `EVICTED`, or the time at which the connection became idle, in milliseconds after `opened`.
     state: AtomicU64,
     evicted: Notify,
     /// None once the address is closed.
@@ -48,7 +49,7 @@ impl ConnectionPermit {
     /// The connection waits for its next request.
     pub fn mark_idle(&self) {
         let now = self.opened.elapsed().as_millis() as u64;
-        let _ = self.state.compare_exchange(BUSY, now, Relaxed, Relaxed); // an evicted one stays so
+        let _ = self.state.compare_exchange(BUSY, now, Relaxed, Relaxed); // an evicted connection stays evicted
     }
 
     /// A request has begun.
@@ -57,7 +58,7 @@ impl ConnectionPermit {
         let _ = self.state.fetch_update(Relaxed, Relaxed, change);
     }
 
-    /// Whether the connection has to close as soon as it has answered what it has begun.
+    /// Whether the connection has to close as soon as it has answered the requests it has begun.
     pub fn is_evicted(&self) -> bool {
         self.state.load(Relaxed) == EVICTED
     }
@@ -71,7 +72,7 @@ impl ConnectionPermit {
         Some(self.state.load(Relaxed)).filter(|state| *state < EVICTED)
     }
 
-    /// Evicts the connection unless it has had a request since.
+    /// Evicts the connection unless it has had a request meanwhile.
     fn try_evict(&self, idle_since: u64) -> bool {
         let is_evicted = self.state.compare_exchange(idle_since, EVICTED, Relaxed, Relaxed).is_ok();
         if is_evicted {
@@ -99,12 +100,13 @@ impl ConnectionPermits {
         self.has_waiter.load(Relaxed)
     }
 
-    /// Whether the connection that asks has to close for a waiting client. True once for each: no other one closes for it.
+    /// Whether the calling connection has to close for a waiting client. Only one connection gets true for each waiting
+    /// client.
     pub fn has_to_close(&self) -> bool {
         self.wants_close.load(Relaxed) && self.wants_close.swap(false, Relaxed)
     }
 
-    /// A permit for a client that has connected to this address.
+    /// Returns a permit for a client that has connected, and waits for it if all are taken.
     pub async fn acquire(&self, listener: &impl Listener) -> Arc<ConnectionPermit> {
         let permit = match self.free.clone().try_acquire_owned() {
             Ok(permit) => Some(permit),
@@ -145,7 +147,7 @@ impl ConnectionPermits {
         permit
     }
 
-    /// Evicts the longest idle connection. Whether one was evicted.
+    /// Evicts the longest idle connection, and returns whether there was one.
     fn evict_longest_idle(&self, waits_since: Instant) -> bool {
         let taken: Vec<_> = locked(&self.taken).iter().filter_map(Weak::upgrade).collect();
         let idle = taken.iter().filter_map(|permit| Some((permit.idle_since()?, permit)));
@@ -153,7 +155,7 @@ impl ConnectionPermits {
         let time = |since| self.opened.elapsed().saturating_sub(Duration::from_millis(since));
         match longest {
             Some((since, permit)) if time(since) >= MIN_IDLE => return permit.try_evict(since),
-            Some(_) if waits_since.elapsed() < MIN_IDLE => {} // it may be idle for long enough soon
+            Some(_) if waits_since.elapsed() < MIN_IDLE => {} // it may soon have been idle for long enough
             _ => self.wants_close.store(true, Relaxed),
         }
         false

@@ -1,4 +1,5 @@
-//! A request that was read whole: what each slot is asked to take of it.
+//! Turns a request that was read whole into what each shard is asked to take. `Intake` calls it for the posts of
+//! senders, and for the parts that other instances forward.
 
 use super::head::Head;
 use super::refusal::Refusal;
@@ -10,44 +11,45 @@ use crate::slot::{Request, Slots, Way};
 use bytes::Bytes;
 use std::sync::Arc;
 
-/// What a byte of a body may become in memory while it is read: in JSON itself, what names its parts, and what is
-/// written anew; in protobuf up to nine bytes of JSON, twice that while they grow, and what names their parts.
+/// The memory that each byte of a body may need while it is parsed. For JSON that is the body itself, the names of its
+/// parts, and what is rewritten. For protobuf it is up to nine bytes of JSON, twice that while the buffer grows, and
+/// the names of its parts.
 pub(super) const WHILE_READ_JSON: usize = 8;
 const WHILE_READ_PROTOBUF: usize = 24;
 
 pub(super) struct Post<T> {
     pub sender: String,
     pub asked: Asked<T>,
-    /// Of memory, until the post is answered.
+    /// Memory reserved until the post is answered.
     pub hold: Hold,
 }
 
 pub(super) enum Asked<T> {
-    /// One slot for all of it.
+    /// One shard takes all of it.
     Whole(Ask<T>),
     Parts(Vec<AskedPart<T>>),
 }
 
-/// Of a request the resources of one slot.
+/// The resources of a request that belong to one shard.
 pub(super) struct AskedPart<T> {
     pub part: Original,
-    /// Their places in the request, ascending.
+    /// Their indexes in the request, ascending.
     pub resources: Vec<u32>,
-    /// None can be asked where it can't be read.
+    /// An error if the part can't be parsed: then no shard is asked.
     pub ask: Result<Ask<T>, Refusal>,
 }
 
-/// What a slot is asked.
+/// What a shard is asked.
 pub(super) enum Ask<T> {
     Here(Box<Here<T>>),
-    /// Its owner reads the part.
+    /// The owner of the shard parses the part.
     Away {
         slot: u16,
         part: Original,
     },
 }
 
-/// What is asked of a slot that is here. Each future on its way has it, so it is boxed.
+/// What a shard of this instance is asked. Boxed, because each future on the way of a post contains it.
 pub(super) struct Here<T> {
     taker: Arc<T>,
     request: Request,
@@ -60,7 +62,7 @@ impl<T: Taker> Ask<T> {
         match self {
             Ask::Here(here) => {
                 let Here { taker, request, original, mut rounded } = *here;
-                rounded.decided.stays(true); // also where nobody waits for the outcome any more
+                rounded.decided.stays(true); // even if nobody waits for the outcome any more
                 let outcome = taker.post(sender, request, original).await;
                 match outcome {
                     Outcome::Taken { .. } => metrics.rounded(&rounded),
@@ -72,7 +74,7 @@ impl<T: Taker> Ask<T> {
         }
     }
 
-    /// Of memory.
+    /// The memory that it occupies.
     fn bytes(&self) -> usize {
         match self {
             Ask::Here(here) => {
@@ -84,7 +86,7 @@ impl<T: Taker> Ask<T> {
     }
 }
 
-/// Unpacks a body and puts it into the form in which it is taken.
+/// Unpacks a body and brings it into the form in which its shards take it.
 pub(super) fn prepare<T: Taker>(
     head: Head,
     packed: Bytes,
@@ -99,7 +101,7 @@ pub(super) fn prepare<T: Taker>(
     let mut reader = Reader::new(encoding, body.len(), reading, &mut hold)?;
     let (name, proved) = (head.sender.name, head.sender.proved);
     let sender = otlp::sender(name, encoding, &body, reading)?;
-    // Ahead of the slots: these attributes are a part of its resource.
+    // Before the split into shards: these attributes are a part of the resource, whose hash chooses the shard.
     let names = otlp::SenderNames { name: &sender, proved: proved.as_ref().map(|sender| &*sender.name) };
     let length = body.len();
     let body = otlp::with_sender_attributes(names, encoding, body, reading)?.body;
@@ -124,7 +126,7 @@ pub(super) fn prepare<T: Taker>(
     Ok(Post { sender, asked, hold })
 }
 
-/// The same of a part that another instance got for a slot that is here.
+/// Does the same for a part that another instance forwarded to a shard of this instance.
 pub(super) fn forwarded<T: Taker>(
     part: Original,
     taker: Arc<T>,
@@ -144,12 +146,12 @@ impl<T: Taker> AskedPart<T> {
     }
 }
 
-/// Reads one body. The budget has room for both forms while both are there.
+/// Parses one body, and reserves memory for the body and its rewritten form while both exist.
 struct Reader<'r> {
     encoding: Encoding,
     reading: &'r Arc<Reading>,
     hold: &'r mut Hold,
-    /// What it may take of memory.
+    /// The memory that parsing may take.
     most: usize,
 }
 
@@ -165,7 +167,7 @@ impl<'r> Reader<'r> {
         Ok(reader)
     }
 
-    /// It reads a body of so many bytes.
+    /// Reserves memory for parsing a body of so many bytes.
     fn takes(&mut self, length: usize) -> Result<(), Refusal> {
         let grows = match self.encoding {
             Encoding::Json => WHILE_READ_JSON,
@@ -176,7 +178,7 @@ impl<'r> Reader<'r> {
         Ok(())
     }
 
-    /// What can't be read is refused by its slot; what there is no memory for is refused with all of its request.
+    /// If a part can't be parsed, that part alone is refused; if memory is short, the whole request is.
     fn part<T: Taker>(&mut self, part: Part, slots: &Slots<T>) -> Result<AskedPart<T>, Refusal> {
         let Part { slot, body, resources } = part;
         let encoding = self.encoding;

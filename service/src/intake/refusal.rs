@@ -1,4 +1,4 @@
-//! Why the intake answers a request itself, before the book is asked.
+//! The refusals that the intake itself answers, before a book is asked. The text of each is the message of the answer.
 
 pub use super::weight::Full;
 use super::wire::{HEADERS, READ_AHEAD};
@@ -7,12 +7,11 @@ use crate::core;
 use crate::identity::Stranger;
 use crate::otlp::{Outcome, Reason, Refused};
 
-/// Its text is the answer's message.
 #[derive(Debug, thiserror::Error)]
 pub enum Refusal {
     #[error("no such path: metrics are posted to /v1/metrics, without a slash behind it")]
     NoSuchPath,
-    /// Of gRPC.
+    /// gRPC only.
     #[error("no such method")]
     NoSuchMethod,
     #[error("wrong method")]
@@ -25,24 +24,24 @@ pub enum Refusal {
     ContentType,
     #[error("only gzip, zstd or identity")]
     ContentEncoding,
-    /// Nothing says how long its body is.
+    /// No header says how long the body is.
     #[error("no length of the body: Content-Length, or chunks")]
     NoLength,
-    /// It was not there within its time. Nothing was taken, so it is to be sent again: senders of OTLP repeat 503, and drop
-    /// what is 408.
+    /// The body did not arrive within its time. Nothing was taken, so the sender should retry: senders of OTLP retry
+    /// 503 and drop what was answered 408.
     #[error("the request did not come whole")]
     Late,
-    /// Of gRPC: the call is over, and its post may be taken.
+    /// gRPC only: the call is over, and its post may have been taken.
     #[error("the deadline has passed")]
     Deadline,
-    /// Its framing is wrong.
+    /// The head or the framing of the body is malformed.
     #[error("malformed request")]
     Malformed,
-    /// Its connection ended, or its sender gave it up, before it had come whole. Nothing was taken, and a sender that still
-    /// reads is to send it again.
+    /// The connection ended or the sender cancelled before the request had arrived. Nothing was taken, so a sender that
+    /// still reads should retry.
     #[error("the sender has gone away")]
     Gone,
-    /// Its end is too far away, or it says too much.
+    /// The head is too long or has too many fields.
     #[error("head too long: over {READ_AHEAD} bytes or {HEADERS} fields")]
     HeadTooLong,
     #[error("bad compression: no gzip")]
@@ -53,26 +52,26 @@ pub enum Refusal {
     TooManyMembers,
     #[error("body too long: over {MOST} bytes, packed or unpacked: post fewer points at a time")]
     TooLong,
-    /// All posts together may not have the memory that it takes to read it.
+    /// The memory budget of all posts has no room to parse it.
     #[error(transparent)]
     Full(#[from] Full),
-    /// As the book refuses it.
+    /// The book would refuse the series by the same reason.
     #[error("{}", core::Refused::LongSeries)]
     LongSeries,
-    /// It can be sent again: it has its memory for longer than others that wait.
+    /// Retryable: while memory was short, this body arrived too slowly.
     #[error("too many bytes in flight: this body came too slowly: post fewer points at a time")]
     Slow,
-    /// It can be sent again: the book has no memory to name its series.
+    /// Retryable: there is no memory to name the series of the post.
     #[error("no memory")]
     NoMemory,
-    /// Nothing is taken here now.
+    /// This instance takes no posts now.
     #[error("{}", .0.text())]
     Unavailable(Reason),
     #[error(transparent)]
     Unreadable(#[from] Refused),
 }
 
-/// A refusal, and whose request it is, as far as that is known.
+/// A refusal with the name of the sender, as far as that is known.
 #[derive(Debug)]
 pub struct Turned {
     pub sender: String,
@@ -105,7 +104,7 @@ impl Refusal {
         }
     }
 
-    /// Whether more of the body may come: it is read and thrown away, so that the sender can read its answer.
+    /// Whether more of the body may come. It is then read and discarded, so that the sender can read its answer.
     pub fn leaves_a_body(&self) -> bool {
         !matches!(
             self,

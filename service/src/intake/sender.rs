@@ -1,20 +1,21 @@
-//! Who posts a request, by what it proves and by its header `x-sender`.
+//! Determines the sender of a request from its certificate or token and its header `x-sender`. `head` and `grpc` call
+//! it. A stranger is refused before anything else of its request is looked at.
 
 use super::refusal::{Refusal, Turned};
 use crate::identity::{Sender, Who};
 use crate::slot::is_sender;
 use std::sync::Arc;
 
-/// Who posts.
+/// The sender of a request.
 #[derive(Debug, PartialEq, Eq)]
 pub struct Poster {
-    /// The name that it posts under.
+    /// The name under which it posts.
     pub name: String,
-    /// Who that is by its certificate or token; none if nothing is proved.
+    /// Its identity by certificate or token; none if it proved nothing.
     pub proved: Option<Arc<Sender>>,
 }
 
-/// By the values of both headers. A stranger is refused before anything else of what it says is looked at.
+/// Determines the sender by the values of the headers `authorization` and `x-sender`.
 pub fn sender<'h>(
     who: &Who,
     authorization: impl Iterator<Item = &'h [u8]>,
@@ -36,7 +37,7 @@ fn legal(name: &[u8]) -> Option<&str> {
     std::str::from_utf8(name).ok().filter(|name| is_sender(name))
 }
 
-/// Whoever says so.
+/// A sender that proved nothing.
 #[cfg(test)]
 impl From<&str> for Poster {
     fn from(name: &str) -> Poster {

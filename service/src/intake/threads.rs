@@ -1,8 +1,9 @@
-//! Threads that serve senders. Each has a runtime of its own, so a request's whole way is on one thread: nothing of it
-//! is moved, and nobody is woken for it on another.
+//! The threads that serve senders. Each has a runtime of its own, so a request stays on one thread from its first byte
+//! to its answer and wakes no other thread.
 //!
-//! A serving thread leaves its runtime to make calls that may block (`work/own_call`). If one takes long, a stand-in, a thread that is
-//! started for that, runs the runtime until the serving thread is back: so a disk that stalls keeps no connection waiting.
+//! A serving thread leaves its runtime to make calls that may block (`work/own_call`). If such a call takes long, the
+//! watch thread starts a stand-in, a thread that runs the runtime until the serving thread is back. So a stalled disk
+//! keeps no connection waiting.
 
 use crate::core::give_back_of_thread;
 use crate::work::own_call::OwnCalls;
@@ -20,14 +21,14 @@ use std::time::Duration;
 use tokio::runtime::{Builder, Handle, Runtime};
 use tokio::sync::{oneshot, Notify};
 
-/// Threads beside each for long bodies; how many are read at a time is bounded elsewhere.
+/// Blocking threads of each runtime, for long bodies. `Intake` bounds how many of these are parsed at a time.
 const LONG_WORK: usize = 2;
-/// How often a thread looks whether it serves anybody.
+/// How often a thread gives back memory if it serves nobody.
 const LOOK: Duration = Duration::from_secs(5);
-/// A call that takes longer than this, and less than twice as long, gets a stand-in.
+/// A call that takes longer than once to twice this time gets a stand-in.
 const PATIENCE: Duration = Duration::from_millis(100);
 
-/// They end when this is dropped, whatever they do then.
+/// All serving threads. They end when this is dropped, and abandon what they do.
 pub struct Threads(Arc<[Thread]>);
 
 struct Thread {
@@ -35,18 +36,18 @@ struct Thread {
     runtime: Handle,
     connections: Arc<AtomicUsize>,
     away: Arc<Away>,
-    /// What a stand-in runs.
+    /// The runtime, for a stand-in to run.
     run: Weak<Runtime>,
     _end: oneshot::Sender<()>,
 }
 
-/// One of a thread's connections, as long as it lives.
+/// The place of one connection on a thread, until it is dropped.
 pub struct Place(Arc<AtomicUsize>);
 
-/// Whether a serving thread is out of its runtime.
+/// Whether a serving thread is outside its runtime.
 #[derive(Default)]
 struct Away {
-    /// How often it has gone or come back: odd while it is out.
+    /// Counts each exit and each return, so it is odd while the thread is outside.
     turns: AtomicU64,
     has_stand_in: AtomicBool,
     back: Notify,
@@ -66,7 +67,7 @@ impl Threads {
         Ok(Threads(threads))
     }
 
-    /// A place on the thread that has the fewest connections.
+    /// Takes a place on the thread with the fewest connections.
     pub fn place(&self) -> (Handle, Place) {
         let load = |thread: &&Thread| thread.connections.load(Relaxed);
         let thread = self.0.iter().min_by_key(load).unwrap_or(&self.0[0]);
@@ -75,7 +76,7 @@ impl Threads {
     }
 }
 
-/// Starts stand-ins until the threads end.
+/// Starts a stand-in for each thread that stays away, until the threads end.
 fn watch(threads: &Weak<[Thread]>) {
     let mut seen = Vec::new();
     loop {
@@ -100,13 +101,13 @@ impl Thread {
         std::thread::Builder::new().name(name.clone()).spawn(move || {
             serve(&runtime, &leaves, ended);
             if let Some(runtime) = Arc::into_inner(runtime) {
-                runtime.shutdown_background(); // who still waits for a disk or a sender is not waited for
+                runtime.shutdown_background(); // tasks that still wait for a disk or a sender are abandoned
             }
         })?;
         Ok(Thread { name, runtime: handle, connections: Arc::default(), away, run, _end: end })
     }
 
-    /// Has another thread run the runtime until this thread is back, unless one does.
+    /// Has another thread run the runtime until this thread is back, unless one already does.
     fn stand_in(&self) {
         if self.away.has_stand_in.swap(true, SeqCst) {
             return;
@@ -119,13 +120,13 @@ impl Thread {
             away.has_stand_in.store(false, SeqCst);
         });
         if started.is_err() {
-            self.away.has_stand_in.store(false, SeqCst); // the next look tries it again
+            self.away.has_stand_in.store(false, SeqCst); // the next look retries
         }
     }
 }
 
 impl Away {
-    /// Does what may block. The runtime is not entered.
+    /// Does work that may block. The caller must not be inside the runtime.
     fn leave(&self, work: impl FnOnce()) {
         self.turns.fetch_add(1, SeqCst);
         work();
@@ -142,7 +143,7 @@ impl Away {
     }
 }
 
-/// Runs the tasks of a thread until it ends.
+/// Runs the tasks of a thread until `ended` resolves.
 fn serve(runtime: &Runtime, away: &Away, ended: oneshot::Receiver<()>) {
     let (mut rest, mut calls) = (pin!(rest_until(ended)), OwnCalls::of_this_thread());
     while runtime.block_on(poll_fn(|context| match rest.as_mut().poll(context) {
@@ -153,7 +154,7 @@ fn serve(runtime: &Runtime, away: &Away, ended: oneshot::Receiver<()>) {
     }
 }
 
-/// Returns once it ends. Until then what a thread has that serves nobody is given back.
+/// Waits for the end. Until then it gives the allocator's memory of this thread back whenever the thread serves nobody.
 async fn rest_until(ended: oneshot::Receiver<()>) {
     let (mut ended, mut before) = (pin!(ended), None);
     while within(LOOK, &mut ended).await.is_none() {
@@ -202,7 +203,7 @@ mod tests {
         drop(threads);
         assert!(waiting.blocking_recv().is_err(), "what it did is dropped");
     }
-    /// Counts how often it is made, and waits until it may go on.
+    /// Counts how often it is made; each call waits for the gate.
     #[derive(Default)]
     struct Write {
         made: AtomicU64,
@@ -236,7 +237,7 @@ mod tests {
         told.recv_timeout(Duration::from_secs(20)).expect("the thread serves")
     }
 
-    /// Else each post would take a write.
+    /// Otherwise each post would cost a write of its own.
     #[test]
     fn a_call_is_made_once_for_all_tasks_that_are_ready() {
         let threads = Threads::new(1).unwrap();
@@ -257,7 +258,8 @@ mod tests {
         assert!(!own_call::ask(&write), "nobody would make it");
     }
 
-    /// Else a disk that stalls would keep all connections of the thread waiting, also those that are refused meanwhile.
+    /// Otherwise a stalled disk would block all connections of the thread, even those whose posts are refused
+    /// meanwhile.
     #[test]
     fn a_stand_in_serves_while_a_call_takes_long() {
         let threads = Threads::new(1).unwrap();

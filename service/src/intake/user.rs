@@ -1,13 +1,13 @@
-//! Who is at the other end of an operator's connection.
+//! Identifies the process at the other end of an operator's connection.
 
 use tokio::net::UnixStream;
 
-/// The number of a user of this machine, as the kernel says it of a socket's other end. Of a request, among its extensions.
+/// The user id of the peer of a Unix socket, as the kernel reports it. It is an extension of each request.
 #[derive(Clone, Copy, Debug)]
 pub struct User(pub u32);
 
 impl User {
-    /// None where it has broken already.
+    /// None if the connection is broken already.
     pub fn of(stream: &UnixStream) -> Option<User> {
         Some(User(stream.peer_cred().ok()?.uid()))
     }

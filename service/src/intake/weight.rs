@@ -1,20 +1,20 @@
-//! Bytes in flight: what all posts together may take of memory until they are answered, and of it what bodies may that are on
-//! their way (`arrival`).
+//! Owns the memory budget of posts: the bytes that all of them may use until they are answered, and the part of these
+//! that arriving bodies may use (`arrival`). A post that exceeds the budget is refused, and never waits.
 
 use std::sync::atomic::{AtomicUsize, Ordering::Relaxed};
 use std::sync::Arc;
 
-/// Bytes that are taken.
+/// A counter of reserved bytes.
 #[derive(Default)]
 pub(super) struct Taken(AtomicUsize);
 
 /// Why there is no room.
 #[derive(Debug, PartialEq, Eq, thiserror::Error)]
 pub enum Full {
-    /// Others have taken it, and give it back: so the same can be sent again.
+    /// Other posts use the memory and will give it back: the same post can be sent again.
     #[error("too many bytes in flight")]
     Now,
-    /// There is never so much: the same would be refused again.
+    /// The whole budget is smaller: the same post would be refused again.
     #[error("body too long for the memory that posts may take: --max-bytes")]
     Ever,
 }
@@ -24,8 +24,8 @@ impl Taken {
         self.0.load(Relaxed)
     }
 
-    /// Takes so many bytes in the place of those of before, where all are no more than `most`, or these no more than they
-    /// were. Else those of before stay.
+    /// Replaces a reservation of `before` bytes by one of `bytes`. It may grow only if the total stays within `most`;
+    /// otherwise the old reservation stays.
     pub fn change(&self, before: usize, bytes: usize, most: usize) -> Result<(), Full> {
         if bytes > most {
             return Err(Full::Ever);
@@ -43,11 +43,11 @@ impl Taken {
     }
 }
 
-/// What all posts share. What is over it is refused at once: a sender tries again, memory does not.
+/// The budget that all posts share. A post that exceeds it is refused at once: the sender can retry, memory can't grow.
 pub struct Budget {
     most: usize,
     used: Taken,
-    /// Of it by bodies that are waited for.
+    /// The part used by bodies that are still arriving.
     pub(super) arriving: Taken,
 }
 
@@ -64,20 +64,20 @@ impl Budget {
         self.used.bytes()
     }
 
-    /// A part of the budget, of no bytes yet.
+    /// An empty reservation.
     pub fn hold(self: &Arc<Self>) -> Hold {
         Hold { budget: self.clone(), bytes: 0 }
     }
 }
 
-/// What one post takes; given back when it is dropped.
+/// The reservation of one post, released when it is dropped.
 pub struct Hold {
     pub(super) budget: Arc<Budget>,
     bytes: usize,
 }
 
 impl Hold {
-    /// Takes this many bytes in the place of those of before. Where there is no room, those of before stay.
+    /// Changes the reservation to this many bytes. If there is no room, it stays as it was.
     pub fn set(&mut self, bytes: usize) -> Result<(), Full> {
         self.budget.used.change(self.bytes, bytes, self.budget.most)?;
         self.bytes = bytes;

@@ -1,4 +1,5 @@
-//! A sender's connection as HTTP/1.1 frames it: heads, bodies by their length or in chunks, and answers.
+//! The HTTP/1.1 framing of a sender's connection: reads heads and bodies (by length or in chunks) and sends answers.
+//! `front` owns one for each connection. Ambiguous framing is refused, since a proxy may have read it in another way.
 
 use super::refusal::Refusal;
 use crate::work::within;
@@ -10,27 +11,27 @@ use std::task::Poll;
 use std::time::Duration;
 use tokio::io::{AsyncRead, AsyncReadExt, AsyncWrite, AsyncWriteExt};
 
-/// A head is no longer than this, and a body that is no longer is read into one piece.
+/// The longest head. A body up to this length is read into one piece.
 pub const READ_AHEAD: usize = 64 << 10;
-/// More than most requests have, and less than is worth a read.
+/// How much is read at a time: more than most requests have.
 const AT_ONCE: usize = 8 << 10;
 const LEAST: usize = 1 << 10;
 /// More than most heads have.
 const HEAD: usize = 512;
-/// What is left of an answer's or a long body's memory for the next one.
+/// The most buffer memory of an answer that is kept for the next one.
 const KEPT: usize = 16 << 10;
-/// How long a line before a chunk may be.
+/// How long the size line of a chunk may be.
 const CHUNK_LINE: usize = 4 << 10;
 pub const HEADERS: usize = 100;
-/// How long the end of a connection may take: TLS sends first what it still has, and who reads nothing takes none of it.
+/// How long closing may take: TLS first sends what it has buffered, and a client that does not read may never take it.
 const TO_END: Duration = Duration::from_secs(1);
 
-/// How a body is framed, and what of it still comes.
+/// The framing of a body, and what is still to come of it.
 #[derive(Clone, Copy, Debug, PartialEq, Eq)]
 pub enum Body {
-    /// So many bytes.
+    /// So many more bytes.
     Length(u64),
-    /// The line that says how long the next chunk is.
+    /// The size line of the next chunk.
     Line,
     Chunk(u64),
     BehindChunk,
@@ -38,14 +39,14 @@ pub enum Body {
     Whole,
 }
 
-/// A connection with what was read of it and not looked at yet.
+/// A connection with the input that was received and not consumed yet.
 pub struct Wire<S> {
     stream: S,
     pub input: BytesMut,
-    /// What the last request had, more or less: there is room for as much, so that the next one comes with one read.
+    /// About the length of the last request. The buffer has room for as much, so that one read gets the next request.
     expected: usize,
     body: Body,
-    /// The sender waits until it is told to go on.
+    /// The sender waits for `100 Continue`.
     waits: bool,
     output: Vec<u8>,
 }
@@ -62,7 +63,7 @@ impl<S: AsyncRead + AsyncWrite + Unpin> Wire<S> {
         }
     }
 
-    /// Reads what there is: how many bytes came, none where no more come.
+    /// Reads what is available and returns how many bytes it read, 0 at the end of the stream.
     pub async fn fill(&mut self) -> io::Result<usize> {
         let missing = match self.body {
             Body::Length(left) | Body::Chunk(left) => short(left).saturating_sub(self.input.len()),
@@ -74,7 +75,7 @@ impl<S: AsyncRead + AsyncWrite + Unpin> Wire<S> {
         self.stream.read_buf(&mut self.input).await
     }
 
-    /// Begins with the body behind a head.
+    /// Begins to read the body after a head.
     pub fn body_begins(&mut self, body: Body, waits: bool) {
         self.body = match body {
             Body::Length(0) => Body::Whole,
@@ -86,17 +87,17 @@ impl<S: AsyncRead + AsyncWrite + Unpin> Wire<S> {
         self.waits = waits && self.body != Body::Whole;
     }
 
-    /// Whether no more of the body comes.
+    /// Whether the body has been read to its end.
     pub fn is_whole(&self) -> bool {
         self.body == Body::Whole
     }
 
-    /// Whether the sender has not begun with the body, and was not told to.
+    /// Whether the sender waits for `100 Continue` and has sent none of the body.
     pub fn is_not_called_for(&self) -> bool {
         self.waits && self.input.is_empty()
     }
 
-    /// How much of the body comes at least.
+    /// How many bytes of the body are still to come at least.
     pub fn announced(&self) -> u64 {
         match self.body {
             Body::Length(left) => left,
@@ -104,7 +105,7 @@ impl<S: AsyncRead + AsyncWrite + Unpin> Wire<S> {
         }
     }
 
-    /// The body, where all of it is here in one piece.
+    /// The whole body, if all of it has been received in one piece.
     pub fn whole_body(&mut self) -> Option<Bytes> {
         match self.body {
             Body::Whole => Some(Bytes::new()),
@@ -116,7 +117,7 @@ impl<S: AsyncRead + AsyncWrite + Unpin> Wire<S> {
         }
     }
 
-    /// The next part of the body, none behind its end.
+    /// The next part of the body, or none after its end.
     pub async fn part(&mut self) -> Result<Option<Bytes>, Refusal> {
         if self.is_not_called_for() {
             self.send(b"HTTP/1.1 100 Continue\r\n\r\n").await?;
@@ -132,7 +133,7 @@ impl<S: AsyncRead + AsyncWrite + Unpin> Wire<S> {
         }
     }
 
-    /// A piece of what comes by its length. What is short is one piece.
+    /// The next piece of data whose length is known. Up to `READ_AHEAD` bytes it is one piece.
     async fn piece(&mut self, left: u64, rest: impl Fn(u64) -> Body, end: Body) -> Result<Bytes, Refusal> {
         let wanted = short(left);
         while self.input.len() < wanted {
@@ -146,7 +147,7 @@ impl<S: AsyncRead + AsyncWrite + Unpin> Wire<S> {
         Ok(piece.freeze())
     }
 
-    /// Reads what stands between chunks, or behind the last.
+    /// Parses what stands between two chunks or after the last one.
     async fn between_chunks(&mut self) -> Result<(), Refusal> {
         let mut trailers = [httparse::EMPTY_HEADER; HEADERS];
         let (used, next) = match self.body {
@@ -187,23 +188,23 @@ impl<S: AsyncRead + AsyncWrite + Unpin> Wire<S> {
 
     pub async fn send(&mut self, bytes: &[u8]) -> io::Result<()> {
         self.stream.write_all(bytes).await?;
-        self.stream.flush().await // TLS may have a part of it still
+        self.stream.flush().await // TLS may have buffered a part of it
     }
 
-    /// Sends one answer with one write: what `write` puts into the buffer.
+    /// Sends an answer, which `write` appends to the buffer, with one write.
     pub async fn answer(&mut self, write: impl FnOnce(&mut Vec<u8>)) -> io::Result<()> {
         self.output.clear();
         write(&mut self.output);
         self.stream.write_all(&self.output).await?;
-        self.stream.flush().await?; // TLS may have a part of it still
+        self.stream.flush().await?; // TLS may have buffered a part of it
         self.output.shrink_to(KEPT);
         Ok(())
     }
 
-    /// Says that nothing more comes, and throws away what has come: what is closed over unread bytes may take the
-    /// answer with it.
+    /// Shuts the connection down and discards what has come: closing with unread bytes resets the connection, and the
+    /// sender may lose the answer.
     pub async fn end(mut self) {
-        let _ = within(TO_END, self.stream.shutdown()).await; // who has gone needs no end
+        let _ = within(TO_END, self.stream.shutdown()).await; // the client may be gone already
         self.input.clear();
         self.input.reserve(READ_AHEAD);
         let mut reading = pin!(self.stream.read_buf(&mut self.input));
@@ -211,20 +212,20 @@ impl<S: AsyncRead + AsyncWrite + Unpin> Wire<S> {
     }
 }
 
-/// What comes in one piece of so many bytes.
+/// The length of the next piece if so many bytes are left.
 fn short(left: u64) -> usize {
     left.min(READ_AHEAD as u64) as usize
 }
 
-/// Whether what is before a chunk is one line that begins with a digit: to the library a line of none says 0, and so that
-/// the body has ended.
+/// Whether the text before a chunk is one line that begins with a digit. `httparse` reads a line without digits as 0,
+/// which would end the body.
 fn is_size_line(line: &[u8]) -> bool {
     let has_digit = line.first().is_some_and(u8::is_ascii_hexdigit);
     has_digit && line.iter().filter(|byte| **byte == b'\n').count() == 1
 }
 
 impl From<io::Error> for Refusal {
-    /// A connection that fails within a request is one that ends there.
+    /// If the connection fails within a request, the sender is gone.
     fn from(_: io::Error) -> Refusal {
         Refusal::Gone
     }
@@ -235,7 +236,7 @@ mod tests {
     use super::*;
     use tokio::io::{duplex, BufStream};
 
-    /// TLS keeps what its socket had no room for, as such a stream does.
+    /// A TLS stream buffers what the socket had no room for, and so does this one.
     #[tokio::test]
     async fn what_is_sent_does_not_stay_in_the_stream() {
         let (mut sender, stream) = duplex(1024);

@@ -1,5 +1,5 @@
-//! zstd (RFC 8878), unpacked by libzstd. The Rust crate of it in Debian makes its declarations by bindgen, which is 30 crates more, a minute
-//! of compiling, and libclang, for five functions whose form is fixed since 1.4.
+//! Unpacks zstd (RFC 8878) by libzstd. Debian's Rust crate for it generates its declarations by bindgen, which needs 30
+//! more crates, a minute of compiling, and libclang, for five functions whose signatures have not changed since 1.4.
 
 #![allow(unsafe_code)] // libzstd is in C
 
@@ -7,7 +7,8 @@ use std::ffi::{c_int, c_uint, c_void};
 use std::io::{ErrorKind, Read};
 use std::ptr::NonNull;
 
-/// A window takes its size in memory, beside the body. Decoders should take one of up to 8 MiB (RFC 8878, 3.1.1.1.2).
+/// The largest window of a frame; the decoder allocates it beside the body. Decoders should support up to 8 MiB (RFC
+/// 8878, 3.1.1.1.2).
 pub const WINDOW_LOG: u32 = 23;
 /// `ZSTD_d_windowLogMax` of `ZSTD_dParameter`.
 const WINDOW_LOG_MAX: c_int = 100;
@@ -42,17 +43,17 @@ extern "C" {
     fn ZSTD_isError(code: usize) -> c_uint;
 }
 
-/// Unpacks all frames of a text, one after the other.
+/// Unpacks all frames of a body, one after the other.
 pub struct Decoder<'a> {
     context: NonNull<Context>,
     packed: &'a [u8],
     at: usize,
-    /// A frame has ended, and no other has begun.
+    /// A frame has ended and no other has begun.
     is_between: bool,
 }
 
 fn checked(code: usize) -> std::io::Result<usize> {
-    // SAFETY: it looks at a number.
+    // SAFETY: the function only looks at a number.
     match unsafe { ZSTD_isError(code) } {
         0 => Ok(code),
         _ => Err(ErrorKind::InvalidData.into()),
@@ -65,14 +66,14 @@ impl Decoder<'_> {
         // SAFETY: the context is new, and owned by the decoder from here on.
         let context = NonNull::new(unsafe { ZSTD_createDCtx() })?;
         let decoder = Decoder { context, packed, at: 0, is_between: false };
-        // SAFETY: nothing is decoded yet. It fails for a value out of range alone.
+        // SAFETY: the context is valid, and nothing is decoded yet. The call fails only for a value out of range.
         let set = unsafe { ZSTD_DCtx_setParameter(context.as_ptr(), WINDOW_LOG_MAX, WINDOW_LOG as c_int) };
         checked(set).ok().map(|_| decoder)
     }
 }
 
-/// Whether a frame begins so, or a skippable one (RFC 8878, 3.1.1 and 3.1.2). libzstd may read older formats too, whose windows it does
-/// not bound.
+/// Whether a frame or a skippable frame begins here (RFC 8878, 3.1.1 and 3.1.2). libzstd may also read older formats,
+/// whose windows it does not bound.
 fn is_frame(packed: &[u8]) -> bool {
     match packed.first_chunk().map(|magic| u32::from_le_bytes(*magic)) {
         Some(magic) => magic == 0xfd2f_b528 || magic & 0xffff_fff0 == 0x184d_2a50,
@@ -92,7 +93,7 @@ impl Read for Decoder<'_> {
             }
             let mut input =
                 Input { bytes: self.packed.as_ptr().cast(), length: self.packed.len(), at: self.at };
-            // SAFETY: the context is this decoder's; both buffers are borrowed for the call, and no longer than that.
+            // SAFETY: the context belongs to this decoder; both buffers are borrowed, and only for the call.
             let more = unsafe { ZSTD_decompressStream(self.context.as_ptr(), &mut output, &mut input) };
             self.is_between = checked(more)? == 0;
             let has_no_more = input.at == self.packed.len() && output.at == 0;
@@ -107,7 +108,7 @@ impl Read for Decoder<'_> {
 
 impl Drop for Decoder<'_> {
     fn drop(&mut self) {
-        // SAFETY: nobody else has the context. It gives up its memory, and nothing else can go wrong.
+        // SAFETY: the decoder owns the context, which nothing uses after this call.
         unsafe { ZSTD_freeDCtx(self.context.as_ptr()) };
     }
 }
@@ -129,7 +130,7 @@ pub mod tests {
     }
 
     pub fn packed(plain: &[u8]) -> Vec<u8> {
-        // SAFETY: both buffers are as long as they are said to be.
+        // SAFETY: both buffers have the lengths that are passed.
         unsafe {
             let mut packed = vec![0; ZSTD_compressBound(plain.len())];
             let length = ZSTD_compress(
@@ -144,7 +145,7 @@ pub mod tests {
         }
     }
 
-    /// One frame of one block as it is, and a window of this size (RFC 8878, 3.1.1).
+    /// A frame of one raw block, with a window of this size (RFC 8878, 3.1.1).
     pub fn frame_with_window(log: u8, plain: &[u8]) -> Vec<u8> {
         let block = 1 | (plain.len() as u32) << 3;
         let head =

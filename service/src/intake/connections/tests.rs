@@ -1,10 +1,10 @@
-//! The operators' places, where idle connections have them all.
+//! Permits of the operators' connections while idle connections hold all of them.
 
 use super::*;
 use std::time::Instant;
 use tokio::io::AsyncReadExt;
 
-/// Answers each request with so many bytes.
+/// Answers each request with a body of so many bytes.
 struct Long(usize);
 
 impl Handler for Long {
@@ -19,7 +19,7 @@ struct Served {
     serving: tokio::task::JoinHandle<()>,
 }
 
-/// One that keeps idle connections for long, with so many places.
+/// Serves a listener with so many permits, which keeps idle connections for long.
 async fn served(connections: usize, length: usize) -> Served {
     let listener = TcpListener::bind("127.0.0.1:0").await.unwrap();
     let address = listener.local_addr().unwrap();
@@ -36,7 +36,7 @@ impl Served {
         TcpStream::connect(self.address).await.unwrap()
     }
 
-    /// How many bytes come for a request.
+    /// How many bytes the response to one request has.
     async fn ask(&self) -> usize {
         let mut stream = self.connected().await;
         stream.write_all(REQUEST).await.unwrap();
@@ -68,7 +68,7 @@ async fn who_does_not_read_is_closed_where_another_waits() {
     assert!(waiting.await > 64 << 20);
 }
 
-/// A page that is long comes whole also where others wait.
+/// A long response is sent whole even while other clients wait for a permit.
 #[tokio::test]
 async fn who_reads_slowly_is_not_closed() {
     let served = served(1, 32 << 20).await;
@@ -92,7 +92,7 @@ async fn who_reads_slowly_is_not_closed() {
     assert!(all > 32 << 20 && other > 32 << 20, "{all}");
 }
 
-/// What it is answered from is nobody's then: the files can be closed.
+/// The shutdown may close the files that the handler reads from only once no connection is open.
 #[tokio::test]
 async fn half_a_head_is_not_waited_for_at_the_end() {
     let served = served(1, 1).await;

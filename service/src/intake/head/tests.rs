@@ -1,4 +1,4 @@
-//! What a head says, and which heads are refused.
+//! Parsing of heads, and which are refused.
 
 use super::*;
 use crate::identity::Door;

@@ -1,4 +1,4 @@
-//! What each slot is asked, and one answer of several.
+//! What each shard is asked, and how the answers of several are combined.
 
 use super::*;
 use crate::identity::Sender;
@@ -13,10 +13,10 @@ use std::sync::Mutex;
 
 const SLOTS: u16 = 3;
 
-/// Keeps what it is asked, and answers as it was told; where it was told nothing it fails.
+/// Records the posts it gets and returns `outcome`; panics if there is none.
 struct Kept {
     posts: Mutex<Vec<(String, Bytes)>>,
-    /// As they came.
+    /// The requests as their senders sent them.
     originals: Mutex<Vec<Bytes>>,
     outcome: Option<Outcome>,
 }
@@ -40,7 +40,7 @@ impl Taker for Kept {
     }
 }
 
-/// Other instances.
+/// Stands for the other instances.
 struct Others {
     posts: Mutex<Vec<(u16, String, Bytes)>>,
     outcome: Outcome,
@@ -66,7 +66,7 @@ struct Served {
     budget: Arc<Budget>,
 }
 
-/// Slot 1 is here, and the others are elsewhere.
+/// Shard 1 is here; other instances own the others.
 fn served(here: Option<Outcome>, elsewhere: Outcome) -> Served {
     served_with(here, elsewhere, Reading::default())
 }
@@ -111,13 +111,13 @@ fn attributes(name: &str) -> String {
     format!(r#"[{{"key":"id","value":{{"stringValue":"{name}"}}}}]"#)
 }
 
-/// What a resource of a slot is called.
+/// The name of a resource that belongs to this shard.
 fn name_of(slot: u16) -> String {
     let mut names = (0..).map(|number| number.to_string());
     names.find(|name| slot_of(&attributes(name), SLOTS) == slot).unwrap()
 }
 
-/// The element of a resource that has a slot, with so many points.
+/// A resource of this shard with so many points.
 fn element(slot: u16, points: usize) -> String {
     let name = name_of(slot);
     let point = r#"{"asInt":"1","startTimeUnixNano":"1","timeUnixNano":"2"}"#;
@@ -135,7 +135,7 @@ fn request(elements: &[String]) -> Bytes {
 /// The same request in protobuf.
 fn in_protobuf(body: &Bytes) -> Bytes {
     let body = String::from_utf8(body.to_vec()).unwrap();
-    // As the book forwards it: each point has attributes.
+    // The book forwards points with their attributes, even if there are none.
     let body = body.replace(r#"{"asInt""#, r#"{"attributes":[],"asInt""#);
     otlp::protobuf_of_forwarded(body.as_bytes()).unwrap().into()
 }
@@ -154,7 +154,7 @@ async fn each_slot_is_asked_for_its_resources() {
         let Outcome::Taken { rejected, .. } = &said else {
             panic!("{said:?}");
         };
-        // Of slot 2 the request's point 3; of slot 0 its point 7.
+        // Point 3 of the request belongs to shard 2, point 7 to shard 0.
         let why = "3 points are refused: out of order: point 3, frontier 5; 4 points are refused: out of order: point 7, frontier 5";
         assert_eq!((*rejected, said.message().as_deref()), (7, Some(why)));
         let text = String::from_utf8(said.body(Encoding::Json)).unwrap();
@@ -191,7 +191,7 @@ async fn a_request_of_one_slot_goes_as_it_came() {
     assert_eq!(served.kept().len(), 2);
 }
 
-/// Its points are not taken, and those of the others are.
+/// The other parts are taken.
 #[tokio::test]
 async fn what_can_t_be_read_is_refused_with_its_part() {
     let served = served(Some(Outcome::taken(0)), late(0));
@@ -208,7 +208,7 @@ async fn what_can_t_be_read_is_refused_with_its_part() {
     assert_eq!(alone.status(), 400);
 }
 
-/// Its post may have been taken.
+/// The post may have been taken.
 #[tokio::test]
 async fn a_slot_that_fails_makes_all_of_it_to_be_sent_again() {
     let served = served(None, Outcome::taken(0));
@@ -233,7 +233,7 @@ async fn a_part_that_another_instance_got_is_taken_where_its_slot_is() {
     assert_eq!((served.kept().len(), served.budget.used()), (0, 0));
 }
 
-/// Has no room for the names of a post's series.
+/// Has no room for the series names of a post.
 struct WithoutRoom;
 
 impl Taker for WithoutRoom {
@@ -246,7 +246,7 @@ impl Taker for WithoutRoom {
     }
 }
 
-/// The slot here, another instance, and what is handed on: none of them sees what the body says of its sender.
+/// Neither the shard here, nor another instance, nor the forwarded original has the body's own claim about its sender.
 #[tokio::test]
 async fn whoever_gets_a_part_of_a_post_gets_the_name_that_its_sender_proves() {
     let reading = Reading { sender_attribute: Some("id".into()), ..Reading::default() };
@@ -274,7 +274,7 @@ async fn whoever_gets_a_part_of_a_post_gets_the_name_that_its_sender_proves() {
     }
 }
 
-/// Of whom nothing is proved, as no address lets in where the option is given.
+/// No address with this option lets in a sender that proves nothing; if one did, its posts would still be refused.
 #[tokio::test]
 async fn who_proves_nothing_is_refused_where_its_series_are_to_be_its_own() {
     let reading = Reading { sender_attribute: Some("id".into()), ..Reading::default() };
@@ -284,7 +284,7 @@ async fn who_proves_nothing_is_refused_where_its_series_are_to_be_its_own() {
     assert!(served.kept().is_empty() && served.others().is_empty());
 }
 
-/// It is not the body that is too long.
+/// The message must not blame the length of the body.
 #[tokio::test]
 async fn what_has_too_long_series_is_told_so() {
     let budget = Budget::new(64 << 20);
