@@ -1,11 +1,12 @@
-//! Closes rounds of the books.
+//! Closes the rounds of the books: a book forgets what has ended, so that its journal has room again. `rounds` says
+//! when.
 
 use super::rounds::Closing;
 use super::{memory, Book};
 
 impl Book {
-    /// Of one book, where one is to be closed: what is over is forgotten, and sums begin at what they are. While something is
-    /// in flight none can be, and who is next waits: else its book had more in its journal than is known here.
+    /// Closes the round of the next book if one is due. While a flush is in flight no round can be closed, so that book
+    /// waits; if it were passed over, its journal would grow longer than `rounds` counts.
     pub(super) fn close_next_round(&mut self) {
         if self.earlier.in_flight > 0 {
             return;
@@ -15,26 +16,28 @@ impl Book {
         }
     }
 
-    /// Of all books, where nobody waits, and only once these have no room: it takes longer than many posts.
+    /// Closes all rounds, but only if the books have no more room: it takes longer than many posts. For starts, when
+    /// nobody waits.
     pub(super) fn close_full_rounds(&mut self) {
         if self.rounds.are_full(self.desk.entries()) {
             self.close_rounds();
         }
     }
 
-    /// What is there is all of zeros: it has these series, and rounds are as long as they need.
+    /// Sets the length of the rounds by the number of series, after a start has seeded them.
     pub fn note_primed(&mut self) {
         self.rounds.last_for(self.desk.series());
     }
 
-    /// From now on somebody waits, who has to find room. Where there are many points alone rounds are closed as ever, one by one.
+    /// Called when a start has filled the book and senders begin to wait. Closes all rounds if the start put in many
+    /// posts, so that new posts find room; if there were only many points, rounds are closed one by one as usual.
     pub fn note_filled(&mut self) {
         if self.rounds.have_many_posts() {
             self.close_rounds();
         }
     }
 
-    /// Of all books at once, since something finds no room. A book of which something is in flight is not closed.
+    /// Closes the rounds of all books at once because one has no room. A book with a flush in flight is skipped.
     pub(super) fn close_rounds(&mut self) {
         self.rounds.begin();
         while let Some(book) = self.rounds.being_closed() {
@@ -42,7 +45,8 @@ impl Book {
         }
     }
 
-    /// Closes the round of a book where nobody posts: whether there is another. Each keeps what came since it began.
+    /// Closes the round of one book while nobody posts, since a round keeps all posts from its beginning in memory.
+    /// Returns whether another book is left.
     pub fn close_round_at_rest(&mut self) -> bool {
         if self.earlier.in_flight > 0 || self.desk.entries() == 0 {
             return false;
@@ -56,7 +60,7 @@ impl Book {
         self.rounds.being_closed().is_some()
     }
 
-    /// How much has come to it so far: posts, taken, refused or only tried, and ends of what was taken.
+    /// How many calls the book has had: posts (taken, refused or only tried) and ends of flushes.
     pub fn came(&self) -> u64 {
         self.came
     }
@@ -71,7 +75,7 @@ impl Book {
         self.rounds.note(closing, || self.desk.series());
     }
 
-    /// How many rounds were closed since this was asked last.
+    /// How many rounds were closed since the last call.
     pub fn rounds_closed(&mut self) -> usize {
         self.rounds.closed()
     }

@@ -1,7 +1,8 @@
-//! What is pending of a series is of one stretch of time: where a point of a later one comes, its book is taken first.
+//! Keeps all unflushed points of a series in one window of time (an hour or a day): if a point of a later window comes,
+//! the pending points of its book are flushed first. `Book` calls it for each post.
 //!
-//! What is taken so is written and settled at once, since a series of which something is in flight is not taken again. Its
-//! requests wait here for the next group, ahead of all else that it has.
+//! These flushes are serialised and settled at once, because a series with a flush in flight can't be flushed again.
+//! Their requests wait here and go first in the next group.
 
 use super::book::{Desk, Flushes, Reader, MAX_TAKEN};
 use super::refusal::check;
@@ -9,48 +10,48 @@ use super::rounds::have_room_for;
 use super::{memory, Book, Flushed, Read, Refused};
 use crate::files::Points;
 
-/// What one of several stretches of a post may add to a book's journal: the post itself, and as many flushes as 10,000 series
-/// need, each taken and settled.
+/// The most entries that one window of a post may add to a book's journal: the post itself, and as many flushes as
+/// 10,000 series need, each with its taking and its settling.
 const ENTRIES_OF_A_PART: usize = 2 + 2 * 10_000_usize.div_ceil(MAX_TAKEN);
 
-/// What belongs to the next group ahead of what the book has.
+/// Requests of earlier windows that go first in the next group.
 #[derive(Default)]
 pub(super) struct Earlier {
-    /// Requests, in order, and their bytes.
+    /// The requests, in order, and their total length.
     texts: Vec<Vec<u8>>,
     bytes: usize,
-    /// The first stretch in which the book has anything pending; none where it has nothing. It may be too early.
+    /// The earliest window with pending points, or an earlier one; none if nothing is pending.
     pub first: Option<u64>,
-    /// How many of all that was taken at once is not ended: it is being written, without the lock.
+    /// Flushes taken but not yet settled; their requests are being serialised outside the lock.
     pub in_flight: usize,
 }
 
 impl Earlier {
-    /// They belong to a group now.
+    /// Hands the requests over to a group.
     pub fn take(&mut self) -> Vec<Vec<u8>> {
         self.bytes = 0;
         std::mem::take(&mut self.texts)
     }
 
-    /// Something of this stretch is pending.
+    /// Records that points of this window are pending.
     pub fn note(&mut self, stretch: u64) {
         self.first = Some(self.first.map_or(stretch, |first| first.min(stretch)));
     }
 }
 
 impl Book {
-    /// Whether the next group has something already.
+    /// Whether the next group already has requests.
     pub fn has_earlier(&self) -> bool {
         !self.earlier.texts.is_empty()
     }
 
-    /// How many bytes that is.
+    /// The total length of these requests.
     pub fn earlier_bytes(&self) -> usize {
         self.earlier.bytes
     }
 
-    /// Takes each book that has something pending of a series of which a point of a later stretch is to be admitted.
-    /// `InFlight`, with nothing lost, where that is in flight: it is asked again once that is ended.
+    /// Flushes each book in which a series has pending points of an earlier window than its next point. If these are in
+    /// flight, answers `InFlight` and changes nothing: the caller retries after that flush has ended.
     pub(super) fn cross(&mut self, reader: &mut Reader, last: u64) -> Result<(), Refused> {
         if self.earlier.first.is_none_or(|first| first >= last) {
             return Ok(());
@@ -70,7 +71,7 @@ impl Book {
             if self.earlier.in_flight > 0 && self.crossing(reader, book) == Some(book) {
                 return Err(Refused::InFlight);
             }
-            // What a quarantined sender has stays, and the book refuses its post.
+            // Points of a quarantined sender stay pending, and the book refuses its post.
             next = book + 1;
         }
         Ok(())
@@ -94,11 +95,11 @@ impl Book {
         }
     }
 
-    /// Puts a post into the books whose points are of several stretches, stretch by stretch. What is refused changed nothing,
-    /// as of any post, but `HalfTaken`.
+    /// Admits a post whose points lie in several windows, window by window. A refusal changes nothing, except for
+    /// `HalfTaken`.
     pub(super) fn admit_stretches(&mut self, read: &mut Read) -> Result<(), Refused> {
         if self.earlier.in_flight > 0 {
-            return Err(Refused::InFlight); // behind its first stretch nothing may be
+            return Err(Refused::InFlight); // after the first window, no flush may be in flight
         }
         let parts = std::mem::take(&mut read.stretches);
         let done = self.try_whole(read, parts.len()).and_then(|()| {
@@ -114,7 +115,7 @@ impl Book {
         done
     }
 
-    /// Whether the books take all of it: so it is refused whole. Behind that there is room for each part.
+    /// Refuses the post as a whole if the books would refuse it; if they accept it, each part will find room.
     fn try_whole(&mut self, read: &mut Read, parts: usize) -> Result<(), Refused> {
         let entries = ENTRIES_OF_A_PART * parts;
         if !have_room_for(self.desk.entries(), entries) {

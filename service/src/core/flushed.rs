@@ -1,16 +1,16 @@
-//! What was taken of the book, and its requests.
+//! Flushes taken from the book, and the requests that they are serialised to.
 
 use super::book::Flushes;
 use super::memory;
 use super::refusal::{check, Refused};
 
-/// What was taken of the book: a request for each of these numbers, from 0. It is to be settled: once the lock is another's,
-/// points of a later hour may come, which it would be one with if it were given back.
+/// Flushes taken from the book; their requests are numbered from 0. They have to be settled: once the lock is released,
+/// points of a later window may come, and a flush that is given back would be merged with these.
 #[must_use = "what was taken has to be settled"]
 pub struct Flushed {
-    /// Requests that go ahead of the others, and are written already.
+    /// Requests that are serialised already and go first.
     pub(super) earlier: Vec<Vec<u8>>,
-    /// Each with how many requests it has.
+    /// Each flush handle with the number of its requests.
     pub(super) parts: Vec<(Flushes, usize)>,
 }
 
@@ -19,12 +19,12 @@ impl Flushed {
         Flushed { earlier: Vec::new(), parts: vec![(flushes, count)] }
     }
 
-    /// How many requests there are to be written.
+    /// How many requests are to be serialised.
     pub fn count(&self) -> usize {
         self.parts.iter().map(|(_, count)| count).sum()
     }
 
-    /// Writes one of them, which takes no lock.
+    /// Serialises one request. Needs no lock.
     pub fn text(&mut self, number: usize) -> Result<Vec<u8>, Refused> {
         let mut before = number;
         for (flushes, count) in &mut self.parts {
@@ -38,7 +38,7 @@ impl Flushed {
         Err(Refused::NoSuch)
     }
 
-    /// Writes all of them, behind those that are written already.
+    /// Serialises all requests, after those of earlier windows.
     pub fn texts(&mut self) -> Result<Vec<Vec<u8>>, Refused> {
         let written: Result<Vec<_>, _> = (0..self.count()).map(|number| self.text(number)).collect();
         let written = written?;

@@ -1,9 +1,10 @@
-//! How much memory the books of a process have: what the library asks for is counted, and refused over a bound. A failed
-//! allocation is an answer; a killed process has to be restored.
+//! Counts the memory of the library and refuses allocations above a bound. A failed allocation is an answer to one
+//! post; a killed process has to be restored.
 //!
-//! Posts are read and admitted below a lower bound than what was taken is forwarded by: what lies between the two is a
-//! reserve for that. So posts are refused, and nothing of them is kept, before a flush would find too little. A start puts in what
-//! was taken, so it has the reserve too. Posts that bring new series have a lower bound than others: else these would find nothing
+//! Posts are read and admitted below a lower bound than the one for forwarding what was taken; the difference is a
+//! reserve. So posts are refused, and leave nothing behind, before a flush could lack memory. A start may use the
+//! reserve, since it puts in what was taken already. Posts that bring new series have a bound that is lower still:
+//! otherwise posts of known series would be refused once senders have made as many series as there is memory for.
 //! once senders have made as many series as there is memory for.
 
 use crate::work::locked;
@@ -14,38 +15,39 @@ use std::sync::Mutex;
 /// The exit status of a process that ends for want of memory.
 pub const NONE_LEFT: i32 = 71;
 
-/// What a thread counts by itself before it counts with the others: the sum of all is off by as much for each.
+/// How many bytes a thread may count by itself before it adds them to the shared sum, which may be off by this for each
+/// thread.
 const DRIFT: i64 = 128 << 10;
 
-/// A reserve has so many bytes at least, more for each series, and for so many texts.
+/// The reserve is at least this, plus this for each series, plus this many texts as long as the longest.
 const LEAST_RESERVE: u64 = 8 << 20;
 const RESERVE_OF_A_SERIES: u64 = 1 << 10;
 const TEXTS: u64 = 3;
-/// Posts of known series leave what it has without series, up to a quarter of all: by that it is forwarded in small parts. New series
-/// leave so large a part more.
+/// Posts of known series leave the part of the reserve that does not depend on series, up to a quarter of all memory:
+/// enough to forward everything in small parts. New series leave more, by this fraction of that part.
 const PART_OF_KNOWN: u64 = 4;
 
 static USED: AtomicI64 = AtomicI64::new(0);
 static MOST: AtomicI64 = AtomicI64::new(i64::MAX);
 static MOST_OF_POSTS: AtomicI64 = AtomicI64::new(i64::MAX);
 static MOST_OF_NEW: AtomicI64 = AtomicI64::new(i64::MAX);
-/// Until one was written it may be as long.
+/// Until a text was written, a text is assumed to have this length.
 static LONGEST_TEXT: AtomicU64 = AtomicU64::new(4 << 20);
-/// How many series all books had when each was taken last. Locked while it is found what is kept back for them.
+/// How many series all books had at their last flush. Locked while the reserve is computed from it.
 static SERIES: Mutex<u64> = Mutex::new(0);
 
 thread_local! {
     static OWN: Own = const { Own::new() };
 }
 
-/// What a call is for that asks for memory, by how much it may have.
+/// Why a call asks for memory, which decides how much it may have.
 #[derive(Clone, Copy)]
 enum Purpose {
-    /// Admits a post that may bring new series.
+    /// To admit a post that may bring new series.
     NewSeries,
-    /// Reads a post, or admits one of known series.
+    /// To read a post, or to admit a post of known series.
     Posts,
-    /// Forwards what was taken, or puts it in again.
+    /// To forward what was taken, or to put it in again.
     Taken,
 }
 
@@ -59,15 +61,15 @@ impl Purpose {
     }
 }
 
-/// What a thread knows.
+/// The counters of a thread.
 struct Own {
-    /// Not in the sum of all yet.
+    /// Bytes not yet added to the shared sum.
     drift: Cell<i64>,
-    /// Of the call that is under way.
+    /// The purpose of the current call.
     purpose: Cell<Purpose>,
-    /// How many blocks it was refused.
+    /// How many blocks the thread was refused.
     refusals: Cell<u64>,
-    /// So many more are given; then one is refused, or all are.
+    /// After this many blocks, one block is refused, or all are.
     #[cfg(test)]
     left: Cell<Option<u64>>,
     #[cfg(test)]
@@ -134,17 +136,17 @@ impl Drop for Own {
     }
 }
 
-/// Counts so many bytes where they fit.
+/// Reserves so many bytes if the sum stays within the bound.
 fn fits(bytes: i64, most: &AtomicI64) -> bool {
     let most = most.load(Relaxed);
     let next = |used: i64| used.checked_add(bytes).filter(|sum| *sum <= most);
     USED.fetch_update(Relaxed, Relaxed, next).is_ok()
 }
 
-/// Whether there are so many bytes: they count then.
+/// Reserves so many bytes for the current call; returns whether they fit.
 pub(super) fn take(bytes: usize) -> bool {
     let bytes = i64::try_from(bytes).unwrap_or(i64::MAX);
-    // A thread that ends has none of its own any more.
+    // A thread that is ending has lost its own counters.
     OWN.try_with(|own| own.take(bytes)).unwrap_or_else(|_| fits(bytes, &MOST))
 }
 
@@ -152,13 +154,13 @@ pub(super) fn give(bytes: usize) {
     correct(bytes, 0);
 }
 
-/// A block was refused.
+/// Counts a refused block.
 pub(super) fn note_refusal() {
     let note = |own: &Own| own.refusals.set(own.refusals.get().wrapping_add(1));
-    OWN.try_with(note).unwrap_or_default(); // of a thread that ends nobody asks
+    OWN.try_with(note).unwrap_or_default(); // of a thread that is ending, nobody asks
 }
 
-/// What this thread has not counted with the others: another number once it has used the library.
+/// The bytes that this thread has not added to the shared sum. It changes whenever the thread uses the library.
 pub(super) fn drift() -> i64 {
     OWN.with(|own| own.drift.get())
 }
@@ -168,7 +170,7 @@ pub(super) fn refusals() -> u64 {
     OWN.with(|own| own.refusals.get())
 }
 
-/// What counts as so many bytes has so many: an allocator may give some more than it was asked for.
+/// Corrects the count of a block: the allocator may give more bytes than were asked for.
 pub(super) fn correct(counted: usize, has: usize) {
     let bytes = counted as i64 - has as i64;
     if OWN.try_with(|own| own.give(bytes)).is_err() {
@@ -176,12 +178,12 @@ pub(super) fn correct(counted: usize, has: usize) {
     }
 }
 
-/// A call that may use up the reserve.
+/// Makes a call that may use up the reserve.
 pub fn with_reserve<T>(call: impl FnOnce() -> T) -> T {
     with_purpose(Purpose::Taken, call)
 }
 
-/// A call that may bring new series, unless it has the reserve.
+/// Makes a call that may bring new series, unless it may use the reserve anyway.
 pub(super) fn with_new_series<T>(call: impl FnOnce() -> T) -> T {
     match OWN.with(|own| own.purpose.get()) {
         Purpose::Taken => call(),
@@ -196,26 +198,27 @@ fn with_purpose<T>(purpose: Purpose, call: impl FnOnce() -> T) -> T {
     done
 }
 
-/// From now on the books have at most so many bytes.
+/// Sets the bound for all books.
 pub fn bound(most: u64) {
     MOST.store(i64::try_from(most).unwrap_or(i64::MAX), Relaxed);
     Reserve::default().be_for(0);
 }
 
-/// A text has so many bytes: the next one may have as many.
+/// Records the length of a text: the next one may be as long.
 pub(super) fn note_text(bytes: u64) {
     LONGEST_TEXT.fetch_max(bytes, Relaxed);
 }
 
-/// What is kept back for a slot's book, and the one that takes its place. A process may have several slots.
+/// The part of the reserve for one shard's book and for the one that replaces it. A process may have several shards.
 #[derive(Default)]
 pub(super) struct Reserve {
     series: AtomicU64,
 }
 
 impl Reserve {
-    /// Keeps back what it takes to forward so many series beside those of the others, by texts as long as those before, up to
-    /// half of all. Posts of known series may have what it takes to forward many at once.
+    /// Sets the reserve to what forwarding this book's series and those of the other books needs, with texts as long as
+    /// the longest so far, up to half of all memory. For posts of known series a smaller reserve is kept back, see
+    /// `PART_OF_KNOWN`.
     pub fn be_for(&self, series: usize) {
         let mut all = locked(&SERIES);
         *all = *all + series as u64 - self.series.swap(series as u64, Relaxed);
@@ -234,12 +237,13 @@ impl Drop for Reserve {
     }
 }
 
-/// How many bytes it has, and may have.
+/// How many bytes are used, and the bound.
 pub fn used() -> (u64, u64) {
     (USED.load(Relaxed).max(0).unsigned_abs(), MOST.load(Relaxed).unsigned_abs())
 }
 
-/// What a call says while this thread gets so many blocks, and then one is refused, or all are; and whether none was refused.
+/// Makes a call for which this thread gets so many blocks before one is refused, or all are. Returns whether none was
+/// refused.
 #[cfg(test)]
 pub(crate) fn with_blocks<T>(blocks: u64, refuses_all: bool, call: impl FnOnce() -> T) -> (T, bool) {
     let set = |left| OWN.with(|own| (own.left.set(left), own.refuses_all.set(refuses_all)));
@@ -250,7 +254,7 @@ pub(crate) fn with_blocks<T>(blocks: u64, refuses_all: bool, call: impl FnOnce()
     (done, refusals() == before)
 }
 
-/// Whether there is a block, and where. Where there is none the address is that of a byte which is always there.
+/// A block, or none: then the address is that of a static byte, since the library wants a valid one.
 #[repr(C)]
 pub(super) struct Tried {
     ok: bool,
@@ -278,7 +282,7 @@ mod tests {
     use super::*;
     use std::sync::Arc;
 
-    /// A book from which so many series were taken.
+    /// A book from which so many series were flushed.
     fn taken(series: usize) -> Arc<Core> {
         let core = Core::new(1).unwrap();
         let names: Vec<String> = (0..series).map(|number| format!("s{number}")).collect();
@@ -289,7 +293,7 @@ mod tests {
         core
     }
 
-    /// An instance has books of several slots, and any of them may be taken next.
+    /// An instance has the books of several shards, and any of them may be flushed next.
     #[test]
     fn what_is_kept_back_is_for_the_series_of_all_books() {
         let least = LEAST_RESERVE + TEXTS * LONGEST_TEXT.load(Relaxed) + RESERVE_OF_A_SERIES * 3_010;
@@ -298,7 +302,7 @@ mod tests {
         assert!(kept >= least as i64, "{kept} < {least}");
     }
 
-    /// Else no post of them is taken once senders have made as many series as there is memory for.
+    /// Otherwise posts of known series would be refused once senders have made as many series as there is memory for.
     #[test]
     fn new_series_leave_memory_for_known_ones_and_these_for_what_is_taken() {
         Reserve::default().be_for(0);

@@ -1,11 +1,16 @@
-//! The book: proved, linked in, and asked by calls. `book` is the wrapper over its library, the only file that calls what
-//! is not Rust, `refusal` what it says no by, `memory` what it may have, `names` has numbers for series, `rounds` when rounds are
-//! closed, `close` how, `read` a post that was read, `readers` what reads them, `stretch` which points are of one hour, `earlier`
-//! what is taken where a later one begins, `flushed` what was taken, `point_refusals` which points of a refused post their series refuse, `recent`
-//! what posts had last of each series.
+//! The book of a shard: the proved library behind one lock. `slot` puts posts into it, `keeper` starts it and takes
+//! checkpoints from it.
 //!
-//! A post is read by a reader, which needs no lock. All else is asked of the one `Book` under the lock of `Core`: so
-//! there is one order of all that changes it, and what is put into the journal under that lock has the same.
+//! A reader parses a post without the lock. Everything else is a call of the one `Book` under the lock of `Core`, so
+//! all changes have one order; the journal has the same order, because a post is appended under that lock.
+//!
+//! - `book`: the calls of the library; `refusal`: its refusals; `memory`: the bound on its memory.
+//! - `names`: numbers for series; `texts`: the request that names each of them; `recent`: the last posts of each
+//!   series.
+//! - `read`: a post that was parsed; `readers`: the pool of parsers; `stretch`: windows of time.
+//! - `rounds`: when rounds are closed; `close`: closing them.
+//! - `earlier`: flushes before a later window begins; `flushed`: what was taken; `point_refusals`: which points of a
+//!   refused post their series refuse.
 
 #[allow(unsafe_code)]
 mod book;
@@ -47,14 +52,15 @@ use refusal::check;
 use rounds::Rounds;
 use std::sync::{Arc, Mutex, MutexGuard};
 
-/// A book takes 10,000 series, and a series goes to one by a hash: so many on average leave room for the uneven.
+/// A book takes 10,000 series and a hash chooses the book of a series, so this many on average leave room for an uneven
+/// spread.
 const SERIES_OF_A_BOOK: usize = 8_000;
-/// How many series of each book are taken at once where memory is short.
+/// How many series of each book are flushed at once if memory is short.
 const SMALL: usize = 10;
-/// What may be asked for.
+/// The most series that may be configured.
 pub const MOST_SERIES: usize = 1_000_000;
 
-/// The book with its lock, and how posts are read for it.
+/// The book with its lock.
 pub struct Core {
     books: usize,
     across: Across,
@@ -62,12 +68,12 @@ pub struct Core {
     book: Mutex<Book>,
 }
 
-/// All series, in as many books of the library as they need.
+/// All series of a shard, in as many books of the library as they need.
 pub struct Book {
     desk: Desk,
     books: usize,
     rounds: Rounds,
-    /// How many calls came so far: see `came()`.
+    /// How many calls there were so far, see `came()`.
     came: u64,
     across: Across,
     earlier: Earlier,
@@ -75,14 +81,15 @@ pub struct Book {
     recent: RecentPoints,
 }
 
-/// A call of all books with what a reader has.
+/// A call of all books with the post that a reader has.
 type Ask = fn(&mut Desk, &mut Reader) -> Answer;
 
-/// The book, for who has its lock.
+/// The book, for the holder of its lock.
 pub type Locked<'a> = MutexGuard<'a, Book>;
 
-/// Gives all threads what this one keeps of free memory, where it has not used the library since it was asked `before`: an
-/// allocator has a store for each thread, and takes nothing out of one that does nothing. What to ask next time.
+/// Makes the free memory that this thread caches available to all threads, unless the thread has used the library since
+/// the last call. The allocator has a cache for each thread and never takes anything from the cache of an idle one.
+/// `before` is what the last call returned.
 pub fn give_back_of_thread(before: Option<i64>) -> Option<i64> {
     let now = Some(memory::drift());
     if now == before {
@@ -92,12 +99,12 @@ pub fn give_back_of_thread(before: Option<i64>) -> Option<i64> {
 }
 
 impl Core {
-    /// A book with room for so many series, which keeps hours apart.
+    /// A book with room for so many series, with windows of an hour.
     pub fn new(series: usize) -> Result<Arc<Core>, Refused> {
         Core::apart(series, Across::default())
     }
 
-    /// The same, of other stretches of time.
+    /// The same with other windows.
     pub fn apart(series: usize, across: Across) -> Result<Arc<Core>, Refused> {
         let books = series.div_ceil(SERIES_OF_A_BOOK).max(1);
         let reserve = Arc::<memory::Reserve>::default();
@@ -105,27 +112,28 @@ impl Core {
         Ok(Arc::new(Core { books, across, reserve, book: Mutex::new(book) }))
     }
 
-    /// How many books of the library it has.
+    /// How many books of the library there are.
     pub fn books(&self) -> usize {
         self.books
     }
 
-    /// How many series it has room for, about.
+    /// How many series there is room for, about.
     pub fn max_series(&self) -> usize {
         self.books * SERIES_OF_A_BOOK
     }
 
-    /// A book that has nothing yet, to be put in the place of this one.
+    /// An empty book, to replace this one.
     pub fn fresh(&self) -> Result<Book, Refused> {
         Book::new(self.books, self.across, self.reserve.clone())
     }
 
-    /// Reads a post. JSON may nest to 127: the thread has 2 MiB of stack, as those of the runtimes have.
+    /// Parses a post. JSON may nest to a depth of 127, which needs a stack of 2 MiB, as the threads of the runtimes
+    /// have.
     pub fn read(&self, sender: String, body: Bytes) -> Result<Read, Refused> {
         self.unread(Post { sender, foreign: 0, body: Body::Text(body) }, None).read()
     }
 
-    /// The same of points that have numbers by these names. So many others are outside the profile.
+    /// Reads points that have numbers by `names`. `left_out` other points of the post are outside the profile.
     pub fn read_points(
         &self,
         sender: String,
@@ -136,25 +144,25 @@ impl Core {
         self.unread(Post { sender, foreign: left_out, body: Body::Points(points) }, Some(names)).read()
     }
 
-    /// A post that is to be read, by whatever thread. What it says of foreign points is of those that it does not have.
+    /// A post that any thread may parse later. Its `foreign` counts only points that it does not contain.
     pub fn unread(&self, post: Post, names: Option<Arc<Names>>) -> Read {
         Read::unread(self.books, self.across, post, names)
     }
 
-    /// The stretch of time in which all of these points count; none where they are of several.
+    /// The window of all these points; none if they lie in several.
     pub fn stretch_of(&self, points: &Points) -> Option<u64> {
         self.across.of_all(points)
     }
 
-    /// Waits for the lock: nothing is waited for while it is held but a write of the journal's.
+    /// Waits for the lock. Its holder never waits for anything but a write of the journal.
     pub fn lock(&self) -> Locked<'_> {
-        locked(&self.book) // a call of the library is whole or ends the process
+        locked(&self.book) // a call of the library either completes or ends the process
     }
 }
 
 impl Book {
-    /// What nobody has is given back first: a book has room for all that it may come to in a round, of which it uses little, and
-    /// what it never uses takes no memory only where nobody has used it.
+    /// Returns free memory to the system first. A book allocates room for all that a round may bring and uses little of
+    /// it; the rest costs no memory only if its pages were never used.
     fn new(books: usize, across: Across, reserve: Arc<memory::Reserve>) -> Result<Book, Refused> {
         book::give_back();
         Ok(Book {
@@ -169,21 +177,21 @@ impl Book {
         })
     }
 
-    /// Puts a post into all of its books, or into none: what is refused changed nothing, but where it is `HalfTaken`.
+    /// Puts a post into all of its books or into none: a refusal changes nothing, except for `HalfTaken`.
     pub fn admit(&mut self, read: &mut Read) -> Result<(), Refused> {
         let admitted = self.admit_in_turn(read);
         self.close_next_round();
         admitted
     }
 
-    /// The same of a post that is put in again, while nobody waits.
+    /// Puts in a post of the journal during a start, when nobody waits.
     pub fn admit_again(&mut self, read: &mut Read) -> Result<(), Refused> {
         let admitted = self.admit_in_turn(read);
         self.close_full_rounds();
         admitted
     }
 
-    /// The same of a quarantined sender's: of it nothing is taken, and when it came it went over no stretch.
+    /// Puts in a post of a quarantined sender. It is never flushed, and it crossed no window when it came.
     pub fn admit_held(&mut self, read: &mut Read) -> Result<(), Refused> {
         let Some((first, _)) = read.first_and_last() else {
             return Ok(());
@@ -212,8 +220,8 @@ impl Book {
         Ok(())
     }
 
-    /// Asks the books for all that the reader has, which is the whole post or a part of it; and once more after rounds are closed,
-    /// if that may help. A part has to go in: half of a post ends the service.
+    /// Asks the books to take what the reader has: the whole post, or one part of it. If closing the rounds may help,
+    /// closes them and asks again. A part has to succeed, since half a post ends the service.
     fn ask(&mut self, read: &mut Read, part: Option<&Points>, call: Ask) -> Result<(), Refused> {
         let asked = self.ask_once(read, call);
         let Err(refused) = asked else { return asked };
@@ -266,8 +274,8 @@ impl Book {
         Ok((flushes, usize::try_from(came.number).unwrap_or(usize::MAX)))
     }
 
-    /// Takes all and writes its requests, in small parts, each settled before the next is taken: that needs little memory,
-    /// and the lock for long. Behind a fault `texts` has what was settled, and the book the rest.
+    /// Flushes everything in small parts, each serialised and settled before the next is taken. That needs little
+    /// memory, but holds the lock for long. After an error, `texts` has what was settled and the book has the rest.
     pub fn write_all(&mut self, texts: &mut Vec<Vec<u8>>) -> Result<(), Refused> {
         texts.extend(self.earlier.take());
         loop {
@@ -282,7 +290,7 @@ impl Book {
         Ok(())
     }
 
-    /// The same where a post finds no memory that has to be put in: rounds are closed too.
+    /// Does the same, and closes the rounds, for a post that must be put in and found no memory.
     pub fn make_room(&mut self, texts: &mut Vec<Vec<u8>>) -> Result<(), Refused> {
         self.close_rounds();
         self.write_all(texts)?;
@@ -290,7 +298,7 @@ impl Book {
         Ok(())
     }
 
-    /// Writes what was taken, and settles it; where there is no memory for that it is given back.
+    /// Serialises a flush and settles it; gives it back if there is no memory.
     fn write(&mut self, mut taken: Flushed) -> Result<Vec<Vec<u8>>, Refused> {
         let written = taken.texts();
         let end = match written {
@@ -301,14 +309,14 @@ impl Book {
         written
     }
 
-    /// It was forwarded, or will be.
+    /// Settles flushes whose requests were serialised.
     pub fn settle(&mut self, taken: Flushed) -> Result<(), Refused> {
         self.earlier.in_flight -= 1;
         self.end(taken, Desk::settle)
     }
 
     fn end(&mut self, taken: Flushed, end: fn(&mut Desk, &mut Flushes) -> Answer) -> Result<(), Refused> {
-        // Each is ended, also after one that says no, which none does.
+        // Each flush is ended, even if the end of another is refused, which never happens.
         let ended = taken.parts.into_iter().map(|(mut flushes, _)| {
             self.count_entries();
             let answer = end(&mut self.desk, &mut flushes);
@@ -317,7 +325,7 @@ impl Book {
         ended.fold(Ok(()), Result::and)
     }
 
-    /// Something adds entries as a post does, and has no points.
+    /// Counts a call that adds entries as a post does, but no points.
     fn count_entries(&mut self) {
         self.came += 1;
         self.rounds.count(0);
@@ -335,17 +343,17 @@ impl Book {
     }
 
     pub fn lift(&mut self, sender: &str) -> Result<(), Refused> {
-        self.earlier.note(0); // of whatever stretch it has something
+        self.earlier.note(0); // its pending points may be of any window
         self.count_entries();
         check(self.desk.lift(sender.as_bytes())).map(drop)
     }
 
-    /// How many series it has.
+    /// How many series there are.
     pub fn series(&mut self) -> usize {
         self.desk.series()
     }
 
-    /// What each of its books has, one after the other.
+    /// The reports of all books, one after the other.
     pub fn report(&mut self) -> Result<Vec<u8>, Refused> {
         let mut flushes = Flushes::new().ok_or(Refused::NoMemory)?;
         let mut all = Vec::new();

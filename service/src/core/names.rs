@@ -1,4 +1,5 @@
-//! Series by their numbers: the library's names, each with a request that names it.
+//! The numbers of series: the library's table of names, with a request for each number that names its series. Owned by
+//! `slot`; the journal refers to series by these numbers.
 
 use super::book::{self, Answer, Reader};
 use super::memory;
@@ -14,30 +15,31 @@ use std::sync::{Arc, Mutex, MutexGuard, OnceLock, PoisonError, RwLock, RwLockRea
 
 static GENERATIONS: AtomicU64 = AtomicU64::new(1);
 
-/// Whoever a series is named for: the library wants a sender.
+/// The library wants a sender for each request; for naming any will do.
 const ANYBODY: &[u8] = b"-";
-/// So many words say a point of a sum, with its number; of a histogram more.
+/// How many words a point of a sum has, with its number; a point of a histogram has more.
 const LEAST_WORDS: usize = 4;
 const MOST_MORE: usize = 4 << 10;
 /// Most requests of one point are not longer.
 const TEXT: usize = 1 << 10;
 
-/// Numbers from 0 on, in the order in which series were named. A lock of its own is held while one is named or points
-/// are read by them.
+/// Numbers from 0 on, in the order in which series were named. Its own lock is held while a series is named or points
+/// are read by number.
 pub struct Names {
     handle: Mutex<book::Names>,
-    /// Nobody has points of a number that is not there yet.
+    /// The request of each number. A number is here before anybody can have points with it.
     named: RwLock<Named>,
-    /// A series has a number and no request, for want of room or of memory: no other one gets a number.
+    /// Naming a series failed for want of room or of memory: no further series gets a number.
     is_closed: AtomicBool,
-    /// How many words the last post had beyond those of sums: so the next one's have room at once.
+    /// How many words the last post had beyond those of sums, so that the buffer for the next one is large enough at
+    /// once.
     more: AtomicUsize,
     generation: u64,
     is_of_one_post: bool,
 }
 
-/// Of each number a request of one point, and how many words say a point, with its number: known once it is asked for, and 0
-/// where the request is not read.
+/// The request of each number, and how many words a point of its series has, with its number. The latter is computed
+/// when it is first needed; 0 if the request can't be parsed.
 #[derive(Default)]
 struct Named {
     texts: Texts,
@@ -50,7 +52,7 @@ impl Named {
         self.words.push(OnceLock::new());
     }
 
-    /// The points of these words, so many.
+    /// Splits the words into `count` points.
     fn split(&self, words: Vec<u64>, count: usize) -> Option<Points> {
         let (mut ends, mut end) = (Vec::with_capacity(count), 0);
         while let Some(number) = words.get(end) {
@@ -72,7 +74,7 @@ impl Names {
         Names::of(false)
     }
 
-    /// For the series of one post.
+    /// Names for the series of one post.
     pub fn of_one_post() -> Result<Arc<Names>, Refused> {
         Names::of(true)
     }
@@ -89,18 +91,18 @@ impl Names {
         }))
     }
 
-    /// Whether no other post has these numbers.
+    /// Whether the numbers are valid for one post alone.
     pub fn are_of_one_post(&self) -> bool {
         self.is_of_one_post
     }
 
-    /// Whether no series gets a number any more.
+    /// Whether no further series gets a number.
     pub fn are_closed(&self) -> bool {
         self.is_closed.load(Relaxed)
     }
 
-    /// The number of the series of a request that has one point, which the book would take: else `NotOne`. It is read by a
-    /// kept reader, so what several have in common is in memory once.
+    /// The number of the series of a request; the request must have exactly one point and be acceptable, or it is
+    /// `NotOne`. A pooled reader parses it, so what the identities of several series have in common is in memory once.
     pub fn learn(&self, request: Bytes) -> Result<u64, Refused> {
         self.number_with(&request, |number, handle| {
             self.name_those_before(number, handle, |_| true)?;
@@ -111,12 +113,13 @@ impl Names {
         })
     }
 
-    /// The same where its request is asked for seldom: none is kept.
+    /// The number of a series whose request is needed rarely, so that none is kept.
     pub fn number_of(&self, request: &[u8]) -> Result<u64, Refused> {
         self.number_with(request, |_, _| Ok(()))
     }
 
-    /// The same of a request of so many points of sums, in their order. Else it says no, also where there is no memory.
+    /// The numbers of a request of exactly `count` points of sums, in their order; none otherwise, or if there is no
+    /// memory.
     pub fn numbers_of(&self, request: &[u8], count: usize) -> Option<Vec<u64>> {
         let words = with_reader(|reader| {
             let read = check(reader.read(ANYBODY, request, 1))?;
@@ -148,14 +151,14 @@ impl Names {
         })
     }
 
-    /// Has the series of the points that a reader has, so many, have numbers, as far as there is memory. Whoever names one again
-    /// gets its number, and the books find a point of it by what they noted when they took these.
+    /// Gives numbers to the series of the reader's `count` points, as far as there is memory. If one of them is named
+    /// again it has this number, and the books find its points by what they noted when they took these.
     pub(super) fn note(&self, reader: &mut Reader, count: usize) {
         let _ = said(reader, &mut self.handle(), LEAST_WORDS * count);
     }
 
-    /// The points that a reader has by the numbers of their series, so many; `has_room` takes room for the request of each that is
-    /// new. None where one can't be named: from then on no other is.
+    /// The reader's `count` points by the numbers of their series. `has_room` reserves room for the request of each new
+    /// series. None if a series can't be named; from then on no other series gets a number.
     pub(super) fn number(
         &self,
         reader: &mut Reader,
@@ -183,7 +186,8 @@ impl Names {
         }
     }
 
-    /// All, once so many have a request. Others read points between two of them.
+    /// All names, once `names` of them have a request. Releases the lock between two of them, so that other threads can
+    /// read points.
     fn with_all(
         &self,
         names: u64,
@@ -221,7 +225,7 @@ impl Names {
         self.named().texts.count() as u64
     }
 
-    /// With the lock of the handle.
+    /// The caller holds the lock of `handle`.
     fn push(&self, text: &[u8]) {
         let mut named = self.named.write().unwrap_or_else(PoisonError::into_inner);
         named.push(text);
@@ -232,26 +236,27 @@ impl Names {
     }
 
     fn handle(&self) -> MutexGuard<'_, book::Names> {
-        locked(&self.handle) // a call of the library is whole
+        locked(&self.handle) // a call of the library either completes or ends the process
     }
 
-    /// How long the requests of these numbers are, all together.
+    /// The total length of the requests of these numbers.
     pub(super) fn length(&self, numbers: impl Iterator<Item = u64>) -> usize {
         let named = self.named();
         let lengths = numbers.filter_map(|number| named.texts.length(usize::try_from(number).ok()?));
         lengths.sum()
     }
 
-    /// A request of one point of the series of a number; none where it is not kept and there is no memory for it.
+    /// A request with one point of a series; none if it is not kept and there is no memory to make it.
     pub fn text_if_room(&self, number: u64) -> Option<Bytes> {
         let kept = usize::try_from(number).ok().and_then(|number| self.named().texts.get(number));
         let text = kept.or_else(|| text_of(&mut self.handle(), number).ok());
         text.map(Bytes::from)
     }
 
-    /// A request that is not kept. A start that goes on without one has not what the series' run had come to, and the next point
-    /// counts that again; a commit does not say whose the series is. So it may use up the reserve, and where there is none the
-    /// process ends, and says what helps: the next start would come to the same.
+    /// Makes a request that is not kept. It may use up the reserve, and if even that fails the process ends with
+    /// advice: without it a start would lose what a run of the series had come to, and its next point would count that
+    /// again, or a commit would lack the owner of the series. Going on would not help, since the next start would fail
+    /// in the same way.
     fn unkept_text(&self, number: u64) -> Vec<u8> {
         let asked = || memory::with_reserve(|| text_of(&mut self.handle(), number));
         let mut text = asked();
@@ -272,18 +277,18 @@ impl Names {
     }
 
     fn named(&self) -> RwLockReadGuard<'_, Named> {
-        self.named.read().unwrap_or_else(PoisonError::into_inner) // a list is sound at any time
+        self.named.read().unwrap_or_else(PoisonError::into_inner) // the list is valid at any time
     }
 }
 
-/// The words of the points that a reader has, about so many, and how many names there are then.
+/// The words of the reader's points, in a buffer of `room` words, and how many names there are then.
 fn said(reader: &mut Reader, names: &mut book::Names, room: usize) -> Result<(Vec<u64>, u64), Refused> {
     let mut words = vec![0; room];
     let answer = check(reader.words(names, &mut words))?;
     Ok((words, answer.at))
 }
 
-/// A request of one point of the series that has this number.
+/// A request with one point of the series with this number.
 fn text_of(names: &mut book::Names, number: u64) -> Result<Vec<u8>, Refused> {
     let mut text = vec![0; TEXT];
     check(names.text(number, &mut text))?;

@@ -1,24 +1,26 @@
-//! Which points of a post their series refuse: of these the book says the first one alone.
+//! Finds which points of a refused post their series refuse, since the book names only the first. `slot/apart` takes
+//! the others.
 
 use super::refusal::check;
 use super::{Book, Read, Refused};
 use crate::files::{Body, Points};
 use ahash::AHashMap;
 
-/// Why a point's series refuses it.
+/// Why its series refuses a point.
 #[derive(Clone, Copy, Debug, PartialEq, Eq)]
 pub enum PointRefusal {
-    /// It begins before its series ends, which is then; by a point ahead of it in the same post, or before.
+    /// The point begins before the end (`frontier`) of its series, which an earlier point of the same post may have set
+    /// (`is_by_post`).
     OutOfOrder { frontier: u64, is_by_post: bool },
-    /// The series is another sender's.
+    /// The series belongs to another sender.
     OtherWriter,
 }
 
-/// What is known of a series while its points are looked at.
+/// What is known of a series while its points are checked.
 #[derive(Clone, Copy)]
 enum SeriesState {
     EndsAt(u64),
-    /// A point of the post does.
+    /// A point of the same post ends there.
     EndsInPost(u64),
     OfAnother,
 }
@@ -35,8 +37,9 @@ impl SeriesState {
 }
 
 impl Book {
-    /// Of each point of a post by number why its series refuses it, as if the others of its series were not there but those ahead of it
-    /// that are taken. The error is why the post can't be taken at all. Nothing changes, but what the reader has is gone.
+    /// For each point of a post by number, why its series refuses it. Of the other points of a series only those count
+    /// that come before it and are taken. An error says why the whole post can't be taken. The books do not change, but
+    /// the reader loses its post.
     pub fn point_refusals(&mut self, read: &mut Read) -> Result<Vec<Option<PointRefusal>>, Refused> {
         let body = std::mem::replace(&mut read.post.body, Body::Points(Points::default()));
         let found = match &body {
@@ -66,7 +69,7 @@ impl Book {
         points.each().map(&mut of_point).collect()
     }
 
-    /// What the book has of the series of a point, as far as that says of it: nothing is known where it would take the point.
+    /// The state of a point's series in the book, as far as the book tells by trying that point: 0 if it would take it.
     fn try_first(&mut self, read: &mut Read, point: &[u64]) -> Result<SeriesState, Refused> {
         let mut single = Points::default();
         single.push_words(point[0], &point[1..]);

@@ -1,4 +1,4 @@
-//! A post that was read.
+//! A post that was parsed and is in no book yet. `slot` makes it before it takes the lock of the book.
 
 use super::book::Reader;
 use super::readers::{keep, reader};
@@ -11,32 +11,32 @@ use bytes::Bytes;
 use std::collections::HashSet;
 use std::sync::{Arc, OnceLock};
 
-/// What a post is read from: its points by number are in another order.
+/// The body that a post was parsed from; it may have its points in another order than the points by number.
 enum Source {
     Json(Bytes),
     Protobuf(Bytes),
 }
 
-/// A post that is to be read, or was, and is in no book yet. Its reader is another's once this is dropped.
+/// A post that was parsed or is to be parsed. Its reader goes back to the pool when this is dropped.
 pub struct Read {
     books: usize,
     across: Across,
-    /// None until it is read.
+    /// None until it is parsed.
     pub(super) reader: Option<Reader>,
-    /// None of points by number.
+    /// None if the post came as points by number.
     source: Option<Source>,
     pub post: Post,
-    /// By which its points have numbers, where they have.
+    /// The names of its numbers, if it has any.
     names: Option<Arc<Names>>,
     pub(super) points: u64,
-    /// How many points the library is not given, since they are outside the profile.
+    /// How many points the library does not get because they are outside the profile.
     left_out: u64,
-    /// When the first of its points ends, and the last; none where it has none.
+    /// The earliest and the latest end of its points; none if it has no points.
     ends: Option<(u64, u64)>,
-    /// Its points by number where they are of several stretches, apart.
+    /// Its points by number, split by window if they lie in several.
     pub(super) stretches: Vec<Points>,
     pub(super) is_of_known_series: bool,
-    /// See there.
+    /// Cached by `series_apart()`.
     series_apart: OnceLock<Option<HashSet<Digest>>>,
 }
 
@@ -64,7 +64,7 @@ impl Read {
         }
     }
 
-    /// A post in protobuf as it came, by which tests try what reads it by number. Its points have no numbers.
+    /// Parses a protobuf body directly; tests compare this with reading it by number. The points get no numbers.
     pub fn of_body(core: &Core, sender: String, body: Bytes) -> Result<Read, Refused> {
         let post = Post { sender, foreign: 0, body: Body::Points(Points::default()) };
         let mut read = core.unread(post, None);
@@ -72,7 +72,7 @@ impl Read {
         read.read()
     }
 
-    /// Another one by the same names, which is to be read.
+    /// Another post, not yet parsed, with the same names.
     pub fn beside(&self, post: Post) -> Read {
         Read::unread(self.books, self.across, post, self.names.clone())
     }
@@ -82,7 +82,7 @@ impl Read {
         Ok(self)
     }
 
-    /// Reads it, or reads it again behind a book that was asked to take it.
+    /// Parses the post, again if a book was asked to take it meanwhile.
     pub fn be_read(&mut self) -> Result<(), Refused> {
         let ends = check(self.again()?.ends()).ok();
         self.ends = ends.map(|ends| (ends.number, ends.at));
@@ -90,15 +90,15 @@ impl Read {
         Ok(())
     }
 
-    /// The same of one whose series the book has all: it may use what is kept back for such posts.
+    /// Parses a post whose series are all in the book: it may use the memory kept back for such posts.
     pub fn parse_with_known_series(&mut self) -> Result<(), Refused> {
         self.is_of_known_series = true;
         self.be_read()
     }
 
-    /// Has points that were read from a body have numbers by these names: the journal keeps these, and those of a series are in
-    /// their order. `has_room` takes room for the request of each series that is new. False, and the post is as it was, where
-    /// one can't be named.
+    /// Gives numbers to the points of a body, so that the journal can keep them by number; those of a series keep their
+    /// order. `has_room` reserves room for the request of each new series. If one can't be named, returns false and
+    /// leaves the post as it was.
     pub fn number(&mut self, names: &Arc<Names>, has_room: impl Fn(usize) -> bool) -> bool {
         let reader = self.reader.as_mut();
         let Some(points) = reader.and_then(|reader| names.number(reader, self.points as usize, has_room))
@@ -112,7 +112,7 @@ impl Read {
         true
     }
 
-    /// Has its series have numbers by these names too, as far as there is memory; its points stay as they are.
+    /// Gives numbers to its series too, as far as there is memory; its points stay as they are.
     pub fn note(&mut self, names: &Names) {
         if let Some(reader) = &mut self.reader {
             names.note(reader, self.points as usize);
@@ -125,7 +125,7 @@ impl Read {
         }
     }
 
-    /// A reader has a post until the book was asked to take it, whatever that says.
+    /// Parses the post into its reader. The reader loses the post when a book is asked to take it, whatever the answer.
     pub(super) fn again(&mut self) -> Result<&mut Reader, Refused> {
         let reader = match &mut self.reader {
             Some(reader) => reader,
@@ -144,7 +144,7 @@ impl Read {
         Ok(reader)
     }
 
-    /// Has the reader have a part of its points.
+    /// Gives the reader a part of the points.
     pub(super) fn put(&mut self, part: &Points) -> Result<&mut Reader, Refused> {
         let reader = self.reader.as_mut().ok_or(Refused::NoMemory)?;
         let names = self.names.as_ref().ok_or(Refused::NoSuch)?;
@@ -152,33 +152,33 @@ impl Read {
         Ok(reader)
     }
 
-    /// When the first of its points ends, and the last, in nanoseconds since 1970; none where it has none.
+    /// The earliest and the latest end of its points, in nanoseconds since 1970; none if it has no points.
     pub fn ends(&self) -> Option<(u64, u64)> {
         self.ends
     }
 
-    /// The first stretch in which a point of it ends, and the last.
+    /// The first and the last window of its points.
     pub(super) fn first_and_last(&self) -> Option<(u64, u64)> {
         let across = self.across;
         self.ends.map(|(first, last)| (across.stretch(first), across.stretch(last)))
     }
 
-    /// Whether its points are of several stretches: then it goes into the book by number.
+    /// Whether its points lie in several windows: then it goes into the book by number.
     pub fn is_of_several(&self) -> bool {
         self.first_and_last().is_some_and(|(first, last)| first < last)
     }
 
-    /// In how many parts it goes into the books.
+    /// How many parts of it go into the books.
     pub fn parts(&self) -> usize {
         self.stretches.len().max(1)
     }
 
-    /// By which its points have numbers, where they have.
+    /// The names of its numbers, if it has any.
     pub fn named(&self) -> Option<&Arc<Names>> {
         self.names.as_ref()
     }
 
-    /// Says what its numbers stand for.
+    /// Resolves its numbers.
     pub fn names(&self) -> &dyn files::Names {
         match &self.names {
             Some(names) => &**names,
@@ -186,12 +186,12 @@ impl Read {
         }
     }
 
-    /// Whether it was read from a body: the points that it has by number may be in another order then.
+    /// Whether it was parsed from a body: then its points by number may be in another order.
     pub fn is_of_body(&self) -> bool {
         self.source.is_some()
     }
 
-    /// Has these points by number alone, of those that it has, and is read again.
+    /// Keeps only these of its points, by number, and parses it again.
     pub fn keep(&mut self, points: Points) -> Result<(), Refused> {
         self.source = None;
         self.post.body = Body::Points(points);
@@ -200,18 +200,18 @@ impl Read {
         self.be_read()
     }
 
-    /// The series for which no numbers stand that last, where it has such. They are found once, by reading it: who is to have the lock
-    /// of the book asks ahead of that.
+    /// The series that have no lasting numbers, if there are such. They are computed once, by parsing the post, so the
+    /// caller should ask before it takes the lock of the book.
     pub fn series_apart(&self) -> Option<&HashSet<Digest>> {
         self.series_apart.get_or_init(|| series_apart(&self.post, self.names.as_ref())).as_ref()
     }
 
-    /// Those of the profile.
+    /// How many points of the profile it has.
     pub fn points(&self) -> u64 {
         self.points
     }
 
-    /// How many bytes it may take in the journal. Points are packed here, ahead of the lock.
+    /// The most bytes that it may take in the journal. Points are packed here, before the lock is taken.
     pub fn bytes(&self) -> usize {
         let named = self.names.as_ref().map(|names| names.length(self.post.numbers()));
         self.post.body.bytes() as usize + named.unwrap_or(0)

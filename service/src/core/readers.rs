@@ -1,5 +1,5 @@
-//! Readers of the library that no post has now. Each keeps the identities that it has read, up to some megabytes of them, so
-//! that it knows them at once: so few are kept, and none that nobody has used for a while.
+//! The pool of the library's readers. A reader keeps the identities that it has parsed, up to some megabytes, so that
+//! it recognises them; therefore the pool is small, and readers that were idle for a while are freed.
 
 use super::book::Reader;
 use super::Refused;
@@ -8,30 +8,32 @@ use std::sync::atomic::{AtomicU64, Ordering::Relaxed};
 use std::sync::{Arc, Mutex, Weak};
 use std::time::{Duration, Instant};
 
-/// So many a thread keeps: a post has one no longer than its thread reads it and puts it in, unless it has to wait.
+/// How many readers a thread keeps. A post needs one only while its thread parses it and puts it in, unless it has to
+/// wait.
 const KEPT: usize = 2;
-/// More than a start has at once.
+/// More than a start uses at once.
 const MOST_SPARE: usize = 160;
 
-/// Nobody waits long for one: it is locked over the taking or putting of a reader alone.
+/// Nobody waits long: the lock is held only to take or to return a reader.
 type Pool = Mutex<Vec<Kept>>;
 
 struct Kept {
     reader: Reader,
-    /// When it was put here.
+    /// The value of `TURN` when the reader was returned.
     turn: u64,
 }
 
 thread_local! {
-    /// Those of a thread: no post waits for another thread's.
+    /// The readers of this thread, so that no post waits for another thread.
     static OWN: Arc<Pool> = own();
 }
 
-/// Those that a thread has no place for. A start reads posts on threads that come and go, and they know identities by now.
+/// Readers that their threads have no room for. A start parses on short-lived threads, whose readers know the
+/// identities by then.
 static SPARE: Pool = Mutex::new(Vec::new());
-/// Those of all threads.
+/// The pools of all threads.
 static POOLS: Mutex<Vec<Weak<Pool>>> = Mutex::new(Vec::new());
-/// How often it was looked for those that nobody uses, and when last.
+/// How often idle readers were freed, and when last.
 static TURN: AtomicU64 = AtomicU64::new(0);
 static LAST: Mutex<Option<Instant>> = Mutex::new(None);
 
@@ -41,14 +43,14 @@ fn own() -> Arc<Pool> {
     own
 }
 
-/// None where there is no memory for one.
+/// Takes a reader from the pool, or makes one; none if there is no memory.
 pub(super) fn reader() -> Option<Reader> {
     let kept = OWN.try_with(|own| locked(own).pop()).ok().flatten();
     let kept = kept.or_else(|| locked(&SPARE).pop());
     kept.map(|kept| kept.reader).or_else(Reader::new)
 }
 
-/// Does something by a reader that is kept.
+/// Does some work with a pooled reader.
 pub(super) fn with_reader<T>(work: impl FnOnce(&mut Reader) -> Result<T, Refused>) -> Result<T, Refused> {
     let mut reader = reader().ok_or(Refused::NoMemory)?;
     let done = work(&mut reader);
@@ -59,14 +61,14 @@ pub(super) fn with_reader<T>(work: impl FnOnce(&mut Reader) -> Result<T, Refused
 pub(super) fn keep(reader: Reader) {
     let turn = TURN.load(Relaxed);
     let mut kept = Some(Kept { reader, turn });
-    // A thread that ends keeps none.
+    // A thread that is ending keeps none.
     let _ = OWN.try_with(|own| put(own, KEPT, &mut kept));
     if kept.is_some() {
-        put(&SPARE, MOST_SPARE, &mut kept); // whose lock all threads share
+        put(&SPARE, MOST_SPARE, &mut kept); // all threads share its lock
     }
 }
 
-/// Puts it where there is room.
+/// Puts the reader into the pool if there is room.
 fn put(pool: &Pool, most: usize, kept: &mut Option<Kept>) {
     let mut pool = locked(pool);
     if pool.len() < most {
@@ -74,13 +76,13 @@ fn put(pool: &Pool, most: usize, kept: &mut Option<Kept>) {
     }
 }
 
-/// Gives back the memory of all readers that no thread keeps.
+/// Frees all readers that belong to no thread.
 pub fn free_spare_readers() {
     let spare = std::mem::take(&mut *locked(&SPARE));
-    drop(spare); // without the lock: it has much to give back
+    drop(spare); // without the lock, since freeing takes long
 }
 
-/// The same of those that nobody has used since this was done last, where that is so long ago.
+/// Frees all readers that nobody has used since the last time, if that is at least `after` ago.
 pub fn free_idle_readers(after: Duration) {
     let mut last = locked(&LAST);
     if last.is_none_or(|last| last.elapsed() >= after) {
@@ -98,7 +100,7 @@ fn free_idle() {
     drop(pools);
     let pools = own.iter().map(Arc::as_ref).chain([&SPARE]);
     let idle: Vec<Kept> = pools.flat_map(|pool| idle(pool, turn)).collect();
-    drop(idle); // as above
+    drop(idle); // without the lock, since freeing takes long
 }
 
 fn idle(pool: &Pool, turn: u64) -> Vec<Kept> {
@@ -123,7 +125,7 @@ mod tests {
             readers.drain(..).for_each(keep);
             assert_eq!(kept(), KEPT, "the third is spare");
             let used = reader().unwrap();
-            free_idle(); // where another test does it at once, the other one is gone already
+            free_idle(); // another test may have done it at the same time
             keep(used);
             free_idle();
             free_idle();

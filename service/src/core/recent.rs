@@ -1,8 +1,9 @@
-//! What posts had last of each series, by the numbers of series, so that a repeat of what the book took is known as one; and who
-//! posts those that the outbox does not have, so that the commit that first has one says whose it is.
+//! Remembers what the last posts said of each series, so that a retry of a post that was taken is recognised as a
+//! duplicate; and the owner of each series that the outbox does not have yet, so that the commit that first contains
+//! the series names its owner.
 //!
-//! It belongs to the book: it is changed under its lock, when a post is taken, and goes where the book goes. What a checkpoint takes
-//! has it as it was then, and the outbox keeps that by the keys of series.
+//! It belongs to the book: it changes under the book's lock when a post is taken, and it goes when the book goes. A
+//! checkpoint takes a copy, and the outbox keeps that copy by the keys of the series.
 
 use super::{Book, Names, Read};
 use crate::files::{Body, Names as _, Noted, Points, PointsDigest, Post, Recent, Recents, POSTS_KNOWN};
@@ -12,55 +13,56 @@ use ahash::AHashMap;
 use std::collections::{HashMap, HashSet};
 use std::sync::Arc;
 
-/// Series of one resource have neighbouring numbers, and of several slots each has some resources.
+/// Series of one resource have neighbouring numbers, and each shard has only some of the resources.
 const PAGE: usize = 32;
-/// Of so many series the keys are digested by one thread, one after the other.
+/// How many keys of series one thread digests at a time.
 const SERIES_AT_ONCE: usize = 256;
-/// The post at hand has points of the series.
+/// The current post has points of this series.
 const IN_POST: u32 = 1 << 31;
-/// It has changed since the last checkpoint.
+/// The entry has changed since the last checkpoint.
 const CHANGED: u32 = 1 << 30;
-/// In the place of the series' id in the outbox, where it is not known.
+/// Stands for an unknown id of the series in the outbox.
 const NO_ID: u32 = CHANGED - 1;
 
-/// Of a series.
+/// What is known of one series.
 #[derive(Clone, Copy)]
 struct Entry {
-    /// Its id, and the marks above.
+    /// The id of the series in the outbox, with the flags above.
     id: u32,
     recent: Recent,
 }
 
 const NOTHING: Entry = Entry { id: NO_ID, recent: Recent([PointsDigest::NONE; POSTS_KNOWN]) };
 
-/// Who posts series, by their numbers.
+/// The owners of series, by number.
 type Owners = AHashMap<u32, Arc<str>>;
 
-/// By the numbers of one generation of names.
+/// Entries by the numbers of one generation of names.
 struct Table {
     names: Arc<Names>,
     pages: Vec<Option<Box<[Entry; PAGE]>>>,
-    /// Those that have changed since the last checkpoint.
+    /// The numbers whose entries have changed since the last checkpoint.
     changed: Vec<u32>,
-    /// Who posts those that have no id, as far as that was noted since.
+    /// The owners of series without an id, noted since the last checkpoint.
     owners: Owners,
 }
 
-/// Those of the names that are used now come last. The others' are here until a checkpoint has brought them to the outbox.
+/// The table of the current names is the last one. Tables of earlier names stay until a checkpoint has brought them to
+/// the outbox.
 #[derive(Default)]
 pub(super) struct RecentPoints {
     tables: Vec<Table>,
-    /// By which the ids are.
+    /// The outbox's numbering to which the ids belong.
     numbering: u64,
-    /// Those that no group has yet, which a checkpoint took: their sender is quarantined; and those that were posted without a number
-    /// that lasts, of which only the owner is noted. They are here until the outbox has them.
+    /// Series that a checkpoint took but no group has, because their sender is quarantined; and series posted without a
+    /// lasting number, of which only the owner is noted. They stay until the outbox has them.
     apart: HashMap<Digest, Noted>,
 }
 
-/// Something of series, by their numbers in each generation of names.
+/// Something for each series, by number, for each generation of names.
 type ByNumber<T> = Vec<(Arc<Names>, Vec<(u32, T)>)>;
 
-/// What had changed in a table, with the owners of those that have no id.
+/// What had changed in a table, with the owners of series that have no id.
 struct OfTable {
     names: Arc<Names>,
     changed: Vec<(u32, Entry)>,
@@ -75,8 +77,8 @@ pub struct Changed {
     numbering: u64,
 }
 
-/// The same for the outbox: by the series' ids there, if they are of its numbering, else by the digests of their keys. With which numbers
-/// these are of, and those that went by their ids.
+/// The changes in the outbox's terms: by id if the ids are of its numbering, otherwise by the digest of the series'
+/// key. `of` and `by_id` say to which numbers each of these belongs.
 #[derive(Default)]
 pub struct BySeries {
     pub recents: Recents,
@@ -101,7 +103,7 @@ impl Table {
         if page >= self.pages.len() {
             if page >= self.pages.capacity() {
                 self.pages.reserve_exact(page + 1 - self.pages.len() + (page / 8).max(64));
-                // and not for twice as many
+                // a larger step than one page, but not twice as many
             }
             self.pages.resize_with(page + 1, || None);
         }
@@ -155,7 +157,7 @@ impl Table {
 }
 
 impl RecentPoints {
-    /// The book has taken a post of a sender with these points.
+    /// Records a post that the book has taken.
     fn note(&mut self, sender: &str, names: &Arc<Names>, points: &Points) {
         let is_its = |table: &Table| Arc::ptr_eq(&table.names, names);
         let place = self.tables.iter().rposition(is_its).unwrap_or_else(|| {
@@ -172,7 +174,8 @@ impl RecentPoints {
         }
     }
 
-    /// What posts had last of a series, the last one first; the earlier ones where that is known of other names.
+    /// The digests of the last posts of a series, the latest first; those recorded under other names count as the
+    /// earlier ones.
     fn of(&self, names: &Names, number: u64) -> Vec<PointsDigest> {
         let mut text = None;
         let mut text = || text.get_or_insert_with(|| names.text_if_room(number)).clone();
@@ -192,18 +195,18 @@ impl RecentPoints {
 }
 
 impl Book {
-    /// The digests of what posts had last of a series, as far as they are here.
+    /// The digests of the last posts of a series, as far as they are known here.
     pub fn recent(&self, names: &Names, number: u64) -> Vec<PointsDigest> {
         self.recent.of(names, number)
     }
 
-    /// The book has taken a post; where it is several that went in as one, each of these.
+    /// Records a post that the book has taken; if it is several posts put in as one, each of them.
     pub fn note_recent(&mut self, read: &Read, each: &[Post]) {
         let names = read.named();
         let mut note = |post: &Post, apart: Option<&HashSet<Digest>>| match (&post.body, names, apart) {
             (.., Some(apart)) => self.recent.note_apart(&post.sender, apart),
             (Body::Points(points), Some(names), None) => self.recent.note(&post.sender, names, points),
-            _ => {} // there are none
+            _ => {} // it has no points
         };
         match each {
             [] => note(&read.post, read.series_apart()),
@@ -211,7 +214,7 @@ impl Book {
         }
     }
 
-    /// What has changed since this was asked last. What is of other names than those of now is gone with the next time.
+    /// The changes since the last call. A table of earlier names is removed by the next call.
     pub fn changed_recents(&mut self) -> Changed {
         let recent = &mut self.recent;
         let last = recent.tables.len().saturating_sub(1);
@@ -229,7 +232,7 @@ impl Book {
         Changed { of, apart: recent.apart.clone(), numbering: recent.numbering }
     }
 
-    /// The outbox has given these ids to those that went by digests, by this numbering.
+    /// Records the ids, of this numbering, that the outbox gave to the series that went to it by digest.
     pub fn note_ids(&mut self, numbering: u64, noted: BySeries, ids: Vec<Option<u32>>) {
         let recent = &mut self.recent;
         if recent.numbering != numbering {
@@ -239,7 +242,7 @@ impl Book {
         }
         let BySeries { recents, of, by_id } = noted;
         if recents.numbering != numbering {
-            // The outbox may have had others when it was told: these are told once more.
+            // The outbox may have had another numbering when it got these ids: they are sent again.
             for (names, numbers) in by_id {
                 if let Some(table) = recent.tables.iter_mut().find(|table| Arc::ptr_eq(&table.names, &names))
                 {
@@ -260,18 +263,18 @@ impl Book {
             }
         }
         recent.apart.retain(|digest, _| !known.contains_key(digest));
-        // What is held is in no group yet.
+        // No group has the series of quarantined senders yet.
         let held = recents.by_digest.into_iter().filter(|(digest, _)| !known.contains_key(digest));
         for (digest, noted) in held {
             let kept = recent.apart.entry(digest).or_default();
-            kept.recent = noted.recent; // with what was kept of it
+            kept.recent = noted.recent; // includes what was kept before
             kept.owner = noted.owner.or(kept.owner.take());
         }
     }
 }
 
 impl Changed {
-    /// For an outbox of this numbering.
+    /// Converts the changes for an outbox of this numbering.
     pub fn by_series(self, numbering: u64) -> BySeries {
         let mut all = BySeries::default();
         (all.recents.numbering, all.recents.by_digest) = (numbering, self.apart);
@@ -301,7 +304,7 @@ impl Changed {
     }
 }
 
-/// Of these numbers the digests of their series' keys. Each has a text: the book took points of it.
+/// The digests of the keys of these numbers' series. Each has a request, since the book took points of it.
 fn digests(names: &Names, some: &[&(u32, Entry)]) -> Vec<(u32, Digest)> {
     let digest = |(number, _): &&(u32, Entry)| {
         let key = only(&names.text((*number).into()));
@@ -310,7 +313,7 @@ fn digests(names: &Names, some: &[&(u32, Entry)]) -> Vec<(u32, Digest)> {
     some.iter().map(digest).collect()
 }
 
-/// The series of a post of which only the owner is noted; none where numbers that last stand for them.
+/// The series of a post of which only the owner is noted; none if they have lasting numbers.
 pub(super) fn series_apart(post: &Post, names: Option<&Arc<Names>>) -> Option<HashSet<Digest>> {
     match (&post.body, names) {
         (Body::Text(text), _) => series_of_text(text),
@@ -323,7 +326,7 @@ pub(super) fn series_apart(post: &Post, names: Option<&Arc<Names>>) -> Option<Ha
     }
 }
 
-/// The series of a body, as the book reads it; none where the book would refuse it whole.
+/// The series of a body as the book parses it; none if the book would refuse the whole body.
 pub fn series_of_text(body: &[u8]) -> Option<HashSet<Digest>> {
     let (mut series, mut digests) = (HashSet::new(), Digests::default());
     posted(body, |key| {
@@ -333,7 +336,7 @@ pub fn series_of_text(body: &[u8]) -> Option<HashSet<Digest>> {
 }
 
 impl BySeries {
-    /// Those of which the ids are to be asked for once the outbox has them.
+    /// The series whose ids are to be asked for once the outbox has them.
     pub fn digests(&self) -> impl Iterator<Item = &Digest> {
         self.recents.by_digest.keys()
     }

@@ -1,10 +1,10 @@
-//! What the book says no by: the numbers of the library, each with its text and the HTTP status of its answer.
+//! The refusals of the book: the library's statuses, each with its text and the reason that `otlp` answers.
 
 use super::book::{status, Answer};
 use crate::otlp::{Outcome, Reason, RejectedPoint, Rejection};
 use thiserror::Error;
 
-/// Why the book did not do what it was asked. Nothing has changed then.
+/// Why the book did not do what it was asked to. Except for `HalfTaken`, nothing has changed.
 #[derive(Clone, Copy, Debug, Error, PartialEq, Eq)]
 pub enum Refused {
     #[error("quarantined")]
@@ -39,27 +39,28 @@ pub enum Refused {
     NotQuarantined,
     #[error("not ended")]
     NotEnded,
-    /// Of a request that is to name a series.
+    /// Of a request that should name one series.
     #[error("not one point")]
     NotOne,
-    /// What its series have pending ends in an earlier hour, and is being written: it is asked again behind that.
+    /// Pending points of its series end in an earlier window and are being serialised: the caller retries after that.
     #[error("what was taken is being written")]
     InFlight,
-    /// Each would be forwarded by itself.
+    /// Each window would be forwarded by itself.
     #[error("too many hours in a post: {parts}, at most {most}: post fewer points at a time")]
     TooManyHours { parts: usize, most: usize },
-    /// All that identifies its series, each by itself, is too long to go by number.
+    /// The identities of its series, each written in full, are too long to go by number.
     #[error("too long series in a post: what its points share counts for each: post fewer series at a time")]
     LongSeries,
-    /// A post of several stretches is in the book by half: there was no memory for the rest. Only a new start has it right.
+    /// Only a part of a post of several windows is in the book, because memory ran out: only a new start can put that
+    /// right.
     #[error("no memory for the rest of a post of several hours")]
     HalfTaken,
-    /// Of a library that is another than this was written for.
+    /// The library is another version than this was written for.
     #[error("the book answered {0}, which is no answer")]
     Unknown(u32),
 }
 
-/// What a call says where it did what it was asked.
+/// The answer of a call that succeeded, or its refusal.
 pub(super) fn check(answer: Answer) -> Result<Answer, Refused> {
     Err(match answer.status {
         status::DONE => return Ok(answer),
@@ -84,7 +85,7 @@ pub(super) fn check(answer: Answer) -> Result<Answer, Refused> {
 }
 
 impl Refused {
-    /// As a sender is told, or who gives an order.
+    /// The reason that a sender or an operator is given.
     fn reason(self) -> Reason {
         match self {
             Refused::Quarantined => Reason::Quarantined,
@@ -102,18 +103,18 @@ impl Refused {
             Refused::LongSeries => Reason::TooLongSeries,
             Refused::AlreadyQuarantined => Reason::AlreadyQuarantined,
             Refused::NotQuarantined => Reason::NotQuarantined,
-            // Nobody is answered so.
+            // These are never answered to anybody.
             Refused::Nothing | Refused::NoSuch | Refused::NotEnded | Refused::NotOne => Reason::Fault,
             Refused::InFlight | Refused::HalfTaken | Refused::Unknown(_) => Reason::Fault,
         }
     }
 
-    /// The status of HTTP.
+    /// The HTTP status.
     pub fn status(self) -> u16 {
         self.reason().status()
     }
 
-    /// The same of a point that has another place for who hears of it.
+    /// The same refusal with the index that its point has for the sender.
     pub fn placed(self, place: impl FnOnce(u64) -> u64) -> Refused {
         match self {
             Refused::OtherWriter { point } => Refused::OtherWriter { point: place(point) },
@@ -122,12 +123,12 @@ impl Refused {
         }
     }
 
-    /// Whether it is for the series of some points, and others of the same post may be taken.
+    /// Whether it concerns the series of single points, so that other points of the post may be taken.
     pub fn is_of_series(self) -> bool {
         matches!(self, Refused::OtherWriter { .. } | Refused::OutOfOrder { .. })
     }
 
-    /// Whether the same may be taken once a round is closed: its entries are gone then, and sums begin anew.
+    /// Whether it may succeed after a round is closed, which frees entries and starts the sums anew.
     pub(super) fn may_be_cured_by_a_round(self) -> bool {
         matches!(self, Refused::Full | Refused::TooLarge | Refused::NoMemory)
     }

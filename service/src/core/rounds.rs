@@ -1,49 +1,50 @@
-//! When the rounds of the books are closed. It takes a book up to some milliseconds, so it is done book by book, after one
-//! post each, and these are spread: no post waits for two.
+//! Decides when the rounds of the books are closed. Closing takes up to some milliseconds for a book, so one book is
+//! closed after a post, and the books are spread out: no post waits for two. `close` does the closing.
 
 use super::Refused;
 
-/// Rounds are closed after so many posts, more where there are many series, since it takes some microseconds for each;
-/// but no more than a quarter of what a book has room for. And after so many points, since a round keeps them.
+/// A round is closed after so many posts, and after more if there are many series, since closing takes some
+/// microseconds for each series; but after at most a quarter of what a book has room for. It is also closed after so
+/// many points, since a round keeps them.
 const LEAST_POSTS: usize = 4_000;
 const MOST_POSTS: usize = 16_000;
 const SERIES_FOR_A_POST: usize = 5;
 const LEAST_POINTS: usize = 50_000;
 const POINTS_FOR_A_SERIES: usize = 20;
-/// A book takes nothing that it may have to end without room for that in its journal of 65,536 entries: these are for
-/// what comes, the others for the end of what is open, in flight or quarantined.
+/// A book admits nothing unless its journal of 65,536 entries has room for the end of that too. These entries are for
+/// what comes; the others are for the ends of what is open, in flight or quarantined.
 const MOST_ENTRIES: usize = 60_000;
-/// What a post adds to the journal of each book that it touches.
+/// How many entries a post adds to the journal of each book that it touches.
 const ENTRIES_OF_A_POST: usize = 2;
-/// While what was taken is live no round can be closed: it is tried again after so many posts.
+/// While a flush is live no round can be closed: it is tried again after so many posts.
 const POSTS_UNTIL_ANOTHER_TRY: u64 = 500;
-/// All books are closed within this part of the way to when it is begun again.
+/// All books are closed within one such part of a cycle (2: the first half).
 const PART: u64 = 2;
-/// Where there is no memory they are closed after this part of it.
+/// If memory is short, they may be closed after one such part of a cycle.
 const WORTH: u64 = 10;
 
-/// What a refused post would have added is in no journal, so only what was taken counts here.
+/// Counts only posts that were taken, since a refused post leaves no entry in a journal.
 pub(super) struct Rounds {
     books: usize,
-    /// Posts that were taken since it was begun to close the rounds, and ends of what was taken.
+    /// Posts that were taken, and flushes that were ended, since the current cycle began.
     posts: u64,
     points: u64,
-    /// When that is begun again.
+    /// After how many posts or points the next cycle begins.
     most_posts: u64,
     most_points: u64,
-    /// The book that is closed next, while they are being closed, and whether all before it are empty.
+    /// While rounds are being closed: the next book, and whether all books before it were empty.
     next: Option<(usize, bool)>,
-    /// How many were closed, and nobody was told.
+    /// How many were closed since `closed()` was asked.
     closed: usize,
 }
 
-/// What came of closing the round of a book.
+/// The result of closing the round of a book.
 #[derive(Clone, Copy, Debug, PartialEq, Eq)]
 pub(super) enum Closing {
     Closed,
-    /// Its round had nothing.
+    /// The round had no entries.
     Empty,
-    /// Its round goes on: something of the book is in flight, or there was no memory.
+    /// The round goes on: a flush of the book is in flight, or there was no memory.
     GoesOn,
 }
 
@@ -60,8 +61,8 @@ impl Rounds {
         }
     }
 
-    /// Whether a post that was refused may be taken once they are closed, the longest journal having so many entries. It takes
-    /// long, so not for a little memory.
+    /// Whether a refused post may be taken after rounds are closed. `entries` is the length of the longest journal.
+    /// Closing takes long, so it is not done for a little memory.
     pub fn may_cure(&self, refused: Refused, entries: usize) -> bool {
         match refused {
             Refused::NoMemory => self.next.is_some() || self.are_past(1, WORTH),
@@ -70,13 +71,13 @@ impl Rounds {
         }
     }
 
-    /// A post of so many points was taken, or what was taken is ended.
+    /// Counts a post of so many points that was taken, or the end of a flush.
     pub fn count(&mut self, points: u64) {
         self.posts += 1;
         self.points += points;
     }
 
-    /// The book whose round is to be closed after this post.
+    /// The book whose round is due after this post.
     pub fn next(&mut self) -> Option<usize> {
         if self.next.is_none() && self.are_due() {
             self.begin();
@@ -85,42 +86,43 @@ impl Rounds {
         self.are_past(book as u64, PART * self.books as u64).then_some(book)
     }
 
-    /// The one that comes next, however few posts came since the one before it.
+    /// The book that is next, however few posts came since the previous one.
     pub fn being_closed(&self) -> Option<usize> {
         self.next.map(|(book, _)| book)
     }
 
-    /// Whether this part of the way is behind them to where it is begun again.
+    /// Whether `part / of` of a cycle has passed.
     fn are_past(&self, part: u64, of: u64) -> bool {
         let is_past = |count: u64, most: u64| of * count >= part * most;
         is_past(self.posts, self.most_posts) || is_past(self.points, self.most_points)
     }
 
-    /// Whether there is no room for another post where the longest journal has so many entries, or there are as many points as
-    /// else before the last book is closed: where nobody waits all are closed at once, and not before.
+    /// Whether another post has no room, `entries` being the length of the longest journal, or there are as many points
+    /// as would otherwise come before the last book is closed. While nobody waits all are closed at once, and only
+    /// then.
     pub fn are_full(&self, entries: usize) -> bool {
         let may_be_tried = self.posts >= POSTS_UNTIL_ANOTHER_TRY;
         let most_points = self.most_points + self.most_points / PART;
         may_be_tried && !have_room_for(entries, ENTRIES_OF_A_POST) || self.points >= most_points
     }
 
-    /// Whether it is time to begin to close them for their posts.
+    /// Whether a new cycle is due for its posts.
     pub fn have_many_posts(&self) -> bool {
         self.posts >= self.most_posts
     }
 
-    /// Whether it is time to begin to close them.
+    /// Whether a new cycle is due.
     pub fn are_due(&self) -> bool {
         self.are_past(1, 1)
     }
 
-    /// All of them are to be closed, from the first one on.
+    /// Begins a cycle: all books are to be closed, from the first on.
     pub fn begin(&mut self) {
         self.next = Some((0, true));
         (self.posts, self.points) = (0, 0);
     }
 
-    /// What came of the one that was to be closed. There are so many series.
+    /// Records the result for the book that was next. `series` counts the series.
     pub fn note(&mut self, closing: Closing, series: impl FnOnce() -> usize) {
         let Some((book, are_empty)) = self.next else { return };
         self.closed += usize::from(closing == Closing::Closed);
@@ -136,19 +138,19 @@ impl Rounds {
         }
     }
 
-    /// The next ones are as long as so many series need.
+    /// Sets the length of the next cycle by the number of series.
     pub fn last_for(&mut self, series: usize) {
         self.most_points = (POINTS_FOR_A_SERIES * series).max(LEAST_POINTS) as u64;
         self.most_posts = (series / SERIES_FOR_A_POST).clamp(LEAST_POSTS, MOST_POSTS) as u64;
     }
 
-    /// How many were closed since this was asked last.
+    /// How many were closed since the last call.
     pub fn closed(&mut self) -> usize {
         std::mem::take(&mut self.closed)
     }
 }
 
-/// Whether each book has room for so many entries more, the longest journal having so many.
+/// Whether the longest journal, which has `entries` entries, has room for so many more.
 pub(super) fn have_room_for(entries: usize, more: usize) -> bool {
     entries + more <= MOST_ENTRIES
 }
@@ -157,7 +159,7 @@ pub(super) fn have_room_for(entries: usize, more: usize) -> bool {
 mod tests {
     use super::*;
 
-    /// Which books are closed behind each of so many posts of a point.
+    /// Which books are closed after each of so many posts with one point.
     fn behind(rounds: &mut Rounds, posts: usize, closing: Closing) -> Vec<(usize, usize)> {
         let mut all = Vec::new();
         for post in 1..=posts {
@@ -176,7 +178,7 @@ mod tests {
         let first = behind(&mut rounds, 6_000, Closing::Closed);
         assert_eq!(first, [(4_000, 0), (4_667, 1), (5_334, 2)]);
         assert_eq!((rounds.closed(), rounds.closed()), (3, 0));
-        // It counts from the post at which it was begun.
+        // The cycle counts from the post that began it.
         let next = behind(&mut rounds, 22_000, Closing::Closed);
         assert_eq!(next, [(14_000, 0), (16_667, 1), (19_334, 2)]);
     }
@@ -207,7 +209,7 @@ mod tests {
         assert!(rounds.are_full(4), "as many points as else");
     }
 
-    /// The post that begins it has closed the first book alone: a refusal by another may be cured still.
+    /// The post that begins the cycle closes only the first book, so a refusal by another book may still be cured.
     #[test]
     fn a_refusal_is_cured_where_a_journal_has_anything() {
         let mut rounds = Rounds::new(3);

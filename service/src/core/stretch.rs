@@ -1,11 +1,11 @@
-//! Stretches of time, of which none is crossed: what is forwarded of a series is of one of them.
+//! The windows of time that a forwarded point never crosses (`--split-at`).
 
 use crate::files::Points;
 use std::collections::BTreeMap;
 
 const HOUR: u64 = 3_600_000_000_000;
 
-/// What a request's point never covers two of, in UTC, but where a post's point itself does.
+/// The window that a forwarded point never crosses, in UTC, unless a posted point itself does.
 #[derive(Clone, Copy, Debug, Default, PartialEq, Eq, clap::ValueEnum)]
 pub enum Across {
     #[default]
@@ -16,7 +16,7 @@ pub enum Across {
 }
 
 impl Across {
-    /// In nanoseconds.
+    /// The length in nanoseconds.
     pub(super) fn length(self) -> u64 {
         match self {
             Across::Hour => HOUR,
@@ -25,19 +25,19 @@ impl Across {
         }
     }
 
-    /// In which stretch a point counts that ends then: one that ends at a full hour, in the hour before.
+    /// The window of a point with this end. A point that ends at a full hour belongs to the hour before.
     pub(super) fn stretch(self, end: u64) -> u64 {
         end.saturating_sub(1) / self.length()
     }
 
-    /// The stretch in which all of these points count; none where they are of several.
+    /// The window of all these points; none if they lie in several.
     pub(super) fn of_all(self, points: &Points) -> Option<u64> {
         let ends = || points.each().map(|point| point[2]);
         let (first, last) = (self.stretch(ends().min()?), self.stretch(ends().max()?));
         (first == last).then_some(first)
     }
 
-    /// The points of each stretch, the first one first; those of a series in the order that they have.
+    /// The points of each window, the earliest first; points of a series keep their order.
     pub(super) fn split(self, points: &Points) -> Vec<Points> {
         let mut parts = BTreeMap::<u64, Points>::new();
         for point in points.each() {

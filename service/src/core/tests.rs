@@ -1,4 +1,4 @@
-//! The library by its calls: what it says, and that each refused block of memory changes nothing.
+//! Calls of the library: their answers, and that a refused block of memory changes nothing.
 
 use super::*;
 use crate::otlp::series::{forwarded, Value};
@@ -12,7 +12,7 @@ mod sizes;
 mod statuses;
 mod stretches;
 
-/// A body with a point of each of these series.
+/// A body with one point for each of these series.
 pub(crate) fn points(names: &[String], start: u64, value: i64) -> String {
     let end = start + 10;
     let metric = |name: &String| {
@@ -35,7 +35,7 @@ fn post(core: &Arc<Core>, sender: &str, body: &str) -> Result<u64, Refused> {
     Ok(read.post.foreign)
 }
 
-/// By series what was taken, and in which spans.
+/// What was flushed, and in how many spans, by series.
 fn taken(core: &Arc<Core>) -> BTreeMap<String, (i64, u64)> {
     let mut flushed = core.lock().take_all().unwrap();
     let mut all = BTreeMap::new();
@@ -113,7 +113,7 @@ fn too_many_series_are_refused_and_nothing_is_kept_of_them() {
     assert_eq!(taken(&core).len(), 10_000);
 }
 
-/// Rounds are closed under way, and nothing is heard of it.
+/// Rounds are closed meanwhile, which no sender notices.
 #[test]
 fn more_posts_than_a_journal_has_entries_are_taken() {
     let core = Core::new(1).unwrap();
@@ -125,7 +125,7 @@ fn more_posts_than_a_journal_has_entries_are_taken() {
     assert_eq!(taken(&core), [("a0".into(), (40_000, 400_010))].into());
 }
 
-/// The deepest that is read, and what is refused, on a thread as the runtimes have.
+/// The deepest nesting that is parsed, and what is refused, on a thread with the stack of the runtimes.
 #[test]
 fn a_thread_has_the_stack_for_what_nests_to_127() {
     let nested = |depth: usize| {
@@ -145,33 +145,34 @@ fn a_thread_has_the_stack_for_what_nests_to_127() {
     thread.spawn(run).unwrap().join().unwrap();
 }
 
-/// A library that is linked but not needed is left out, and then malloc is the C library's.
+/// The linker drops a library that is linked but not needed; then malloc would be the C library's.
 #[test]
 fn the_allocator_is_the_linked_one() {
     let maps = std::fs::read_to_string("/proc/self/maps").unwrap();
     assert!(maps.contains("/libtcmalloc_minimal.so"), "{maps}");
 }
 
-/// A call that gets no block of memory in this thread.
+/// Makes a call for which this thread gets no block of memory.
 pub(crate) fn without_blocks<T>(call: impl FnOnce() -> T) -> T {
     memory::with_blocks(0, true, call).0
 }
 
-/// Gives so many blocks, one more each time, before one is refused, or all are: how many there are once none was refused.
+/// Gives one block more each time before one is refused, or all are. Returns how many were given when none was refused.
 fn blocks_until(mut all_were_given: impl FnMut(u64, bool) -> bool) -> u64 {
     let forms = |blocks| [(blocks, false), (blocks, true)];
     let given = (0..).flat_map(forms).find(|(blocks, refuses_all)| all_were_given(*blocks, *refuses_all));
     given.unwrap().0
 }
 
-/// Refuses each block that a call asks for in turn, until it needs no more: how many there were. It is tried again then.
+/// Refuses each block that a call asks for, one after another, until the call succeeds with all. Returns how many
+/// blocks there were, and the result. The same call is repeated each time.
 fn each_block_fails<T>(does_without: bool, mut call: impl FnMut() -> Result<T, Refused>) -> (u64, T) {
     let mut whole = None;
     let blocks = blocks_until(|blocks, refuses_all| {
         let (done, all_were_given) = memory::with_blocks(blocks, refuses_all, &mut call);
         match done {
             Ok(done) if all_were_given => whole = Some(done),
-            // A reader keeps what it has room for.
+            // A reader keeps only what it has room for.
             Ok(_) => assert!(does_without, "a block was refused, and it was done all the same"),
             Err(refused) => {
                 assert_eq!((refused, all_were_given), (Refused::NoMemory, false), "{blocks} blocks")
@@ -223,13 +224,13 @@ fn a_block_that_is_refused_changes_nothing() {
     assert!(all.len() == 6 && all.values().all(|one| *one == (1, 40)), "{all:?}");
 }
 
-/// Without a second try.
+/// Without closing rounds and trying again.
 fn check_quarantine(core: &Core) -> Result<(), Refused> {
     let answer = core.lock().desk.quarantine(b"B");
     check(answer).map(drop)
 }
 
-/// Where memory is short: what was written stays written, and the rest is in the book.
+/// If memory is short: what was written stays written, and the rest is in the book.
 #[test]
 fn what_is_written_in_parts_is_there_once_also_after_faults() {
     let core = Core::new(24_000).unwrap();
@@ -244,7 +245,7 @@ fn what_is_written_in_parts_is_there_once_also_after_faults() {
     assert!(taken(&core).is_empty());
 }
 
-/// As `otlp::series` reads them, by which owners are found.
+/// As `otlp::series`, which finds owners, parses them.
 #[test]
 fn posts_are_read_alike_on_both_sides() {
     let core = Core::new(8_000).unwrap();
@@ -255,7 +256,7 @@ fn posts_are_read_alike_on_both_sides() {
             assert_eq!(read.post.foreign, posted.foreign, "{number}");
             let fresh = Core::new(8_000).unwrap();
             let mut read = fresh.read("A".into(), body).unwrap();
-            // Random points are out of order, or too large, as a rule.
+            // Random points are mostly out of order or too large.
             if fresh.lock().admit(&mut read).is_ok() {
                 let mut flushed = fresh.lock().take_all().unwrap();
                 let texts = flushed.texts().unwrap();
@@ -268,7 +269,8 @@ fn posts_are_read_alike_on_both_sides() {
     }
 }
 
-/// How long it holds the lock. Run it alone: cargo test --lib how_long_the_lock_is_held -- --ignored --nocapture
+/// How long a checkpoint holds the lock. Run it alone: cargo test --lib how_long_the_lock_is_held -- --ignored
+/// --nocapture
 #[test]
 #[ignore]
 fn how_long_the_lock_is_held() {
@@ -317,7 +319,7 @@ fn how_long_the_lock_is_held() {
     }
 }
 
-/// By several threads at once, beside flushes: each point is in one flush.
+/// By several threads at once, during flushes: each point is in exactly one flush.
 #[test]
 fn posts_at_once_are_all_taken_once() {
     let core = Core::new(30_000).unwrap();
@@ -348,17 +350,17 @@ fn posts_at_once_are_all_taken_once() {
     assert!(sums.values().all(|sum| *sum == 300 * 301 / 2), "{sums:?}");
 }
 
-/// Else the room of a book, most of which it never uses, would be memory that somebody has used before.
+/// Otherwise the room of a book, most of which it never uses, would be on pages that were used before.
 #[test]
 fn what_nobody_has_is_given_back_before_a_book_gets_its_room() {
     const BLOCK: usize = 1 << 20;
     const BLOCKS: usize = 128;
-    // One after the other is freed: by itself the allocator gives back one of many.
+    // Every second block is freed: by itself the allocator returns only one of many to the system.
     let block = || vec![1u8; BLOCK];
     let (freed, _kept): (Vec<_>, Vec<_>) = (0..BLOCKS).map(|_| (block(), block())).unzip();
     let before = given_back();
     drop(freed);
     let _core = Core::new(1).unwrap();
-    // Other tests free and use some meanwhile.
+    // Other tests allocate and free meanwhile.
     assert!(given_back() > before + BLOCK * BLOCKS / 2);
 }

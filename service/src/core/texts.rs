@@ -1,31 +1,31 @@
-//! Requests by number. Series of one post get their numbers one after the other, and have most in common: so each request is
-//! kept as what it has beside one that came before it.
+//! The requests that name series, by number. Series of one post get consecutive numbers and have most of their text in
+//! common, so each request is stored as its difference from an earlier one. `names` owns it.
 
 use crate::files::shared_ends;
 use std::ops::Range;
 
-/// So many are put together, at most, for one that is wanted.
+/// The most texts that are read to put one together.
 const TOGETHER: usize = 4;
-/// One that was put together of more is only taken where that leaves so many bytes less.
+/// A text refers to a longer chain only if that saves so many bytes.
 const WORTH: usize = 16;
 
 #[derive(Default)]
 pub(super) struct Texts {
     pieces: Vec<Piece>,
-    /// What is between the ends of each, one behind the other.
+    /// The middle part of each text, one after the other.
     bytes: Vec<u8>,
-    /// The last one behind those of which it was made, each by its number.
+    /// The last text, preceded by those that it is made of, each with its number.
     last: Vec<(u32, Vec<u8>)>,
 }
 
-/// There is no room for 2^32 texts, and none is so long.
+/// There is no room for 2^32 texts, and no text is so long.
 struct Piece {
-    /// Which one it has its ends of; itself where it has none.
+    /// The number of the text that shares its beginning and end; its own number if there is none.
     of: u32,
-    /// How many bytes it begins with of that, and with how many it ends.
+    /// How many bytes at the beginning, and at the end, it shares with that text.
     begin: u32,
     end: u32,
-    /// Where its bytes end.
+    /// The end of its own bytes in `bytes`.
     at: usize,
 }
 
@@ -45,7 +45,7 @@ impl Texts {
         self.last.push((number, text.to_vec()));
     }
 
-    /// Of those that the last one is made of, and of itself, the one that leaves least, and what it has in common with this.
+    /// The index in `last` of the text that leaves the least, and how many bytes both have in common.
     fn nearest(&self, text: &[u8]) -> (Option<usize>, (usize, usize)) {
         let mut found = (None, (0, 0));
         for (place, (_, other)) in self.last.iter().enumerate().take(TOGETHER - 1) {
@@ -64,7 +64,7 @@ impl Texts {
         Some(text)
     }
 
-    /// Puts these bytes of one behind others.
+    /// Appends this range of a text.
     fn put(&self, number: usize, wanted: Range<usize>, out: &mut Vec<u8>) {
         let (piece, own) = (&self.pieces[number], self.between(number));
         let (of, begin) = (piece.of as usize, piece.begin as usize);
@@ -116,7 +116,7 @@ mod tests {
         assert_eq!((texts.count(), texts.get(all.len()), texts.length(all.len())), (207, None, None));
     }
 
-    /// Of ten metrics of each of two resources, a hundred series each.
+    /// Two resources with ten metrics each, of a hundred series each.
     #[test]
     fn what_texts_have_in_common_is_kept_once() {
         let mut texts = Texts::default();

@@ -1,10 +1,10 @@
-//! What calls of the library say.
+//! Makes the calls of the library and returns their answers. `core/book` calls it.
 
 use super::{status, Answer};
 use crate::core::memory;
 
-/// Makes a call that answers. A build for tests looks at each answer of no memory: no contract can say that a block was
-/// refused in that call.
+/// Makes a call that answers. Test builds check each answer `NO_MEMORY`: no contract can state that a block was really
+/// refused during the call.
 pub(super) fn asked(call: impl FnOnce(&mut Answer)) -> Answer {
     let before = memory::refusals();
     let mut answer = Answer::default();
@@ -16,12 +16,13 @@ pub(super) fn asked(call: impl FnOnce(&mut Answer)) -> Answer {
     answer
 }
 
-/// The same of one that may use up the reserve.
+/// Makes a call that may use up the memory reserve.
 pub(super) fn forwarded(call: impl FnOnce(&mut Answer)) -> Answer {
     memory::with_reserve(|| asked(call))
 }
 
-/// Makes a call that writes to a slice, and once more where it says how long that has to be. `out` is what it has written.
+/// Makes a call that writes to a slice, and repeats it with the length it asks for if the slice is too short. `out`
+/// then has what was written.
 pub(super) fn written<T: Clone + Default>(
     out: &mut Vec<T>,
     mut call: impl FnMut(&mut [T], &mut Answer),

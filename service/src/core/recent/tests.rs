@@ -1,4 +1,4 @@
-//! What is kept of series while they are in no group, and while numbers begin anew.
+//! What is kept of series while no group has them, and when numbers begin anew.
 
 use super::*;
 use crate::core::Core;
@@ -24,7 +24,7 @@ fn point(number: u64, end: u64) -> Points {
     points
 }
 
-/// Else each time that numbers begin anew all those before stay in memory, for as long as a sender is quarantined.
+/// Otherwise the tables of all earlier numbers would stay in memory as long as a sender is quarantined.
 #[test]
 fn of_what_is_held_no_earlier_numbers_are_kept() {
     let core = Core::new(1).unwrap();
@@ -52,7 +52,7 @@ fn of_what_is_held_no_earlier_numbers_are_kept() {
     assert_eq!(book.recent.tables.len(), 1);
 }
 
-/// A number of one post alone says nothing of the next one.
+/// The number of one post says nothing about the next post.
 #[test]
 fn a_series_without_a_number_that_lasts_has_its_owner_alone() {
     let core = Core::new(1).unwrap();

@@ -1,10 +1,10 @@
-//! Blocks of memory that are refused, in calls of the library by themselves; and calls that ask for none.
+//! Refuses blocks of memory in single calls of the library, and checks which calls ask for none.
 
 use super::book::{Names as Numbers, Reader};
 use super::*;
 use crate::otlp::plain_posts_of_test;
 
-/// A histogram and a sum with attributes of each kind, and two points that are foreign.
+/// A histogram and a sum with attributes of each kind, and two foreign points.
 const MIXED: &str = r#"{"resourceMetrics":[{"resource":{"attributes":[
     {"key":"host","value":{"stringValue":"h"}}]},
     "scopeMetrics":[{"scope":{"name":"s","version":"1"},"metrics":[
@@ -18,7 +18,7 @@ const MIXED: &str = r#"{"resourceMetrics":[{"resource":{"attributes":[
     {"asDouble":1.5,"startTimeUnixNano":"10","timeUnixNano":"20"}]}},
     {"name":"g","gauge":{"dataPoints":[{}]}}]}]}]}"#;
 
-/// That body in protobuf, with a resource and a sum in two parts.
+/// The same body in protobuf, with a resource and a sum in two parts each.
 const MIXED_PROTOBUF: &[u8] = &[
     10, 131, 2, 10, 13, 10, 11, 10, 4, 104, 111, 115, 116, 18, 3, 10, 1, 104, 10, 13, 10, 11, 10, 4, 122,
     111, 110, 101, 18, 3, 10, 1, 122, 18, 226, 1, 10, 6, 10, 1, 115, 18, 1, 49, 18, 109, 10, 1, 104, 26, 2,
@@ -31,12 +31,12 @@ const MIXED_PROTOBUF: &[u8] = &[
     0, 0, 0, 0, 0, 25, 20, 0, 0, 0, 0, 0, 0, 0, 16, 1, 18, 7, 10, 1, 103, 42, 2, 10, 0,
 ];
 
-/// Reads JSON, or protobuf.
+/// Parses JSON or protobuf.
 type ReadBy = fn(&mut Reader, &[u8], &[u8], usize) -> Answer;
-/// How many points a body has, how many are foreign, and the words that say them; or why it can't be read.
+/// The number of points of a body, the number of foreign ones, and the points in words; or why it can't be parsed.
 type Said = Result<(u64, u64, Vec<u64>), Refused>;
 
-/// What a body says, where there is memory to read it, to say its points in words, and to read these.
+/// Parses a body, writes its points in words, and reads these again. The outer error is want of memory.
 fn said(reader: &mut Reader, numbers: &mut Numbers, read_by: ReadBy, body: &[u8]) -> Result<Said, Refused> {
     let read = match check(read_by(reader, b"A", body, 3)) {
         Err(refused) if refused != Refused::NoMemory => return Ok(Err(refused)),
@@ -48,7 +48,8 @@ fn said(reader: &mut Reader, numbers: &mut Numbers, read_by: ReadBy, body: &[u8]
     Ok(Ok((read.number, read.at, words)))
 }
 
-/// How many blocks it takes to say what a body says, and that. Each is refused to a new reader, which is then to say it again.
+/// How many blocks `said` takes, and its result. Each block is refused once to a new reader, which then has to say the
+/// same.
 fn blocks_to_say(read_by: ReadBy, body: &[u8]) -> (u64, Said) {
     let new = || (Reader::new().unwrap(), Numbers::new().unwrap());
     let say = |(reader, numbers): &mut (Reader, Numbers)| said(reader, numbers, read_by, body);
@@ -69,7 +70,7 @@ fn blocks_to_say(read_by: ReadBy, body: &[u8]) -> (u64, Said) {
 fn a_body_says_the_same_once_there_is_memory() {
     let json = |text: &str| blocks_to_say(Reader::read, text.as_bytes());
     let protobuf = |body: &[u8]| blocks_to_say(Reader::read_protobuf, body);
-    // Read by a tree, since it nests so deep.
+    // Its nesting is so deep that it is parsed by a tree.
     let nested = format!(r#"{{"x":{}{},"#, "[".repeat(101), "]".repeat(101));
     let nested = MIXED.replacen('{', &nested, 1);
     for (blocks, said) in [json(MIXED), json(&nested), protobuf(MIXED_PROTOBUF)] {
@@ -121,7 +122,7 @@ fn what_only_looks_or_ends_something_asks_for_no_block() {
     assert!(each_block_fails(false, close).0 > 0);
 }
 
-/// Run by the next test in a process of its own.
+/// The next test runs this in a process of its own.
 #[test]
 #[ignore]
 fn finds_no_memory_for_a_name() {

@@ -1,5 +1,5 @@
-//! Bodies that say the same to each reader of the library: JSON read with a tree and without one, protobuf and its JSON; also
-//! where the reader knows points like theirs.
+//! All ways of parsing give the same points: JSON with a tree and without one, and protobuf and its JSON; also if the
+//! reader knows similar points already.
 
 use super::book::{Names as Numbers, Reader};
 use super::*;
@@ -9,10 +9,10 @@ use prost::encoding::encode_varint;
 const REQUESTS: &str = include_str!("requests.txt");
 const BODIES: &str = include_str!("bodies.txt");
 
-/// The points of a body in words by number, and how many are foreign; or why it can't be read.
+/// The points of a body in words by number, and how many are foreign; or why it can't be parsed.
 type Said = Result<(Vec<u64>, u64), Refused>;
 
-/// One reader, with all that it knows by now.
+/// One reader with everything it knows by now.
 struct Reading {
     reader: Reader,
     numbers: Numbers,
@@ -40,14 +40,14 @@ impl Reading {
         Ok((words, foreign))
     }
 
-    /// A body that begins with a brace says the same by a tree and without one.
+    /// A body that begins with a brace gives the same points with a tree and without one.
     fn same_by_a_tree(&mut self, body: &[u8]) -> Said {
         let without = self.json(body);
         assert_eq!(without, self.json(&by_a_tree(body)), "{}", String::from_utf8_lossy(body));
         without
     }
 
-    /// Protobuf says what its JSON says, also the second time.
+    /// Protobuf gives the same points as its JSON, and again the second time.
     fn same_in_json(&mut self, bytes: &[u8], json: &str) {
         let wanted = self.json(json.as_bytes());
         assert!(wanted.is_ok(), "{json}");
@@ -57,7 +57,7 @@ impl Reading {
     }
 }
 
-/// The same body with a member that nests so deep that a tree is made of it.
+/// The same body with a member that is nested so deep that it is parsed by a tree.
 fn by_a_tree(body: &[u8]) -> Vec<u8> {
     let rest = body.strip_prefix(b"{").unwrap();
     let comma = if rest.trim_ascii_start().starts_with(b"}") { "" } else { "," };
@@ -78,7 +78,7 @@ fn usual_json_says_without_a_tree_what_it_says_by_one() {
         let said = reading.same_by_a_tree(body.as_bytes());
         assert_eq!(reading.same_by_a_tree(body.as_bytes()), said);
     }
-    // It asks for fewer blocks.
+    // Parsing a known body asks for fewer blocks.
     for body in usual {
         let reader = &mut reading.reader;
         let mut blocks = |body: &[u8]| {
@@ -91,7 +91,7 @@ fn usual_json_says_without_a_tree_what_it_says_by_one() {
     }
 }
 
-/// Numbers in a fixed order that looks like chance.
+/// A reproducible sequence of random numbers.
 struct Chance(u64);
 
 impl Chance {
@@ -100,7 +100,7 @@ impl Chance {
         (self.0 >> 33) as usize % limit
     }
 
-    /// The body with up to four bytes changed, put in or left out, behind its first brace.
+    /// The body with up to four bytes changed, inserted or removed after its first brace.
     fn changed(&mut self, body: &str) -> Vec<u8> {
         const BYTES: &[u8] = b"{}[],:\"\\0129-.eE tfn/u ax\n";
         let mut bytes = body.as_bytes().to_vec();
@@ -140,7 +140,7 @@ fn random_json_says_without_a_tree_what_it_says_by_one() {
     }
 }
 
-/// The same attributes follow each other in one request, and in the next, at another place.
+/// The same attributes come again at another place, both in the same request and in the next one.
 #[test]
 fn the_same_attributes_at_another_place_are_another_series() {
     let first = ["r", "s", "m", "u", "true"];
@@ -166,7 +166,7 @@ fn the_same_attributes_at_another_place_are_another_series() {
             let (words, foreign) = reading.same_by_a_tree(body.as_bytes()).unwrap();
             let numbers: std::collections::BTreeSet<_> = words.chunks(4).map(|point| point[0]).collect();
             assert_eq!((numbers.len(), foreign), (if one == other { 3 } else { 6 }, 0), "{one:?} {other:?}");
-            // One that is refused leaves what is known as it was.
+            // A refused body leaves what is known as it was.
             assert_eq!(reading.same_by_a_tree(&body.as_bytes()[..body.len() - 1]), Err(Refused::NotJson));
         }
     }
@@ -185,8 +185,8 @@ fn protobuf_says_what_its_json_says() {
     }
 }
 
-/// The empty request; a field that is unknown, of each wire type; a group in a group; a key and a length that are longer than they
-/// need be.
+/// The empty request; an unknown field of each wire type; nested groups; a key and a length with more bytes than
+/// needed.
 const READ: [&[u8]; 8] = [
     &[],
     &[80, 1],
@@ -198,8 +198,8 @@ const READ: [&[u8]; 8] = [
     &[80, 255, 255, 255, 255, 255, 255, 255, 255, 255, 1],
 ];
 
-/// What is cut; numbers that are too long; a field without a number, of no wire type, a group that ends as another, or of another
-/// type than it has; a text that is none; a field that metrics had once.
+/// Truncated fields; too long varints; a field number 0, an invalid wire type, a group with a wrong end, a known field
+/// of another wire type; a text that is not UTF-8; a field that metrics once had.
 const NOT_READ: [&[u8]; 15] = [
     &[10],
     &[10, 5, 1],
@@ -221,7 +221,7 @@ const NOT_READ: [&[u8]; 15] = [
 #[test]
 fn bytes_are_a_request_or_none() {
     let mut reading = Reading::new();
-    let none = Err(Refused::NotProtobuf); // the service reads such a body otherwise
+    let none = Err(Refused::NotProtobuf); // the service parses such a body by itself
     for bytes in READ {
         assert_eq!(reading.protobuf(bytes), Ok((vec![], 0)), "{bytes:?}");
     }
@@ -237,10 +237,10 @@ fn bytes_are_a_request_or_none() {
     assert_eq!(reading.protobuf(&whole).map(|said| said.1), Ok(0));
 }
 
-/// A message or a part of one: its bytes, and its JSON.
+/// A message or a part of one: its bytes and its JSON.
 type Both = (Vec<u8>, String);
 
-/// An attribute.
+/// An attribute, as bytes and as JSON.
 type Attribute = (&'static [u8], &'static str);
 
 const ONE: Attribute = (&[10, 1, 107, 18, 3, 10, 1, 118], r#"{"key":"k","value":{"stringValue":"v"}}"#);
@@ -258,7 +258,7 @@ fn fixed(field: u8, number: u64) -> Vec<u8> {
     [&[field * 8 + 1][..], &number.to_le_bytes()].concat()
 }
 
-/// A point of a sum, with attributes before its times, between these and its value, and after all.
+/// A point of a sum, with attributes before its times, between these and its value, and at the end.
 fn sum(front: &[Attribute], middle: &[Attribute], back: &[Attribute]) -> (u8, Both) {
     let put = |some: &[Attribute]| some.iter().flat_map(|(bytes, _)| content(7, bytes)).collect::<Vec<_>>();
     let bytes = [put(front), fixed(2, 10), fixed(3, 20), put(middle), fixed(6, 4), put(back)].concat();
@@ -267,7 +267,7 @@ fn sum(front: &[Attribute], middle: &[Attribute], back: &[Attribute]) -> (u8, Bo
     (7, (bytes, format!(r#"{{{times},"asInt":4,"attributes":[{}]}}"#, all.join(","))))
 }
 
-/// A point of three buckets with these two bounds, in one field or in one each.
+/// A point with three buckets and these two bounds, in one packed field or in two.
 fn histogram(bounds: [f64; 2], fields: usize) -> (u8, Both) {
     let packed = bounds.map(|bound| bound.to_le_bytes()).concat();
     let bounds_fields: Vec<u8> = packed.chunks(16 / fields).flat_map(|part| content(7, part)).collect();
@@ -281,7 +281,7 @@ fn histogram(bounds: [f64; 2], fields: usize) -> (u8, Both) {
     (9, (bytes, json.replace(".0", "")))
 }
 
-/// A metric of this name that has one point.
+/// A metric of this name with one point.
 fn metric(name: &str, (field, (bytes, json)): &(u8, Both)) -> Both {
     let data = [content(1, bytes), vec![16, 1]].concat();
     let kind = if *field == 7 { "sum" } else { "histogram" };
@@ -300,8 +300,8 @@ fn request(name: &str, point: &(u8, Both)) -> Both {
     (content(1, &content(2, &bytes)), json)
 }
 
-/// Attributes are known as they are in a point: others that begin with them, the same in another order, apart from one another,
-/// elsewhere in the point or under another metric are read anew; so are other bounds.
+/// Attributes are recognised only in the position where they were seen. Longer lists that begin with them, other
+/// orders, separated ones, other places in the point and other metrics are parsed anew, and so are other bounds.
 #[test]
 fn what_is_known_of_a_point_is_taken_for_no_other() {
     let mut reading = Reading::new();
@@ -332,7 +332,7 @@ fn what_is_known_of_a_point_is_taken_for_no_other() {
     assert_eq!(reading.protobuf(&request("a", &points[0]).0).map(|said| said.1), Ok(0));
 }
 
-/// What is behind known attributes, or before them, is checked.
+/// What comes before or after known attributes is checked.
 #[test]
 fn a_point_that_is_partly_known_is_refused_for_the_rest() {
     let mut reading = Reading::new();

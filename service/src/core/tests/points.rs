@@ -1,10 +1,10 @@
-//! Points by number: what they say, what is refused, and what is read again.
+//! Points by number: what they mean, what is refused, and what is parsed again.
 
 use super::*;
 use crate::otlp::series::only;
 use std::collections::BTreeSet;
 
-/// Names for these series of sums, in this order.
+/// Names for the sums with these names, in this order.
 pub(super) fn named(all: &[String]) -> Arc<Names> {
     let names = Names::new().unwrap();
     for (number, name) in (0..).zip(all) {
@@ -14,7 +14,7 @@ pub(super) fn named(all: &[String]) -> Arc<Names> {
     names
 }
 
-/// Points of sums, each of its number, with one span and one value.
+/// Points of sums with these numbers, all with the same span and value.
 fn of(numbers: impl IntoIterator<Item = u64>, start: u64, value: i64) -> Points {
     let mut all = Points::default();
     for number in numbers {
@@ -38,7 +38,7 @@ fn points_by_number_are_those_of_their_requests() {
         let all = names("s", 30);
         let by = named(&all);
         assert_eq!(put(&core, &by, "A", of(0..30, 10, 5)), Ok(0));
-        // The same series as a text.
+        // The same series as text.
         assert_eq!(post(&core, "A", &points(&all, 20, 6)), Ok(0));
         let late = Err(Refused::OutOfOrder { point: 0, frontier: 30 });
         assert_eq!(put(&core, &by, "A", of(0..30, 20, 6)), late);
@@ -49,7 +49,7 @@ fn points_by_number_are_those_of_their_requests() {
         assert_eq!(put(&core, &by, "a b", of(0..1, 40, 6)), Err(Refused::BadSender));
         assert_eq!(put(&core, &by, "A", of([30], 40, 6)), Err(Refused::NoSuch));
         assert_eq!(put(&core, &by, "A", Points::default()), Ok(0));
-        // Spans that end before they begin, and begin with nothing.
+        // Spans that end before they begin, and one that begins at 0.
         let mut faulty = of([0], 40, 1);
         faulty.push(1, 50, 50, [1]);
         faulty.push(2, 0, 50, [1]);
@@ -61,7 +61,7 @@ fn points_by_number_are_those_of_their_requests() {
     }
 }
 
-/// Of the refused post the book itself says it of the first point alone.
+/// The book itself names only the first such point.
 #[test]
 fn each_point_that_its_series_refuses_is_known() {
     for series in [1, 80_000] {
@@ -93,7 +93,7 @@ fn each_point_that_its_series_refuses_is_known() {
         assert_eq!(core.lock().series(), 3, "nothing of it is kept");
         assert_eq!(put(&core, &by, "B", of([1], 20, 1)), Ok(0));
         assert_eq!(put(&core, &by, "A", of([0, 2], 20, 1)), Ok(0));
-        // Many of them are more than a round has room for.
+        // So many trials do not fit into one round.
         let mut read = core.read_points("A".into(), of([0, 2], 15, 6), by.clone(), 0).unwrap();
         for _ in 0..20_000 {
             assert_eq!(core.lock().point_refusals(&mut read), Ok(vec![late(30, false); 2]));
@@ -102,7 +102,7 @@ fn each_point_that_its_series_refuses_is_known() {
     }
 }
 
-/// What refuses all of a post does so whatever its series say.
+/// If something refuses the whole post, no point is refused for its series.
 #[test]
 fn what_refuses_a_whole_post_is_no_refusal_of_a_point() {
     let core = Core::new(1).unwrap();
@@ -133,7 +133,7 @@ fn only_a_request_of_one_point_names_a_series() {
     assert_ne!(names.generation(), Names::new().unwrap().generation());
 }
 
-/// Else a start would not know what the series' run had come to, and its next point would count that twice.
+/// Otherwise a start would not know what the series' run had come to, and its next point would count that twice.
 #[test]
 fn a_request_that_is_not_kept_is_said_also_where_a_block_is_refused() {
     use crate::files::Names as _;
@@ -145,7 +145,7 @@ fn a_request_that_is_not_kept_is_said_also_where_a_block_is_refused() {
     assert_eq!(memory::with_blocks(0, false, || names.text(0)), (text, false));
 }
 
-/// Else its sender would be told 503 for ever.
+/// Otherwise the sender would get 503 for ever.
 #[test]
 fn points_by_number_are_read_again_once_a_round_is_closed() {
     let core = Core::new(1).unwrap();
@@ -176,7 +176,7 @@ fn a_block_that_is_refused_names_nothing_and_reads_nothing() {
     assert_eq!(taken(&core).len(), 21);
 }
 
-/// Which of these posts have closed rounds, and of how many books.
+/// Which of these posts closed rounds, and of how many books.
 fn closing(core: &Arc<Core>, by: &Arc<Names>, posts: std::ops::Range<u64>) -> Vec<(u64, usize)> {
     let mut closed = Vec::new();
     for number in posts {
@@ -193,13 +193,13 @@ fn closing(core: &Arc<Core>, by: &Arc<Names>, posts: std::ops::Range<u64>) -> Ve
 #[test]
 fn rounds_are_closed_book_by_book() {
     let core = Core::new(24_000).unwrap();
-    let by = named(&names("s", 20)); // of each book some
+    let by = named(&names("s", 20)); // some in each book
     let closed = closing(&core, &by, 1..3_401);
     assert_eq!(closed, [(2_500, 1), (2_917, 1), (3_334, 1)]);
     assert!(taken(&core).values().all(|one| *one == (3_400, 34_010)));
 }
 
-/// A book whose turn was passed over would have twice as much in its journal.
+/// A book that was passed over would have twice as many entries in its journal.
 #[test]
 fn while_something_is_in_flight_rounds_wait() {
     let core = Core::new(24_000).unwrap();
@@ -211,7 +211,7 @@ fn while_something_is_in_flight_rounds_wait() {
     assert_eq!(closing(&core, &by, 3_401..3_404), [(3_401, 1), (3_402, 1)]);
 }
 
-/// A post that was read from a text, with its points by number or without them.
+/// A post that was parsed from text; whether its points got numbers.
 fn numbered(core: &Arc<Core>, names: &Arc<Names>, body: &str) -> (Read, bool) {
     let mut read = core.read("A".into(), body.to_string().into()).unwrap();
     let is_numbered = read.number(names, |_| true);
@@ -223,7 +223,7 @@ fn by_number(read: &Read) -> Vec<Vec<u64>> {
     points.each().map(<[u64]>::to_vec).collect()
 }
 
-/// The name of the series that has this number.
+/// The name of the series with this number.
 fn name_of(names: &Arc<Names>, number: u64) -> String {
     let text = crate::files::Names::text(&**names, number);
     crate::otlp::series::only(&text).unwrap().parts().unwrap().name
@@ -243,7 +243,7 @@ fn a_text_has_its_points_by_number() {
         let named: BTreeSet<_> = (0..30).map(|number| name_of(&by, number)).collect();
         assert_eq!(named, all.iter().cloned().collect());
         core.lock().admit(&mut read).unwrap();
-        // A series keeps its number, and a refusal names a point by its place in the text.
+        // A series keeps its number, and a refusal names a point by its index in the text.
         let other = points(&[&names("n", 2)[..], &all[..1]].concat(), 15, 1);
         let (mut read, _) = numbered(&core, &by, &other);
         let known = by_number(&read).into_iter().find(|point| point[0] < 30);
@@ -254,7 +254,7 @@ fn a_text_has_its_points_by_number() {
     }
 }
 
-/// By posts, and by requests of one point.
+/// Named by posts and by requests of one point.
 #[test]
 fn series_that_are_named_at_once_have_their_own_names() {
     let (core, by) = (Core::new(80_000).unwrap(), Names::new().unwrap());
@@ -283,7 +283,7 @@ fn series_that_are_named_at_once_have_their_own_names() {
     });
 }
 
-/// It stays a text then, and is taken.
+/// Such a post stays text and is taken.
 #[test]
 fn where_a_block_is_refused_a_text_has_no_numbers_and_no_other_has() {
     let core = Core::new(24_000).unwrap();
@@ -322,11 +322,11 @@ fn where_there_is_no_room_for_a_name_no_series_gets_a_number() {
     assert!(!post(&names("s", 2), &|_| true));
     let one = Bytes::from(points(&names("u", 1), 1, 0));
     assert_eq!(by.learn(one), Err(Refused::NoMemory));
-    // Posts that have numbers go on.
+    // Posts that have numbers are still taken.
     assert_eq!(put(&core, &by, "A", of([0, 1], 10, 5)), Ok(0));
 }
 
-/// As a start does it: so the points that it puts in have the books' own identities.
+/// A start does it, so that the points it puts in share the books' own identities.
 #[test]
 fn series_that_a_post_was_read_of_have_numbers_before_anybody_names_them() {
     let one = |name: &String| points(std::slice::from_ref(name), 1, 0);
@@ -366,7 +366,7 @@ fn where_a_block_is_refused_a_series_gets_its_number_later() {
     }
 }
 
-/// Else a start would name a repeat of that post as late: the outbox leaves out ids of a numbering that it has no more.
+/// Otherwise a start would report a duplicate as late: the outbox ignores ids of an earlier numbering.
 #[test]
 fn what_went_by_ids_of_an_earlier_numbering_is_told_once_more() {
     let core = Core::new(1).unwrap();

@@ -1,8 +1,8 @@
-//! Rounds of the books: what goes on over their ends.
+//! What continues when rounds of the books end.
 
 use super::*;
 
-/// Else its sender would be told 503 for ever: what a series adds up in a round has a bound.
+/// Otherwise the sender would get 503 for ever, since the sum of a series in one round is bounded.
 #[test]
 fn a_sum_that_has_all_of_a_round_goes_on_in_the_next() {
     let core = Core::new(1).unwrap();
@@ -17,7 +17,7 @@ fn a_sum_that_has_all_of_a_round_goes_on_in_the_next() {
     assert_eq!(taken(&core), [("a0".into(), (10, 40))].into());
 }
 
-/// What is pending stays, and so do owners and ends.
+/// Pending points, owners and ends stay.
 #[test]
 fn rounds_that_are_closed_at_rest_keep_what_is_pending() {
     let core = Core::new(1).unwrap();
@@ -36,7 +36,7 @@ fn rounds_that_are_closed_at_rest_keep_what_is_pending() {
     assert_eq!(taken(&core), [("a0".into(), (11, 120))].into());
 }
 
-/// It takes long where there are many series, and nobody waits for a post that is put in again.
+/// Closing takes long if there are many series, and nobody waits for a post that is put in again.
 #[test]
 fn rounds_are_closed_seldom_while_posts_are_put_in_again() {
     let core = Core::new(24_000).unwrap();
@@ -59,7 +59,7 @@ fn rounds_are_closed_seldom_while_posts_are_put_in_again() {
     assert_eq!(taken(&core), [("a0".into(), (40_000, 400_010))].into());
 }
 
-/// A's series and many of B's, of which a post of B's that has both is refused, in several books.
+/// Two senders in several books, and a post of B that is refused because it has a series of A among many of its own.
 fn two_senders() -> (Arc<Core>, Vec<String>, String) {
     let core = Core::new(24_000).unwrap();
     let (theirs, own) = (names("a", 1), names("b", 60));
@@ -69,7 +69,8 @@ fn two_senders() -> (Arc<Core>, Vec<String>, String) {
     (core, own, both)
 }
 
-/// Else any sender fills the books, and good posts are refused as well: what is taken, and each answer, is as without.
+/// Otherwise any sender could fill the books so that good posts are refused. The books and all answers are as without
+/// such posts.
 #[test]
 fn refused_posts_take_nothing_of_a_book() {
     let [with, without] = [two_senders(), two_senders()];
@@ -91,7 +92,7 @@ fn refused_posts_take_nothing_of_a_book() {
     assert_eq!(taken(&with.0), taken(&without.0));
 }
 
-/// What is in the journals of the books: two of a post that is taken, of each flush, of a sender that is quarantined and lifted.
+/// Two entries for each post that is taken, for each flush, and for a sender that is quarantined and released.
 #[test]
 fn what_a_round_has_room_for_is_known() {
     let entries = |core: &Arc<Core>| core.lock().desk.entries();

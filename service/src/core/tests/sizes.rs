@@ -1,23 +1,23 @@
-//! Each call that may say that there is no memory, at the sizes that are limits: with memory it does not say so, and does what
-//! it is asked. No contract can say that. `service/wrong` has a library for each that says so all the same.
+//! Calls that may answer `NO_MEMORY`, at the largest sizes: with enough memory they do not answer so, and do their
+//! work. No contract can state that. `service/wrong` has a library for each call that answers so anyway.
 
 use super::book::{Names as Numbers, Reader};
 use super::*;
 
 /// The longest request.
 const MOST_BYTES: usize = 4_194_304;
-/// The most series of one book, and of all by default, in so many books.
+/// The most series of one book, and the default limit of all, in so many books.
 const MOST_OF_ONE: usize = 10_000;
 const MOST: usize = 100_000;
 const BOOKS: usize = MOST.div_ceil(SERIES_OF_A_BOOK);
-/// The most senders that are quarantined.
+/// The most senders that can be quarantined.
 const MOST_HELD: usize = 1_000;
-/// As many points of one series as a request has room for, about.
+/// About as many points of one series as fit in a request.
 const MANY: u64 = 60_000;
-/// Nearly as long as a name may be: a thousand of them are nearly as long as a request.
+/// Nearly the longest name: a thousand of them nearly fill a request.
 const LONG: usize = 3_900;
 
-/// A request with so many points of each of these sums, one after another.
+/// A request with so many consecutive points of each of these sums.
 fn request(names: &[String], start: u64, count: u64) -> String {
     let point = |at| format!(r#"{{"asInt":1,"startTimeUnixNano":{at},"timeUnixNano":{}}}"#, at + 1);
     let points: Vec<String> = (start..start + count).map(point).collect();
@@ -28,13 +28,13 @@ fn request(names: &[String], start: u64, count: u64) -> String {
     format!(r#"{{"resourceMetrics":[{{"scopeMetrics":[{{"metrics":[{metrics}]}}]}}]}}"#)
 }
 
-/// The same request, as long as one may be.
+/// The same request, padded to the longest one.
 fn at_its_longest(body: String) -> String {
     let spaces = " ".repeat(MOST_BYTES - body.len());
     body + &spaces
 }
 
-/// The same request with a field that the reader without a tree does not go into.
+/// The same request with a field that is nested too deep for the reader without a tree.
 fn nested(body: &str) -> String {
     let (open, close) = ("[".repeat(101), "]".repeat(101));
     body.replacen('{', &format!(r#"{{"x":{open}{close},"#), 1)
@@ -48,7 +48,7 @@ fn number(answer: Answer) -> usize {
     check(answer).unwrap().number as usize
 }
 
-/// A desk that has a point of each of these series, taken in small posts.
+/// A desk that has a point of each of these series, from small posts.
 fn desk_with(books: usize, series: &[String]) -> (Desk, Reader) {
     let (mut desk, mut reader) = (Desk::new(books).unwrap(), Reader::new().unwrap());
     for some in series.chunks(100) {
@@ -85,7 +85,7 @@ fn the_longest_texts_are_read() {
     }
 }
 
-/// Numbers for all series of a request: how many there are then.
+/// Gives numbers to all series of a request; returns how many there are then.
 fn numbered(numbers: &mut Numbers, reader: &mut Reader, series: &[String]) -> usize {
     number(reader.read(b"A", request(series, 1, 1).as_bytes(), BOOKS));
     let mut words = Vec::new();

@@ -1,4 +1,4 @@
-//! Each status that the library has, from a call of it that answers with it.
+//! For each status of the library, a call that answers it.
 
 use super::book::{status, Names as Numbers, Reader};
 use super::*;
@@ -6,10 +6,10 @@ use std::collections::BTreeSet;
 
 /// More series than one book takes, in posts that are short enough.
 const MOST_OF_ONE: usize = 10_000;
-/// More senders than a book has quarantined.
+/// More senders than can be quarantined.
 const MOST_HELD: usize = 1_000;
 
-/// What calls have answered so far, each as it has to.
+/// Checks each answer and collects the statuses seen.
 struct Answered {
     desk: Desk,
     reader: Reader,
@@ -64,7 +64,7 @@ fn what_is_not_taken(it: &mut Answered) {
     let answer = it.admit("A", &one, 10, 1);
     it.is(status::DONE, answer);
     let answer = it.desk.admit(&mut it.reader);
-    it.is(status::NOTHING, answer); // it was read by the call before
+    it.is(status::NOTHING, answer); // the call before has consumed it
     let answer = it.admit("B", &one, 20, 1);
     it.is(status::OTHER_WRITER, answer);
     let answer = it.admit("A", &one, 10, 1);
@@ -109,11 +109,11 @@ fn the_library_answers_with_each_status() {
     what_is_not_taken(&mut it);
     what_is_not_flushed(&mut it);
     what_is_not_held(&mut it);
-    it.seen.insert(status::TOO_SHORT); // `written` asks once more then: the test below
+    it.seen.insert(status::TOO_SHORT); // `written` handles it, see the test below
     assert_eq!(it.seen, BTreeSet::from(status::ALL));
 }
 
-/// It says how long the slice has to be, and is asked once more.
+/// The call answers the length that it needs, and is repeated.
 #[test]
 fn what_is_too_short_is_as_long_as_it_has_to_be_then() {
     let mut it = Answered::new();
@@ -125,7 +125,7 @@ fn what_is_too_short_is_as_long_as_it_has_to_be_then() {
     assert_eq!((words.len(), answer.number), (12, 12));
 }
 
-/// The two that nobody is answered with have no text.
+/// Two statuses are never returned to a caller and so have no text.
 #[test]
 fn each_other_status_is_known() {
     let known = |number: &&u32| !matches!(check(of(**number)), Err(Refused::Unknown(_)));

@@ -1,11 +1,11 @@
-//! What is forwarded of a series never covers two hours.
+//! Forwarded points never cross an hour.
 
 use super::points::named;
 use super::*;
 
 const HOUR: u64 = 3_600_000_000_000;
 
-/// Points by number, each of its number, end and value; each begins a second before its end.
+/// Points by number, end and value; each begins a second before its end.
 fn of(all: &[(u64, u64, i64)]) -> Points {
     let mut points = Points::default();
     for (number, end, value) in all {
@@ -19,7 +19,7 @@ fn put(core: &Arc<Core>, names: &Arc<Names>, sender: &str, points: Points) -> Re
     core.lock().admit(&mut read)
 }
 
-/// What is written of all that is taken, in order: name, hour of its end, value.
+/// The spans of these requests, in order: name, hour, value.
 fn spans(texts: &[Vec<u8>]) -> Vec<(String, u64, i64)> {
     let points = texts.iter().flat_map(|text| forwarded(text).unwrap());
     let spans = points.map(|point| {
@@ -31,7 +31,7 @@ fn spans(texts: &[Vec<u8>]) -> Vec<(String, u64, i64)> {
     spans.collect()
 }
 
-/// All, in order; of each series no hour comes after a later one.
+/// Everything that was taken, in order; in each series no hour comes after a later one.
 fn group(core: &Arc<Core>) -> Vec<(String, u64, i64)> {
     let mut flushed = core.lock().take_all().unwrap();
     let texts = flushed.texts().unwrap();
@@ -45,7 +45,7 @@ fn group(core: &Arc<Core>) -> Vec<(String, u64, i64)> {
     spans
 }
 
-/// By series and hour.
+/// The sums by series and hour.
 fn sums(spans: Vec<(String, u64, i64)>) -> BTreeMap<(String, u64), i64> {
     let mut sums = BTreeMap::new();
     for (name, hour, value) in spans {
@@ -63,7 +63,7 @@ fn where_a_later_hour_comes_its_book_is_taken_first() {
         let at = |hour: u64, minute: u64| hour * HOUR + minute * 60_000_000_000;
         let every = |end, value| of(&(0..20).map(|number| (number, end, value)).collect::<Vec<_>>());
         put(&core, &by, "A", every(at(5, 10), 1)).unwrap();
-        put(&core, &by, "A", every(at(5, 60), 2)).unwrap(); // it ends at the full hour
+        put(&core, &by, "A", every(at(5, 60), 2)).unwrap(); // its end is the full hour
         assert!(!core.lock().has_earlier());
         put(&core, &by, "A", of(&[(0, at(6, 1), 4)])).unwrap();
         assert!(core.lock().has_earlier());
@@ -77,7 +77,7 @@ fn where_a_later_hour_comes_its_book_is_taken_first() {
         wanted.insert(("s0".into(), 6), 4);
         assert_eq!(sums(group(&core)), wanted);
         assert!(group(&core).is_empty() && !core.lock().has_earlier());
-        // A later hour after nothing, and an hour that others are behind.
+        // A gap of an hour in one series, and an hour that other series have passed already.
         put(&core, &by, "A", of(&[(0, at(9, 1), 1), (1, at(9, 1), 1)])).unwrap();
         put(&core, &by, "A", of(&[(2, at(8, 1), 1)])).unwrap();
         put(&core, &by, "A", of(&[(3, at(9, 1), 1)])).unwrap();
@@ -112,7 +112,7 @@ fn a_post_of_several_hours_is_taken_whole_and_hour_by_hour() {
     put(&core, &by, "A", lump(100)).unwrap();
     let late = put(&core, &by, "A", lump(110));
     assert!(matches!(late, Err(Refused::OutOfOrder { point: 0, .. })), "{late:?}");
-    // The last point is another's.
+    // The last point's series belongs to another sender.
     let theirs = named(&names("t", 1));
     put(&core, &theirs, "B", of(&[(0, 500 * HOUR, 1)])).unwrap();
     let both = named(&[names("s", 20), names("t", 1)].concat());
@@ -128,7 +128,7 @@ fn a_post_of_several_hours_is_taken_whole_and_hour_by_hour() {
     assert!(sums.values().all(|sum| *sum == 1), "{sums:?}");
 }
 
-/// What is in flight can't be taken again: who comes with a later hour waits for it.
+/// What is in flight can't be taken again: a post of a later hour waits for it.
 #[test]
 fn what_is_in_flight_is_waited_for() {
     let core = Core::new(1).unwrap();
@@ -139,7 +139,7 @@ fn what_is_in_flight_is_waited_for() {
     put(&core, &by, "A", of(&[(0, at(1) + 2_000_000_000, 2)])).unwrap();
     let mut next = core.read_points("A".into(), of(&[(0, at(2), 4)]), by.clone(), 0).unwrap();
     assert_eq!(core.lock().admit(&mut next), Err(Refused::InFlight));
-    // What others post goes on, and a post of several hours waits too.
+    // Other posts are still taken, but a post of several hours waits too.
     put(&core, &by, "A", of(&[(1, at(2), 1)])).unwrap();
     let mut lump = core.read_points("A".into(), of(&[(0, at(3), 8), (0, at(4), 16)]), by.clone(), 0).unwrap();
     assert_eq!(core.lock().admit(&mut lump), Err(Refused::InFlight));
@@ -152,7 +152,7 @@ fn what_is_in_flight_is_waited_for() {
     assert_eq!(group, wanted.map(|((name, hour), sum)| ((name.to_string(), hour), sum)).into());
 }
 
-/// Else a post of several hours would find no room behind its first ones, which ends the service.
+/// Otherwise a post of several hours could lack room after its first hours, which ends the service.
 #[test]
 fn a_book_that_was_in_flight_while_others_were_closed_has_room_for_a_post_of_several_hours() {
     let core = Core::new(24_000).unwrap();
@@ -178,7 +178,7 @@ fn a_book_that_was_in_flight_while_others_were_closed_has_room_for_a_post_of_sev
     assert_eq!((sums[&("s0".to_string(), 0)], sums.len()), (32_600, 100 + 30));
 }
 
-/// Else any sender ends the service: by refused posts that leave no room, and one of two hours.
+/// Otherwise any sender could end the service, by refused posts that leave no room and then one post of two hours.
 #[test]
 fn behind_refused_posts_there_is_room_for_a_post_of_several_hours() {
     let core = Core::new(24_000).unwrap();
@@ -210,7 +210,7 @@ fn a_released_sender_s_points_are_not_merged_with_a_later_hour() {
     assert_eq!(group(&core).iter().map(|span| span.1).collect::<Vec<_>>(), [0, 1]);
 }
 
-/// Each block that is refused has the post refused, with nothing of it in the book; behind the first hour it is another fault.
+/// A refused block refuses the post and leaves nothing of it in the book; after the first hour it is `HalfTaken`.
 #[test]
 fn a_post_of_several_hours_is_whole_also_without_memory() {
     let core = Core::new(1).unwrap();
@@ -225,7 +225,7 @@ fn a_post_of_several_hours_is_whole_also_without_memory() {
         match admitted {
             Ok(()) if all_were_given => return true,
             Ok(()) | Err(Refused::HalfTaken) => {
-                // The book of a service that ends: another one takes its place.
+                // As after the end of a service: a fresh book takes its place.
                 half += usize::from(admitted.is_err());
                 let mut fresh = core.fresh().unwrap();
                 std::mem::swap(&mut *core.lock(), &mut fresh);
@@ -240,7 +240,7 @@ fn a_post_of_several_hours_is_whole_also_without_memory() {
     assert!(sums.len() == 6 && sums.values().all(|sum| *sum == 1), "{sums:?}");
 }
 
-/// Whatever comes, in whatever order: each hour has its own sum.
+/// Whatever is posted, in any order: each hour has its own sum.
 #[test]
 fn sums_by_hour_are_those_of_the_posts() {
     let mut seed = 7_u64;
@@ -260,7 +260,7 @@ fn sums_by_hour_are_those_of_the_posts() {
             let end = &mut ends[number as usize];
             *end += 2_000_000_000 + random(4).pow(3) * random(900) * 1_000_000_000;
             if (*end - 1) / HOUR != (*end - 1_000_000_000) / HOUR {
-                *end += 1_000_000_000; // else it is itself of two hours
+                *end += 1_000_000_000; // otherwise the point itself would cross the hour
             }
             points.push((number, *end, post + 1));
             let key = (all[number as usize].clone(), (*end - 1) / HOUR);
