@@ -5,7 +5,6 @@
 //! reserve. So posts are refused, and leave nothing behind, before a flush could lack memory. A start may use the
 //! reserve, since it puts in what was taken already. Posts that bring new series have a bound that is lower still:
 //! otherwise posts of known series would be refused once senders have made as many series as there is memory for.
-//! once senders have made as many series as there is memory for.
 
 use crate::work::locked;
 use std::cell::Cell;

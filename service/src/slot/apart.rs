@@ -1,9 +1,9 @@
-//! A post some of whose points their series refuse: these are left out and named, what was taken before counts as taken, and all
-//! others are taken.
+//! Handles a post some of whose points their series refuse: these are left out and named in the answer, duplicates
+//! count as taken, and all other points are taken.
 //!
-//! It is looked at only after the book has refused the post, so others pay nothing for it. Under one lock the book says of each point
-//! whether its series refuses it, and takes the others in one step, as one record of the journal. What it does not refuse is never
-//! looked for among what was taken: so the book alone says what is added.
+//! `request` and `cumulative` call it only after the book has refused the whole post, so other posts cost nothing more.
+//! Under one lock, the book says for each point whether its series refuses it, and takes the others in one step, as one
+//! record of the journal. Only refused points are compared with earlier posts, so the book alone decides what is added.
 
 use super::duplicates::{fates, Fate};
 use super::posted::{Posted, RequestReader};
@@ -39,7 +39,7 @@ impl Slot {
         claim.during(put).await
     }
 
-    /// The book has refused it so.
+    /// `refused` is how the book refused the whole post.
     fn try_apart(&self, posted: &mut Posted, refused: Refused) -> Result<Result<Put, Refused>, Reason> {
         if posted.read.is_of_body() && !self.put_in_order(posted) {
             self.late.count_lost(posted.read.points());
@@ -58,7 +58,7 @@ impl Slot {
         }
     }
 
-    /// Reads it by number in the order of its body. False where its series have no numbers.
+    /// Parses the post again by number, in the order of its body. False if its series have no numbers.
     fn put_in_order(&self, posted: &mut Posted) -> bool {
         let reader = RequestReader { core: &self.core, numbers: &self.numbers, window: self.clock.window() };
         let sender = &posted.read.post.sender;
@@ -71,7 +71,7 @@ impl Slot {
         self.fates_of(book, read, &refusals)
     }
 
-    /// What becomes of each point of which the book says this.
+    /// The fate of each point, given the book's refusals.
     pub(super) fn fates_of(
         &self,
         book: &Book,
@@ -83,7 +83,7 @@ impl Slot {
         };
         let recent = |number| {
             let mut known = book.recent(names, number);
-            // What the outbox has is older than what the book has taken since, or the same.
+            // What the outbox has is older than, or equal to, what the book has taken since.
             let key = if known.len() < POSTS_KNOWN { only(&names.text(number)) } else { None };
             for digest in key.into_iter().flat_map(|key| self.outbox.recent(&key.digest()).digests()) {
                 if known.len() < POSTS_KNOWN && !known.contains(&digest) {
@@ -95,8 +95,8 @@ impl Slot {
         Ok(fates(points, refusals, recent))
     }
 
-    /// As `put` does where there is no memory for new series. Other posts may have come meanwhile: if the book refuses a point of a
-    /// series now, the sender repeats the post.
+    /// Tries again as `put` does if there is no memory for new series. Other posts may have come meanwhile: if the book
+    /// now refuses a point for its series, the sender retries the post.
     fn put_known(&self, posted: &mut Posted) -> Result<Put, Refused> {
         if !self.has_series_of(&posted.read) {
             return Err(Refused::NoMemory);
@@ -107,7 +107,7 @@ impl Slot {
         put.map_err(|refused| if refused.is_of_series() { Refused::NoMemory } else { refused })
     }
 
-    /// Puts those that are to be taken.
+    /// Puts in the points that are to be taken.
     fn put_those(&self, book: Locked<'_>, posted: &mut Posted, fates: &[Fate]) -> Result<Put, Refused> {
         let (Body::Points(whole), Some(names)) = (&posted.read.post.body, posted.read.named()) else {
             return Err(Refused::NoSuch);
@@ -137,7 +137,7 @@ impl Slot {
                     put = self.put_known(posted);
                 }
                 if put.is_err() {
-                    posted.read.post.body = Body::Points(whole.clone()); // it may be tried again
+                    posted.read.post.body = Body::Points(whole.clone()); // the post may be tried again
                 }
                 Put { duplicates, ..put? }
             }

@@ -1,4 +1,5 @@
-//! A post with cumulative points: what they add is found under the lock of the runs, which is held until the journal has it.
+//! Puts in a post with cumulative points: converts them to deltas under the lock of the runs, and holds that lock until
+//! the journal has the post. `request` calls it.
 
 use super::duplicates::Fate;
 use super::posted::{fits, LeftOut, Posted};
@@ -21,13 +22,13 @@ use std::sync::atomic::{AtomicU64, Ordering::Relaxed};
 use std::sync::Arc;
 use std::time::Duration;
 
-/// How long a line of the log about noted runs stands for all: one connection can post thousands a second.
+/// Runs that are noted are logged once in this time at most, since one connection can post thousands a second.
 const TOLD_EVERY: Duration = Duration::from_secs(10);
 
-/// What the log has of runs that were noted.
+/// Limits the log lines about noted runs.
 pub(super) struct NotedRuns {
     rate_limit: RateLimit,
-    /// How many were noted after the last line.
+    /// How many were noted since the last line.
     untold: AtomicU64,
 }
 
@@ -36,7 +37,7 @@ impl NotedRuns {
         NotedRuns { rate_limit: RateLimit::every(TOLD_EVERY), untold: AtomicU64::new(0) }
     }
 
-    /// How many were not told before, if it is time for a line; else these are counted for the next one.
+    /// If a line is due, how many were noted without one; otherwise counts these for the next line.
     fn untold_before(&self, noted: usize) -> Option<u64> {
         if self.rate_limit.is_due() {
             return Some(self.untold.swap(0, Relaxed));
@@ -46,42 +47,42 @@ impl NotedRuns {
     }
 }
 
-/// What came of a try.
+/// The result of a try.
 enum Tried {
     Put(Put),
-    /// The library finds a point foreign that was not known to be.
+    /// The library found a point foreign that this code took for valid.
     Otherwise,
     Apart(Apart),
-    /// What is in flight has to land first.
+    /// A flush in flight has to end first.
     InFlight,
 }
 
-/// What is to be known before it is tried once more.
+/// What has to change before the post is tried once more.
 #[derive(Default)]
 struct Apart {
-    /// Series that end later in the book than their runs.
+    /// Series whose end in the book is later than their run's, with that end.
     beyond: Vec<(Digest, u64)>,
     left: Vec<LeftPoint>,
 }
 
 /// A point that is left out.
 struct LeftPoint {
-    /// Among those that were tried, and in the request.
+    /// Its index among the points that were tried; `place` is its index in the request.
     at: u32,
     place: u64,
     fate: Fate,
 }
 
-/// A post of which deltas are made.
+/// A post whose cumulative points are being converted to deltas.
 struct Making {
     sender: String,
     by: ByNumber,
     window: Window,
     left_out: LeftOut,
-    /// Of series that the book ends later than was known.
+    /// The ends of series that end later in the book than was known.
     frontiers: HashMap<Digest, u64>,
     is_of_text: bool,
-    /// Points that were left out since.
+    /// Duplicates and refused points that earlier tries have left out.
     duplicates: u64,
     refused: RefusedPoints,
 }
@@ -111,7 +112,7 @@ impl Making {
 }
 
 impl Slot {
-    /// As `put_in_turn`.
+    /// Does what `put_in_turn` does.
     pub(super) async fn put_cumulative(
         self: &Arc<Slot>,
         sender: String,
@@ -121,7 +122,7 @@ impl Slot {
         let all = by.points.count() as u64;
         let mut making = Making::of(sender, by, self.clock.window(), false);
         loop {
-            let landed = self.landed.notified(); // from here on none is missed
+            let landed = self.landed.notified(); // registered before the try, so that none is missed
             let put;
             (making, put) = self.made(making, &mut claim).await;
             match put? {
@@ -156,7 +157,7 @@ impl Slot {
         claim.during(making).await
     }
 
-    /// None where what is in flight has to land first: nobody waits with the lock of the runs.
+    /// None if a flush in flight has to end first; the caller waits without the lock of the runs.
     fn put_made(&self, making: &mut Making) -> Result<Option<Put>, Reason> {
         loop {
             match self.try_made(making)? {
@@ -177,9 +178,9 @@ impl Slot {
         Put { journalled, is_in_book: false, points: 0, duplicates: 0 }
     }
 
-    /// The same points as its text has them: of these none is foreign to the library.
+    /// The same points as the text of the request has them: the library finds none of these foreign.
     fn of_text(&self, by: &ByNumber) -> Result<ByNumber, Refused> {
-        let text = by.source.clone().text().ok_or(Refused::NotJson)?; // it was one when it was read by number
+        let text = by.source.clone().text().ok_or(Refused::NotJson)?; // it could be parsed when its points got numbers
         self.numbered_text(&text)?.ok_or(Refused::WrongShape)
     }
 
@@ -201,7 +202,7 @@ impl Slot {
             let journalled = journalled.without(foreign, left_out.off, &draft.turned);
             journalled.without_refused(making.refused.named(&by.names, |place| place))
         };
-        // Also those that add nothing.
+        // Including points that add nothing.
         let points = by.points.count() as u64 - draft.foreign() - draft.turned.count();
         let duplicates = making.duplicates;
         if draft.points.count() == 0 {
@@ -238,8 +239,9 @@ impl Slot {
         })
     }
 
-    /// Of a draft that the book refuses for one of its series: where those end of which points were made here, and which others are left
-    /// out. All are asked for at once: else a post is tried as often as it has such series.
+    /// For a draft that the book refuses for one of its series: the ends of the series with points made here, and the
+    /// other points to leave out. All series are checked at once; otherwise the post would be tried once for each such
+    /// series.
     fn made_apart(
         &self,
         making: &Making,
@@ -257,7 +259,7 @@ impl Slot {
                     (refusals[at as usize], draft.has_made(at))
                 {
                     beyond.extend(draft.note_frontier(at, frontier).map(|series| (series, frontier)));
-                    *fate = Fate::Taken; // as far as is known: what it adds is found anew
+                    *fate = Fate::Taken; // for now: what it adds is computed again
                 }
             }
             (fates, beyond)
@@ -266,12 +268,13 @@ impl Slot {
         let left = left.filter_map(|(at, fate)| Some(left_point(making, draft, draft.place(at)?, fate)));
         let apart = Apart { left: left.collect(), beyond };
         match apart.left.is_empty() && apart.beyond.is_empty() {
-            true => Err(refused), // the book has come to say otherwise
+            true => Err(refused), // the book changed meanwhile
             false => Ok(apart),
         }
     }
 
-    /// Points that add nothing, and whose series are another sender's: these are no repeats.
+    /// Points that add nothing and whose series belong to another sender: these are refused, since they are no
+    /// duplicates.
     fn of_another(&self, making: &Making, draft: &Draft<'_>) -> Vec<LeftPoint> {
         let mut asked = HashMap::new();
         let mut is_of_another = |series: Digest| {
@@ -283,7 +286,7 @@ impl Slot {
         late.map(|(at, _)| left_point(making, draft, *at, refused)).collect()
     }
 
-    /// None where the library finds another number of them foreign.
+    /// None if the library finds another number of points foreign.
     fn read_made(
         &self,
         making: &Making,
@@ -300,7 +303,7 @@ impl Slot {
         }
     }
 
-    /// The journal has it.
+    /// Keeps the changed runs, once the journal has the post, and logs what was noted.
     fn kept(&self, making: &Making, mut draft: Draft<'_>) {
         let noted = std::mem::take(&mut draft.noted);
         draft.keep();

@@ -1,23 +1,24 @@
-//! Whether the disk answers. Where one of its calls takes long, posts are turned away at the door: behind it they would
-//! wait for it too, and their senders would not know for how long.
+//! Detects that the disk or the store stalls: while one of its calls takes long, posts get 503 before they are put in,
+//! since they would wait for the same disk and their senders would not know how long. `Slot::unavailable` asks it for
+//! each post.
 
 use super::Slot;
 use std::sync::atomic::Ordering::Relaxed;
 use std::time::Duration;
 
-/// So long a call of the disk may take.
+/// How long a call of the disk may take.
 const PATIENCE: Duration = Duration::from_secs(2);
 
 impl Slot {
-    /// How long the call of the disk that began first has been under way; zero where none is. Never waits.
+    /// How long the oldest unfinished call of the disk has been running; zero if there is none. Never waits.
     pub fn disk_call(&self) -> Duration {
         self.journal.under_way().max(self.outbox.under_way())
     }
 
-    /// In the log, once each time that it changes.
+    /// Whether the disk answers. Each change is logged once.
     pub fn disk_answers(&self) -> bool {
         let stalls = self.disk_call() >= PATIENCE;
-        // No post writes what others read, as long as it is as it was.
+        // While nothing changes posts only read this flag, so their threads share its cache line.
         if self.told.load(Relaxed) != stalls && self.told.swap(stalls, Relaxed) != stalls {
             let disk = if self.journal.is_in_store() { "store" } else { "disk" };
             match stalls {

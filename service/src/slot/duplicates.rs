@@ -1,25 +1,26 @@
-//! Which of the points that a book refuses as out of order it has taken before: these are duplicates, and were answered once.
+//! Decides which of the points that a book refused as out of order are duplicates of points it has taken. `apart` calls
+//! it.
 //!
-//! A repeat of a post has of each series the points that the post had, one after the other, whatever else is in it. So of a series that
-//! is known by what its last two posts had, and no point of them has to be kept.
+//! A retry of a post has for each series the same points in the same order, whatever else it contains. So a series'
+//! duplicates are recognised by the digests of its last two posts, and no point of these has to be kept.
 
 use crate::core::PointRefusal;
 use crate::files::{Points, PointsDigest};
 use ahash::AHashMap;
 
-/// How often a late point is looked at on average, where several of a series are in one post.
+/// How often a late point is digested on average, if a post has several late points of a series.
 const LOOKS: usize = 8;
 
 /// What becomes of a point.
 #[derive(Clone, Copy, Debug, PartialEq, Eq)]
 pub(super) enum Fate {
     Taken,
-    /// It was taken before, by another post or by this one.
+    /// The point was taken before, from another post or from this one.
     Duplicate,
     Refused(PointRefusal),
 }
 
-/// Late points of a series, one after the other: no point between them is taken, and no two neighbours are equal.
+/// Consecutive late points of a series: none between them is taken, and no two neighbours are equal.
 struct Late {
     number: u64,
     places: Vec<u32>,
@@ -29,14 +30,14 @@ struct Late {
 struct Sorting {
     fates: Vec<Fate>,
     late: Vec<Late>,
-    /// By series the place of its last point, and that of its late points which may go on.
+    /// For each series the index of its last point, and of the run in `late` that further late points may join.
     last: AHashMap<u64, (u32, Option<usize>)>,
-    /// Points that are equal to the one before in their series, by their places.
+    /// Points that equal the previous point of their series, with that point's index.
     equal: Vec<(u32, u32)>,
 }
 
-/// What becomes of each of these points, of which the book says this. `recent` is asked what posts had last of a series of which points
-/// are late.
+/// The fate of each point, given the book's refusals. `recent` returns the digests of the last posts of a series; it is
+/// called for series with late points.
 pub(super) fn fates(
     points: &Points,
     refusals: &[Option<PointRefusal>],
@@ -90,7 +91,7 @@ impl Sorting {
     }
 }
 
-/// The places among these points of those that are, one after the other, what a post had whose digest is known.
+/// The indexes of the points that together, in their order, are what an earlier post had.
 fn repeated(points: &[&[u64]], known: &[PointsDigest]) -> Vec<usize> {
     let (mut found, mut begin, mut looks) = (Vec::new(), 0, LOOKS * (points.len() + LOOKS));
     while begin < points.len() && looks > 0 && !known.is_empty() {
@@ -124,7 +125,7 @@ mod tests {
         of.iter().fold(PointsDigest::NONE, |digest, point| digest.and(point))
     }
 
-    /// Of points of series 5, what becomes of each where it was taken as these posts had it, and those are late.
+    /// The fates of points of series 5, given these earlier posts and which points are late.
     fn found(points: &[[u64; 3]], posts: &[&[[u64; 3]]], is_late: impl Fn(usize) -> bool) -> Vec<Fate> {
         let mut all = Points::default();
         points.iter().for_each(|point| all.push_words(5, point));
@@ -167,12 +168,12 @@ mod tests {
         ] {
             assert_eq!(found(points, &[], |place| place == late), wanted, "{points:?}");
         }
-        // What is taken between two late ones parts them.
+        // A point that is taken between two late ones separates them.
         let points = [a, c, b];
         assert_eq!(found(&points, &[&[a, b]], |place| place != 1), [REFUSED, Taken, REFUSED]);
     }
 
-    /// As where the end of its series was put back: what the book takes is added, whatever was taken before.
+    /// As after a rewind of the series' end: what the book takes is added, whatever was taken before.
     #[test]
     fn what_the_book_takes_is_no_duplicate() {
         let a = [1, 2, 7];
@@ -186,7 +187,7 @@ mod tests {
         let all_late = |points: &[[u64; 3]], posts: &[&[[u64; 3]]]| found(points, posts, |_| true);
         let found = all_late(&points, &[&points[..2]]);
         assert_eq!((found[0], found[1], found[2]), (Duplicate, Duplicate, REFUSED));
-        // Each is by itself what a post had.
+        // Each point is by itself what a post had.
         let in_turn: Vec<[u64; 3]> = (0..100_000).map(|place| points[place % 2]).collect();
         let found = all_late(&in_turn, &[&points[..1], &points[1..2]]);
         assert_eq!((found[0], found[1], found[99_999]), (Duplicate, Duplicate, REFUSED));

@@ -1,9 +1,15 @@
-//! The book with its journal and outbox, and the way of a post through them.
+//! A shard: the book with its journal and outbox, and the way of a post through them. `intake` and `grpc` post to it;
+//! `keeper` starts it and takes its checkpoints.
 //!
-//! `request` is that way, `apart` that of a post some of whose points are refused, `duplicates` which of these were taken before,
-//! `refused_points` what is said of the others, `posted` reads a request, `cumulative` what is done ahead of it with cumulative
-//! points, `numbers` which series have numbers, `verdict` what is said of a post and when, `never` which are refused for good,
-//! `phase` whether posts are taken, `disk_stall` whether the disk answers. `slots` is where posts of each slot go.
+//! Nothing is answered before the journal is as durable as was asked for (`verdict`), and a post is in the book and the
+//! journal or in neither (`request`).
+//!
+//! - `request`: the way of a post; `posted` parses it, `numbers` has the numbers of series.
+//! - `apart`: posts with refused points; `duplicates`: which of these were taken before; `refused_points`: what is
+//!   answered and kept of the others.
+//! - `cumulative`: the conversion of cumulative points; `never`: posts that are refused for good.
+//! - `verdict`: the answer, and when it may be given.
+//! - `phase`: whether posts are taken; `disk_stall`: whether the disk answers; `slots`: where posts of each shard go.
 
 mod apart;
 mod cumulative;
@@ -37,12 +43,12 @@ use std::sync::atomic::{AtomicBool, AtomicU64, Ordering};
 use std::sync::{Arc, Mutex};
 use tokio::sync::Notify;
 
-/// How many long bodies are read at a time: while it is read, one takes several times its length.
+/// How many long bodies are parsed at a time. Parsing one takes several times its length of memory.
 const READERS: usize = 2;
-/// Of so many senders it is remembered what the log has.
+/// For how many senders the log remembers that it reported duplicates.
 const REMEMBERED: usize = 1000;
 
-/// Shared by the intake, which posts, and the keeper.
+/// A shard, shared by the intake, which posts, and the keeper.
 pub struct Slot {
     number: u16,
     free_space: Arc<FreeSpace>,
@@ -55,35 +61,35 @@ pub struct Slot {
     numbers: Arc<numbers::Numbers>,
     clock: Clock,
     pub(crate) runs: Runs,
-    /// How many posts are in the journal, and in no group. It changes under the lock of the book, but for what the keeper
-    /// takes off it.
+    /// How many posts are in the journal and in no group. Increased under the lock of the book; decreased by the
+    /// keeper.
     ungrouped: AtomicU64,
-    /// A post was refused because there are too many series.
+    /// Wakes the keeper after a post was refused for too many series.
     pub(crate) crowded: Notify,
-    /// The book has much that belongs to the next group already, or finds no room for it.
+    /// Wakes the keeper if requests of earlier windows have become large, or there is no memory for them.
     pub(crate) hurried: Notify,
-    /// What was taken is not in flight any more.
+    /// Wakes posts that wait for a flush in flight.
     pub(crate) landed: Notify,
-    /// Whether the disk stalls, as it was found last, and told.
+    /// Whether the disk stalled at the last look, which the log has.
     told: AtomicBool,
     noted_runs: cumulative::NotedRuns,
     pub(crate) shares: Arc<Shares>,
-    /// Of whose duplicates the log has a line.
+    /// The senders whose duplicates were logged within the hour.
     duplicates: Arc<Mutex<OnceAnHour<String>>>,
     late: Arc<LateData>,
-    /// None where it reads as all others here, and keeps nothing of that.
+    /// None if posts are read by the settings that all shards share.
     reading: Option<Arc<Reading>>,
-    /// Who has the outbox know what was read.
+    /// Held by the one post that has the outbox keep new units of measure.
     keeping: Arc<tokio::sync::Mutex<()>>,
 }
 
-/// What all slots of a process share.
+/// What all shards of a process share.
 pub struct Shared {
     pub metrics: Arc<Metrics>,
-    /// How far from it points may end.
+    /// The clock, and how far from it points may end.
     pub clock: Clock,
     pub shares: Arc<Shares>,
-    /// Keeps points that their series refuse.
+    /// Keeps the points that their series refuse.
     pub late: Arc<LateData>,
     readers: Arc<Readers>,
     numbers: Arc<numbers::Numbers>,
@@ -103,7 +109,7 @@ impl Shared {
         }
     }
 
-    /// The same, which keeps what series refuse.
+    /// Keeps refused points in `late`.
     pub fn with_late(self, late: Arc<LateData>) -> Shared {
         Shared { late, ..self }
     }
@@ -126,7 +132,7 @@ impl Slot {
         Slot::of(None, number, journal, outbox, core, &Shared::new(metrics, Clock::default()))
     }
 
-    /// One of several, which reads posts so.
+    /// A shard with its own `reading`, if there is one.
     pub fn of(
         reading: Option<Arc<Reading>>,
         number: u16,
@@ -165,25 +171,25 @@ impl Slot {
         self.number
     }
 
-    /// How its posts are read, beside what they say themselves.
+    /// The settings by which its posts are read: its own, or those of all shards.
     pub fn reading<'r>(&'r self, of_all: &'r Arc<Reading>) -> &'r Arc<Reading> {
         self.reading.as_ref().unwrap_or(of_all)
     }
 
-    /// Puts a request into the book. What is taken is in the journal, as durably as was asked for, before this returns,
-    /// and a refusal waits for the journal too.
+    /// Puts a request into the book. The answer, a refusal too, comes only after the journal is as durable as was asked
+    /// for.
     pub async fn post(self: &Arc<Slot>, sender: String, body: Bytes) -> Outcome {
         self.request(sender, body.into()).await
     }
 
-    /// Why each post is answered 503 now.
+    /// Why every post is answered 503 now; none if posts are taken.
     pub fn unavailable(&self) -> Option<Reason> {
         match self.phase() {
             Phase::Recovering => Some(Reason::Recovering),
             Phase::Unfilled => Some(Reason::Unfilled),
             Phase::Stopping => Some(Reason::Stopping),
             Phase::Lost => Some(Reason::SlotMoves),
-            // Before its room, for which the disk is asked.
+            // Checked before the room, since that asks the disk.
             Phase::Serving if !self.disk_answers() => Some(match self.journal.is_in_store() {
                 true => Reason::StoreSilent,
                 false => Reason::DiskSilent,
@@ -193,17 +199,17 @@ impl Slot {
         }
     }
 
-    /// Whether the book has all accepted posts.
+    /// Whether the book has all accepted posts, so that posts are taken.
     pub fn is_ready(&self) -> bool {
         self.phase() == Phase::Serving
     }
 
-    /// Whether posts of a sender that was released wait for a flush.
+    /// Whether posts of a released sender wait for a flush.
     pub fn has_released(&self) -> bool {
         self.journal.holds_of_others(&self.outbox.quarantined())
     }
 
-    /// The book, for who shows what it has.
+    /// The book, for reports.
     pub fn core(&self) -> &Core {
         &self.core
     }
@@ -211,7 +217,7 @@ impl Slot {
 
 #[cfg(test)]
 impl Slot {
-    /// One that takes posts, and has its files in memory.
+    /// A shard that takes posts and has its files in memory.
     fn in_memory(shared: &Shared) -> Arc<Slot> {
         Slot::in_memory_of(shared, Core::new(10).unwrap())
     }
@@ -226,13 +232,13 @@ impl Slot {
     }
 }
 
-/// Whether this is a sender's name: the book takes no other, and it stands in heads and paths.
+/// Whether this is a valid name of a sender: the book takes no other, and names are part of headers and paths.
 pub fn is_sender(name: &str) -> bool {
     let sound = |byte: u8| byte.is_ascii_alphanumeric() || b"._-".contains(&byte);
     (1..=64).contains(&name.len()) && name.bytes().all(sound)
 }
 
-/// What the keeper puts in and takes out.
+/// What the keeper changes and asks.
 impl Slot {
     pub(crate) fn phase(&self) -> Phase {
         self.phases.now()
@@ -243,24 +249,24 @@ impl Slot {
         self.phases.go_on(Phase::Serving);
     }
 
-    /// Takes none.
+    /// Takes no posts: there is too little memory to fill the book.
     pub(crate) fn stay_unfilled(&self) {
         self.phases.go_on(Phase::Unfilled);
     }
 
-    /// Takes none any more.
+    /// Takes no more posts: the service is ending.
     pub(crate) fn stop(&self) {
         self.phases.go_on(Phase::Stopping);
-        self.landed.notify_waiters(); // what is in flight may never land
+        self.landed.notify_waiters(); // a flush in flight may never end
     }
 
-    /// The same, for another instance takes them.
+    /// Takes no more posts: the shard is fenced, and another instance takes them.
     pub(crate) fn lose(&self) {
         self.phases.go_on(Phase::Lost);
         self.landed.notify_waiters();
     }
 
-    /// Whether the journal has any.
+    /// Whether the journal has posts.
     pub(crate) fn has_posts(&self) -> bool {
         self.journal.size().1.is_some()
     }
@@ -273,7 +279,7 @@ impl Slot {
         self.ungrouped.store(posts, Ordering::Relaxed);
     }
 
-    /// So many more are in a group.
+    /// Counts posts that are now in a group.
     pub(crate) fn count_grouped(&self, posts: u64) {
         self.ungrouped.fetch_sub(posts, Ordering::Relaxed);
     }

@@ -1,5 +1,5 @@
-//! Posts that are over a limit by their own points alone. No repeat of one could be taken, whatever the book has by then, and a
-//! sender repeats a 503: so they are refused for good.
+//! Recognises posts that exceed a limit by their own points alone. No retry of such a post could succeed, whatever the
+//! book has by then, and senders retry a 503: so they are refused for good. `request` asks it for each refusal.
 
 use super::Slot;
 use crate::core::{Read, Refused};
@@ -11,15 +11,16 @@ use std::collections::hash_map::RandomState;
 use std::collections::{HashMap, HashSet};
 use std::hash::BuildHasher;
 
-/// A book of the library has no more.
+/// The most series of a book of the library.
 const SERIES_OF_A_BOOK: usize = 10_000;
-/// What a row comes to at most ("Rows" in docs/FORMATS.md): added, subtracted, a histogram's sum, its buckets together.
+/// The most that a row may come to ("Rows" in docs/FORMATS.md): what is added, what is subtracted, the sum of a
+/// histogram, and its buckets together.
 const MOST: [u64; 4] = [i64::MAX as u64, i64::MAX as u64, 1 << 53, u64::MAX];
-/// How much of a metric's name is told, in characters.
+/// How much of a metric's name the message has, in characters.
 const NAME_SHOWN: usize = 100;
 
 impl Slot {
-    /// What is said of a post that the book refuses.
+    /// The answer to a post that the book refuses.
     pub(super) fn refusal(&self, read: &Read, refused: Refused) -> Outcome {
         let never = match refused {
             Refused::TooManySeries => too_many(read, self.core.books() * SERIES_OF_A_BOOK),
@@ -30,7 +31,7 @@ impl Slot {
     }
 }
 
-/// Where they are unevenly among the books fewer are too many, which is not seen here.
+/// If the series are spread unevenly among the books, fewer may be too many; this is not recognised.
 fn too_many(read: &Read, most: usize) -> Option<Rejection> {
     let is_over = read.points() > most as u64
         && match &read.post.body {
@@ -54,7 +55,7 @@ fn too_large(read: &Read) -> Option<Rejection> {
     }
 }
 
-/// Of a metric with a series that is over this limit.
+/// The message for a metric with a series that is over this limit.
 fn large_said(metric: &str, most: u64) -> Rejection {
     let metric = shown(metric, NAME_SHOWN);
     let more = format!(" of {metric} add up to over {most}: post fewer at a time");
@@ -67,7 +68,7 @@ fn large(points: &Points) -> Option<(u64, u64)> {
     points.each().find_map(|point| Some((point[0], rows.add(point[0], &point[3..])?)))
 }
 
-/// The same of a text, for whose series there was no room to have numbers. No key is kept.
+/// The same for a text whose series got no numbers for want of room. No key of a series is kept.
 fn large_of_text(text: &[u8]) -> Option<Rejection> {
     let (hasher, mut rows, mut found) = (RandomState::new(), Rows::default(), None);
     taken_points(text, |key, metric, words| {
@@ -78,12 +79,12 @@ fn large_of_text(text: &[u8]) -> Option<Rejection> {
     found
 }
 
-/// Of each series what its points come to.
+/// The sum of each series' points.
 #[derive(Default)]
 struct Rows(HashMap<u64, [u128; 4]>);
 
 impl Rows {
-    /// Adds what a point says. The limit that its row is over then.
+    /// Adds a point; returns the limit that its row now exceeds, if any.
     fn add(&mut self, series: u64, says: &[u64]) -> Option<u64> {
         let row = self.0.entry(series).or_default();
         for (word, more) in row.iter_mut().zip(row_of(says)) {
@@ -93,7 +94,7 @@ impl Rows {
     }
 }
 
-/// Of what a point says: a sum's value, or a histogram's count, whether it has a sum, the sum, and its buckets.
+/// The row of a point: of a sum its value; of a histogram its count, whether it has a sum, the sum, and its buckets.
 fn row_of(says: &[u64]) -> [u64; 4] {
     match says {
         [value] if (*value as i64) < 0 => [0, (*value as i64).unsigned_abs(), 0, 0],
@@ -117,7 +118,7 @@ mod tests {
         format!(r#"{{"resourceMetrics":[{{"scopeMetrics":[{{"metrics":[{}]}}]}}]}}"#, metrics.join(","))
     }
 
-    /// Points of one series, each behind the one before, so many nanoseconds long.
+    /// Consecutive points of one series, each this many nanoseconds long.
     fn points(long: u64, kind: &str, says: &[String]) -> String {
         let point = |(place, says): (u64, &String)| {
             let (start, end) = (long * (place + 1), long * (place + 2));
@@ -155,7 +156,7 @@ mod tests {
         (413, text)
     }
 
-    /// Else its sender would repeat it for ever.
+    /// Otherwise the sender would retry it for ever.
     #[tokio::test]
     async fn what_is_too_large_by_itself_is_refused_for_good() {
         let slot = Slot::in_memory(&Shared::of_test());
@@ -174,7 +175,7 @@ mod tests {
         ] {
             assert_eq!(said(&slot, body).await, wanted);
         }
-        // This one may be taken once what is pending is forwarded.
+        // This one may be taken once the pending points are forwarded.
         let later = sums(100, &[HALF]);
         assert_eq!(said(&slot, later.clone()).await, (503, "too large".into()));
         let flushed = slot.core.lock().take_all().unwrap();

@@ -1,10 +1,10 @@
-//! Series that have numbers: by their bytes for who reads protobuf, and in the library.
+//! The numbers of series for posts: `otlp` finds a series by its bytes in a protobuf body, the library by its number.
+//! `request` and the intake use them. A request in the book's form gets numbers too if its points are needed one by
+//! one.
 //!
-//! A request in the book's form has numbers too where its points are wanted one by one.
-//!
-//! Both together have a bound. Where it is reached numbers begin anew, after a while: what has none meanwhile is read as any
-//! other request, so that series which come and go cost no more than that. Posts that are under way keep the numbers
-//! that they have.
+//! Both tables together are bounded. When they are full, numbers begin anew after a while, and until then a request
+//! with a new series is read as text; so series that come and go cost no more than that. Posts in flight keep the
+//! numbers that they have.
 
 use super::Slot;
 use crate::core::{memory_used, Core, Names, Read, Refused};
@@ -15,51 +15,51 @@ use bytes::Bytes;
 use std::sync::{Arc, PoisonError, RwLock};
 use std::time::{Duration, Instant};
 
-/// What numbers may take.
+/// The bounds of one generation of numbers.
 #[derive(Clone, Copy)]
 struct Limits {
-    /// Of memory for a series, on average, beside what the library has.
+    /// The memory for a series, on average, not counting the library's.
     bytes: u64,
-    /// How long they are kept at least.
+    /// How long a generation is kept at least.
     kept: Duration,
 }
 
 const LIMITS: Limits = Limits { bytes: 1 << 10, kept: Duration::from_secs(60) };
-/// All series take no more than this part of what the book may have, since the library takes about as much for them.
+/// All series use at most this fraction of the book's memory; the library uses about as much for them.
 const PART_OF_ALL: u64 = 8;
-/// Numbers of one post alone take no more than this: each of its series has all that its points share, some kilobytes for a point
-/// of some bytes.
+/// The bound for the numbers of a single post: in a small point of some bytes each series has all attributes that the
+/// points share, some kilobytes.
 const MOST_OF_ONE: usize = 256 << 20;
 
-/// What is posted. Each future on a post's way has it, so what is large is boxed.
+/// A request as it goes to the book. Large parts are boxed, because each future on the way of a post contains it.
 pub enum Request {
-    /// In the book's form.
+    /// Text in the book's form.
     Text(Bytes),
-    /// Of protobuf.
+    /// Points of a protobuf body, or of a text that was read by number.
     Numbered(Box<ByNumber>),
 }
 
-/// Points that have numbers, and by which names.
+/// Points by number, and the names of these numbers.
 pub struct ByNumber {
     pub points: Points,
-    /// Which of them are cumulative, by their places, ascending.
+    /// The indexes of the cumulative points, ascending.
     pub cumulative: Vec<u32>,
-    /// How many points are not among them, since they are outside the profile.
+    /// How many points are missing because they are outside the profile.
     pub foreign: u64,
     pub rounded: Rounded,
     pub names: Arc<Names>,
     pub source: Source,
 }
 
-/// A request for who reads it once more.
+/// The body of a request, for reading it once more.
 #[derive(Clone)]
 pub enum Source {
     Text(Bytes),
-    /// With how it is read.
+    /// With the settings by which it is read.
     Protobuf(Bytes, Arc<Reading>),
 }
 
-/// Numbers from one beginning on.
+/// The numbers since one beginning.
 struct Generation {
     series: Series,
     names: Arc<Names>,
@@ -67,10 +67,10 @@ struct Generation {
 }
 
 pub(super) struct Numbers {
-    /// None until there is a request, and where there is no memory for them.
+    /// None until the first request comes, or if there is no memory for them.
     now: RwLock<Option<Arc<Generation>>>,
     limits: Limits,
-    /// What those of one post alone may take.
+    /// The bound for the numbers of a single post.
     most_of_one: usize,
 }
 
@@ -94,7 +94,7 @@ impl Request {
         }
     }
 
-    /// Of the request as it came.
+    /// The length of the request as it came.
     pub fn length(&self) -> usize {
         match self {
             Request::Text(text) => text.len(),
@@ -102,7 +102,7 @@ impl Request {
         }
     }
 
-    /// Of memory.
+    /// The memory that it occupies.
     pub fn bytes(&self) -> usize {
         match self {
             Request::Text(text) => text.len(),
@@ -110,22 +110,22 @@ impl Request {
         }
     }
 
-    /// What of it was rounded, which its answer has.
+    /// What was rounded of it, for the answer.
     pub fn take_rounded(&mut self) -> Rounded {
         match self {
-            Request::Text(_) => Rounded::default(), // who wrote a text has it
+            Request::Text(_) => Rounded::default(), // whoever wrote the text has it
             Request::Numbered(points) => std::mem::take(&mut points.rounded),
         }
     }
 
-    /// Whether it takes so little to read that it is read in place.
+    /// Whether reading it takes so little that the serving thread does it.
     pub(super) fn is_short(&self) -> bool {
         self.bytes() <= Readers::SHORT
     }
 }
 
 impl ByNumber {
-    /// Keeps those points alone, by their places and words.
+    /// Keeps only the points for which `is_kept(index, words)` is true.
     pub fn keep(&mut self, mut is_kept: impl FnMut(u32, &[u64]) -> bool) {
         let kept: Vec<bool> =
             (0..).zip(self.points.each()).map(|(place, point)| is_kept(place, point)).collect();
@@ -145,7 +145,7 @@ impl ByNumber {
         }
     }
 
-    /// Where no deltas are made of what is cumulative, that is foreign.
+    /// Removes the cumulative points and counts them as foreign, for readers that don't convert them.
     pub(super) fn without_cumulative(mut self) -> ByNumber {
         let cumulative = std::mem::take(&mut self.cumulative);
         self.keep(|place, _| cumulative.binary_search(&place).is_err());
@@ -155,19 +155,19 @@ impl ByNumber {
 
     pub(super) fn bytes(&self) -> usize {
         let words = self.points.words().len() + self.points.count();
-        2 * size_of::<u64>() * words + self.source.length() // a list that grows has room for twice what it has
+        2 * size_of::<u64>() * words + self.source.length() // a growing list has up to twice its length
     }
 }
 
 impl Source {
-    /// Of the request as it came.
+    /// The length of the request as it came.
     pub fn length(&self) -> usize {
         match self {
             Source::Text(body) | Source::Protobuf(body, _) => body.len(),
         }
     }
 
-    /// In the book's form.
+    /// The request in the book's form.
     pub fn text(self) -> Option<Bytes> {
         match self {
             Source::Text(text) => Some(text),
@@ -194,7 +194,7 @@ impl Generation {
         self.series.is_full() || self.names.are_closed()
     }
 
-    /// Why a series has no number in those of one post.
+    /// Why a series got no number in the generation of a single post.
     fn refused(&self) -> Refused {
         match self.series.is_full() {
             true => Refused::LongSeries,
@@ -247,7 +247,7 @@ impl Numbers {
         }
     }
 
-    /// Numbers that nobody has yet, unless another has begun with some.
+    /// Begins new numbers, unless another thread has just done so.
     fn begin(&self, core: &Core) -> Option<Arc<Generation>> {
         let mut now = self.now.write().unwrap_or_else(PoisonError::into_inner);
         if let Some(other) = now.as_ref().filter(|other| !other.is_over(self.limits)) {
@@ -256,13 +256,13 @@ impl Numbers {
         let fresh = Generation::new(core, self.limits).ok().map(Arc::new);
         let before = std::mem::replace(&mut *now, fresh.clone());
         drop(now);
-        drop(before); // without the lock: it has much to give back
+        drop(before); // without the lock, since freeing takes long
         fresh
     }
 }
 
 impl Numbers {
-    /// The points of a request in protobuf; none where it is to be read otherwise.
+    /// The points of a protobuf request; none if it has to be read in another way.
     fn read(&self, core: &Core, body: &Bytes, reading: &Arc<Reading>) -> Option<ByNumber> {
         let now = self.now(core)?;
         let source = Source::Protobuf(body.clone(), reading.clone());
@@ -277,8 +277,8 @@ impl Numbers {
         }
     }
 
-    /// Has a text that was read have its points by number. It stays a text where there is no room for numbers, but for one of
-    /// several stretches.
+    /// Gives numbers to the points of a text that was read. If there is no room for numbers it stays text, except a
+    /// post of several windows, which gets numbers of its own.
     pub fn number(&self, core: &Core, read: &mut Read) -> Result<(), Refused> {
         if self.now(core).is_some_and(|now| now.number(read)) || !read.is_of_several() {
             return Ok(());
@@ -290,7 +290,8 @@ impl Numbers {
         }
     }
 
-    /// The points of a request in the book's form, also those that are cumulative; none where the book refuses it whole.
+    /// The points of a request in the book's form, cumulative ones included; none if the book refuses the whole
+    /// request.
     pub fn read_text(&self, core: &Core, text: &Bytes) -> Result<Option<ByNumber>, Refused> {
         let source = || Source::Text(text.clone());
         if let Some(now) = self.now(core) {
@@ -298,7 +299,7 @@ impl Numbers {
                 return Ok(read.map(|numbered| now.by_number(numbered, source())));
             }
         }
-        // Numbers for this one alone: there is no room for more.
+        // Numbers for this request alone, since there is no room for more.
         let own = Generation::with_room(self.most_of_one, Names::of_one_post()?);
         let read = own.read_text(text).map_err(|NotNamed| own.refused())?;
         Ok(read.map(|numbered| own.by_number(numbered, source())))
@@ -306,12 +307,14 @@ impl Numbers {
 }
 
 impl Slot {
-    /// The points of a request in protobuf by their numbers; none where it is to be read otherwise, which says nothing of it.
+    /// The points of a protobuf request by number; none if it has to be read in another way, which says nothing about
+    /// its validity.
     pub fn numbered(&self, body: &Bytes, reading: &Arc<Reading>) -> Option<ByNumber> {
         self.numbers.read(&self.core, body, reading)
     }
 
-    /// The same of a request in the book's form, also of what is cumulative; none where the book refuses it whole.
+    /// The points of a request in the book's form, cumulative ones included; none if the book refuses the whole
+    /// request.
     pub fn numbered_text(&self, text: &Bytes) -> Result<Option<ByNumber>, Refused> {
         self.numbers.read_text(&self.core, text)
     }

@@ -1,23 +1,24 @@
-//! Whether posts are taken. It is looked at again under the lock of the book, so none is taken after the last checkpoint.
+//! Whether the shard takes posts. It is checked again under the lock of the book, so no post is taken after the last
+//! checkpoint.
 
 use std::sync::atomic::{AtomicU8, Ordering::SeqCst};
 
-/// What is said at the door. A later one is never followed by an earlier one.
+/// The phases of a shard, in order: none is ever followed by an earlier one.
 #[derive(Clone, Copy, Debug, PartialEq, Eq)]
 #[repr(u8)]
 pub(crate) enum Phase {
-    /// The book has not all accepted posts yet.
+    /// The book does not have all accepted posts yet.
     Recovering,
-    /// It never has: there is too little memory.
+    /// There is too little memory to fill the book: it never serves.
     Unfilled,
     Serving,
-    /// The service is ending: nothing is taken any more.
+    /// The service is ending, and no more posts are taken.
     Stopping,
-    /// Another instance has the slot.
+    /// The shard is fenced: another instance has it.
     Lost,
 }
 
-/// One byte, which each post reads and none writes.
+/// The phase as one byte, so that each post only reads it.
 pub(super) struct Phases(AtomicU8);
 
 impl Phases {
@@ -31,7 +32,7 @@ impl Phases {
         others.into_iter().find(|phase| *phase as u8 == byte).unwrap_or(Phase::Lost)
     }
 
-    /// Goes on to a phase, unless a later one has come.
+    /// Enters a phase, unless it is in a later one.
     pub fn go_on(&self, to: Phase) {
         self.0.fetch_max(to as u8, SeqCst);
     }

@@ -1,5 +1,5 @@
-//! Reads a request for the book. What is off by its clock is left out; and of points that are not all of one hour each is read
-//! by number, so that each hour's go into the book by themselves.
+//! Parses a request for the book. Points that are off the clock are left out. A post with points of several windows is
+//! read by number, so that each window goes into the book by itself. `request` and `cumulative` call it.
 
 use super::numbers::{ByNumber, Numbers, Request, Source};
 use crate::core::{Core, Read, Refused};
@@ -9,25 +9,25 @@ use bytes::Bytes;
 use std::mem::take;
 use std::sync::Arc;
 
-/// In more hours no post may have points: each takes a request to the sink, while other posts wait.
+/// The most windows of a post: each takes a request to the sink while other posts wait.
 const MOST_PARTS: usize = 1000;
 
-/// A request that was read, and what of it the book is not given.
+/// A parsed request, and which of its points the book is not given.
 pub struct Posted {
     pub read: Read,
     pub left_out: LeftOut,
-    /// What it was read from, where it may have to be read again.
+    /// The body, if it may have to be read again.
     pub source: Option<Source>,
-    /// The points that its series refused at the last try.
+    /// The points that their series refused at the last try.
     pub late: Option<Refusals>,
 }
 
-/// Points that are off by their clock.
+/// Points that are off the clock, or were left out later.
 #[derive(Default)]
 pub struct LeftOut {
-    /// How many they are, and how far off.
+    /// How many are off the clock, and how far.
     pub off: OffClock,
-    /// Among all points of the profile; ascending.
+    /// Their indexes among all points of the profile, ascending.
     places: Vec<u64>,
 }
 
@@ -38,7 +38,7 @@ impl Posted {
 }
 
 impl LeftOut {
-    /// Takes them out of these points.
+    /// Removes the points that are off the clock.
     pub fn of(by: &mut ByNumber, window: &Window) -> LeftOut {
         let mut left_out = LeftOut::default();
         by.keep(|place, point| match window.off(point[2]) {
@@ -52,14 +52,14 @@ impl LeftOut {
         left_out
     }
 
-    /// Those at these places among what is left are out too.
+    /// Records that the points with these indexes among the remaining ones are removed as well.
     pub fn add(&mut self, places: impl Iterator<Item = u64>) {
         let all: Vec<u64> = places.map(|place| self.place_of(place)).collect();
         self.places.extend(all);
         self.places.sort_unstable();
     }
 
-    /// Where among all is a point that has this place among those that are left.
+    /// The index among all points of the point that has this index among the remaining ones.
     pub fn place_of(&self, point: u64) -> u64 {
         let (mut out, mut end) = (0, self.places.len());
         while out < end {
@@ -73,11 +73,11 @@ impl LeftOut {
     }
 }
 
-/// Reads requests for a book.
+/// Parses requests for a book.
 pub struct RequestReader<'a> {
     pub core: &'a Arc<Core>,
     pub numbers: &'a Numbers,
-    /// By one look at the clock.
+    /// The bounds by one reading of the clock.
     pub window: Window,
 }
 
@@ -89,19 +89,19 @@ impl RequestReader<'_> {
         }
     }
 
-    /// The journal has no point by number that the book does not take, since it says whose a series is: where the library finds
-    /// one the request is read as its text.
+    /// The journal must have no point by number that the book does not take, since its records also say who owns a
+    /// series. If the library finds such a point, the request is read as text.
     fn read_numbered(&self, sender: String, by: ByNumber) -> Result<Posted, Refused> {
         let (foreign, source) = (by.foreign, by.source.clone());
         let mut posted = self.read_points(sender, by)?;
         if posted.read.post.foreign == foreign {
             return fits(&posted.read).map(|()| posted);
         }
-        let text = source.text().ok_or(Refused::NotJson)?; // it was one when it was read by number
+        let text = source.text().ok_or(Refused::NotJson)?; // it could be parsed when its points got numbers
         self.read_text(take(&mut posted.read.post.sender), text)
     }
 
-    /// The same request by number, in the order of its body; none where it is another one then.
+    /// Reads the same request by number in the order of its body; none if the result would be another one.
     pub fn read_in_order(&self, sender: String, source: &Source) -> Option<Posted> {
         let by = self.numbers.read_again(self.core, source)?.without_cumulative();
         let foreign = by.foreign;
@@ -129,7 +129,7 @@ impl RequestReader<'_> {
     }
 }
 
-/// A post of not too many hours.
+/// Checks that a post has not too many windows.
 pub fn fits(read: &Read) -> Result<(), Refused> {
     match read.parts() {
         0..=MOST_PARTS => Ok(()),

@@ -1,5 +1,5 @@
-//! Points that their series refuse: their sender is told by reason how many, and of the first one its series and interval; all are kept
-//! as late data.
+//! The refused points of a post: for each reason the answer says how many there are, and names the series and interval
+//! of the first. All are kept as late data. `apart` and `cumulative` call it.
 
 use super::duplicates::Fate;
 use super::Slot;
@@ -15,11 +15,12 @@ use std::sync::Arc;
 pub(super) struct RefusedPoints {
     by_reason: Vec<OfReason>,
     points: Points,
-    /// Of each point why, and whether it is cumulative.
+    /// For each point why it is refused, and whether it is cumulative.
     why: Vec<(PointRefusal, bool)>,
 }
 
-/// So many for one reason, and the first of them: its place, the number of its series, and its interval.
+/// How many points were refused for one reason, and the first of them: its index, the number of its series, and its
+/// interval.
 struct OfReason {
     count: u64,
     place: u64,
@@ -29,7 +30,7 @@ struct OfReason {
 }
 
 impl PointRefusal {
-    /// As the book says it of a post that it refuses whole.
+    /// The refusal as the book would give it for a whole post.
     fn of(self, point: u64) -> Refused {
         match self {
             PointRefusal::OutOfOrder { frontier, .. } => Refused::OutOfOrder { point, frontier },
@@ -37,7 +38,7 @@ impl PointRefusal {
         }
     }
 
-    /// What the sender's owner needs to know of a point of this interval, whose series this names.
+    /// What the owner of the sender needs to know about a point; `named` names its series.
     fn advice(self, named: &str, interval: Interval) -> String {
         match self {
             PointRefusal::OtherWriter => of_another(named, interval),
@@ -48,7 +49,7 @@ impl PointRefusal {
 }
 
 impl RefusedPoints {
-    /// Those of these points that are refused.
+    /// The refused ones among these points.
     pub fn of(points: &Points, fates: &[Fate]) -> RefusedPoints {
         let mut all = RefusedPoints::default();
         for ((place, point), fate) in (0..).zip(points.each()).zip(fates) {
@@ -59,9 +60,9 @@ impl RefusedPoints {
         all
     }
 
-    /// Adds a point of these words, which has this place among all.
+    /// Adds a point of these words; `place` is its index among all points.
     pub fn add(&mut self, place: u64, point: &[u64], refusal: PointRefusal, is_cumulative: bool) {
-        let [number, start, end, ..] = *point else { return }; // each point has these
+        let [number, start, end, ..] = *point else { return }; // every point has these
         self.points.push_words(number, &point[1..]);
         self.why.push((refusal, is_cumulative));
         let is_same = |other: &&mut OfReason| discriminant(&other.refusal) == discriminant(&refusal);
@@ -77,19 +78,19 @@ impl RefusedPoints {
         same.count = count;
     }
 
-    /// Takes what is to be kept of them.
+    /// Takes the points that are to be kept.
     pub fn take_kept(&mut self, slot: &Slot, sender: &str, names: &Arc<Names>) -> Refusals {
         let (points, why) = (take(&mut self.points), take(&mut self.why));
         Refusals::new(sender, names, points, why, &slot.outbox)
     }
 
-    /// The first of all, as the book says it of a post that it refuses whole.
+    /// The first refusal, as the book would give it for a whole post.
     pub fn first(&self) -> Option<Refused> {
         let first = self.by_reason.iter().min_by_key(|of| of.place);
         first.map(|of| of.refusal.of(of.place))
     }
 
-    /// As their sender is told; `among_all` says where a point is in the request.
+    /// The rejections for the answer; `among_all` maps the index of a point to its index in the request.
     pub fn named(&self, names: &Names, among_all: impl Fn(u64) -> u64) -> Vec<(u64, Rejection)> {
         let told = |of: &OfReason| {
             let Outcome::Refused(rejection) = Outcome::from(of.refusal.of(among_all(of.place))) else {
@@ -104,8 +105,8 @@ impl RefusedPoints {
 }
 
 impl Slot {
-    /// Keeps refused points of a post that is answered so: not before it is, and only if nothing more comes of the post, since a repeat
-    /// of it may have one of them taken. The last room of a disk is not for them.
+    /// Keeps the refused points of a post as late data. Does so only after the post is answered, and only if the answer
+    /// is final: a retry of the post may have one of them taken. They must not use up the last room of a disk.
     pub(super) fn keep_late(&self, refusals: Refusals, answer: &Outcome) {
         if !matches!(answer.status(), 200 | 400 | 413) {
             return;

@@ -1,7 +1,8 @@
-//! The way of a post: it is read, put into the book and into the journal under one lock, and answered once it is durable.
+//! The way of a post: it is parsed, put into the book and the journal under one lock, and answered once it is durable.
+//! `Slot::post` and the intake call it.
 //!
-//! Between the book and the journal nothing is waited for. So the journal has the book's order, each post is in both
-//! or in neither, and one whose sender goes away is whole.
+//! Between the book and the journal there is no await. So the journal has the order of the book, and a post is in both
+//! or in neither, even if its sender goes away.
 
 use super::posted::{Posted, RequestReader};
 use super::verdict::Journalled;
@@ -15,22 +16,22 @@ use crate::work::{blocking, locked};
 use bytes::Bytes;
 use std::sync::Arc;
 
-/// So many bytes of requests of earlier hours are flushed at once, and not with the next checkpoint.
+/// If requests of earlier windows have more bytes, the keeper takes a checkpoint at once.
 const MANY_BYTES: usize = 32 << 20;
 const NO_REST: &str = "there is no memory for the rest of a post of several hours";
 
-/// A post that the book and the journal have.
+/// A post that has been put into the book and the journal, or that adds nothing.
 pub(super) struct Put {
     pub journalled: Journalled,
-    /// Whether the book has more by it.
+    /// Whether it has changed the book.
     pub is_in_book: bool,
-    /// How many of its points are taken, and how many were before.
+    /// How many of its points were taken, and how many were duplicates.
     pub points: u64,
     pub duplicates: u64,
 }
 
 impl Slot {
-    /// As `post`, of a request in any form.
+    /// Does what `post` does, for a request in any form.
     pub async fn request(self: &Arc<Slot>, sender: String, request: Request) -> Outcome {
         if !is_sender(&sender) {
             return Refused::BadSender.into();
@@ -84,34 +85,35 @@ impl Slot {
         }
     }
 
-    /// How it was read, where that may hang on what the outbox does not have.
+    /// The settings by which it was read, if these have decided something that the outbox does not have yet.
     fn unkept(&self) -> Option<Arc<Reading>> {
         let reading = self.reading.as_ref()?;
         reading.finer_units.has_unkept().then(|| reading.clone())
     }
 
-    /// The outbox has it before the journal may have the post: else a start would read the next ones otherwise.
+    /// Has the outbox keep these decisions before the journal may have the post: otherwise a start would read later
+    /// posts differently.
     async fn keep(&self, reading: Arc<Reading>) -> Result<(), Lost> {
         let turn = self.keeping.clone().lock_owned().await;
         if !reading.finer_units.has_unkept() {
-            return Ok(()); // another has done it
+            return Ok(()); // another post has done it
         }
         let outbox = self.outbox.clone();
         blocking(move || {
-            let _turn = turn; // also where its sender goes away meanwhile
+            let _turn = turn; // held even if the sender goes away meanwhile
             reading.finer_units.keep(&outbox).map_err(|why| outbox.fail(why))
         })
         .await
     }
 
-    /// Reads what is not read in place.
+    /// Parses a long request on another thread.
     async fn read_long(&self, window: Window, sender: String, request: Request) -> Result<Posted, Refused> {
         let (core, numbers) = (self.core.clone(), self.numbers.clone());
         let reads = move || RequestReader { core: &core, numbers: &numbers, window }.read(sender, request);
         self.readers.read_long(reads).await
     }
 
-    /// Asks for what the sender of a request that is so long may have of points and series.
+    /// Claims points and series from the sender's quota, for a request of this length.
     async fn claim(
         &self,
         sender: &str,
@@ -133,8 +135,8 @@ impl Slot {
         })
     }
 
-    /// Puts a post into the book and into the journal; behind what is in flight, where that is of an hour before. The error
-    /// is why the book was not asked.
+    /// Puts a post into the book and the journal. If a flush of an earlier window is in flight, waits for it and tries
+    /// again. An error says why the book was not asked.
     async fn put_in_turn(
         self: &Arc<Slot>,
         mut posted: Posted,
@@ -142,7 +144,7 @@ impl Slot {
     ) -> Result<Journalled, Reason> {
         let (all, mut apart) = (posted.read.points(), None);
         loop {
-            let landed = self.landed.notified(); // from here on none is missed
+            let landed = self.landed.notified(); // registered before the try, so that none is missed
             let put;
             match apart {
                 None => put = self.put(&mut posted),
@@ -152,7 +154,7 @@ impl Slot {
             }
             match put? {
                 Ok(put) => {
-                    // To look for duplicates costs more than to take points.
+                    // Duplicates count too, since finding them costs more than taking points.
                     claim.keep(put.points + put.duplicates, all);
                     self.count_put(&posted.read.post.sender, &put);
                     return Ok(put.journalled.with_late(posted.late));
@@ -175,7 +177,7 @@ impl Slot {
         }
     }
 
-    /// Counts what was put. The log has once an hour that a sender repeats.
+    /// Counts what was put in. The log says once an hour that a sender repeats points.
     pub(super) fn count_put(&self, sender: &str, put: &Put) {
         self.metrics.accepted(sender, put.points);
         let points = put.duplicates;
@@ -192,8 +194,8 @@ impl Slot {
         }
     }
 
-    /// The same, and why the book refused it: also since what is in flight has to land first. Senders may have made as many series as
-    /// there is memory for: then posts that bring none go on.
+    /// Tries to put a post in; the inner error is the book's refusal, which may be `InFlight`. If there is no memory, a
+    /// post without new series is tried again with more: senders may have made as many series as there is memory for.
     pub(super) fn put(&self, posted: &mut Posted) -> Result<Result<Put, Refused>, Reason> {
         let put = self.put_once(posted)?;
         let has_no_memory = matches!(put, Err(Refused::NoMemory));
@@ -204,7 +206,7 @@ impl Slot {
         Ok(put)
     }
 
-    /// Whether all series of a post were in a flush.
+    /// Whether all series of a post have been flushed before.
     pub(super) fn has_series_of(&self, read: &Read) -> bool {
         let is_known = |series: &SeriesKey| self.outbox.frontier(&series.digest()) > 0;
         match series_of(read)() {
@@ -217,19 +219,19 @@ impl Slot {
     }
 
     fn put_once(&self, posted: &mut Posted) -> Result<Result<Put, Refused>, Reason> {
-        // Others may have come through the door at once.
+        // Other posts may have passed the check of `unavailable` at the same time.
         let Some(_reserved) = self.free_space.reserve(posted.read.bytes()) else {
             return Err(Reason::NoRoom);
         };
-        posted.read.series_apart(); // is found here, without the lock
+        posted.read.series_apart(); // computed here, without the lock
         let book = self.serving_book()?;
         Ok(self.put_locked(book, posted))
     }
 
-    /// The book, while posts are taken.
+    /// Locks the book, if posts are taken.
     pub(super) fn serving_book(&self) -> Result<Locked<'_>, Reason> {
         let book = self.core.lock();
-        // Behind the lock: the last checkpoint may have come between.
+        // Checked under the lock, since the last checkpoint may have come in between.
         match self.phase() {
             Phase::Serving => Ok(book),
             _ => Err(self.unavailable().unwrap_or(Reason::Recovering)),
@@ -253,17 +255,18 @@ impl Slot {
         book.note_recent(&posted.read, &[]);
         let new_series = book.series().saturating_sub(before);
         self.count_post();
-        // Under the lock: so the journal has the book's order, and a checkpoint finds the post in both or in neither.
+        // Under the lock, so that the journal has the order of the book, and a checkpoint finds the post in both or in
+        // neither.
         let journalled = Journalled::taken(posted, &self.journal);
         drop(book);
         self.shares.came(&posted.read.post.sender, new_series, series_of(&posted.read));
         Ok(Put { journalled, is_in_book: true, points: posted.read.points(), duplicates: 0 })
     }
 
-    /// What a refusal is the beginning of.
+    /// Reacts to a refusal: too many series, no memory, or a half-taken post.
     pub(super) fn note_refusal(&self, book: Locked<'_>, refused: Refused) {
         if refused == Refused::HalfTaken {
-            self.end(); // with the lock: nobody may see that book
+            self.end(); // with the lock, so that nobody sees this book
         }
         let has_earlier = book.has_earlier();
         drop(book);
@@ -277,8 +280,9 @@ impl Slot {
         }
     }
 
-    /// The book has a part of a post that the journal has not. Who reads the journal next has neither, and its sender repeats
-    /// it. Of a folder that is the next start; in a store the slot alone ends, and nothing that its book says is answered.
+    /// Ends the shard, because the book has a part of a post that the journal lacks. Whoever reads the journal next has
+    /// no part of it, and the sender retries. In a store only the shard ends, and nothing that its book says is
+    /// answered; in a folder the process ends.
     fn end(&self) {
         if self.journal.close(NO_REST) {
             return self.lose();
@@ -292,19 +296,19 @@ impl Slot {
 
 #[cfg(test)]
 impl Slot {
-    /// The second half of a post's way.
+    /// Puts a parsed post into the book and the journal.
     pub(crate) fn put_of_test(&self, read: crate::core::Read) -> Result<(), Reason> {
         self.put(&mut Posted::whole(read)).map(drop)
     }
 }
 
-/// Says which series a post's points have. It asks nothing of its reader.
+/// Returns the series of a post's points, without using its reader.
 fn series_of(read: &Read) -> impl Fn() -> Series + '_ {
     let (post, names) = (&read.post, read.named());
     move || match (names, &post.body) {
         (Some(names), _) => Series::numbered(names.clone(), post.numbers()),
         (None, Body::Text(text)) => Series::Text(text.clone()),
-        (None, Body::Points(_)) => Series::Text(Bytes::new()), // there are none
+        (None, Body::Points(_)) => Series::Text(Bytes::new()), // it has no points
     }
 }
 

@@ -1,7 +1,8 @@
-//! Which slots are here, and where posts of the others go.
+//! Knows which shards this instance owns, and where posts of the others go. The intake asks it for each post, `service`
+//! sets it.
 //!
-//! A folder has one, and nothing is looked at then. Of several each is here or not, which changes while posts go on: a post has
-//! what it found, also where that changes meanwhile.
+//! A folder has one shard, and no post is split. In a store each shard is here or not, which may change at any time: a
+//! post goes on with what it found.
 
 use crate::otlp::{Encoding, Original, Outcome, Reason, Resources, Split};
 use bytes::Bytes;
@@ -9,15 +10,15 @@ use std::future::Future;
 use std::pin::Pin;
 use std::sync::{Arc, PoisonError, RwLock};
 
-/// Who brings posts to slots that are not here.
+/// Delivers posts to shards of other instances.
 pub trait Elsewhere: Send + Sync + 'static {
-    /// Why no post is taken here now, whosever its slot is.
+    /// Why no post is taken here now, whichever shard it belongs to.
     fn unavailable(&self) -> Option<Reason> {
         None
     }
 
-    /// Has its slot's owner take a part of a request: that owner's answer, or 503 where it can't be had. Then the part may
-    /// have been taken.
+    /// Sends a part of a request to the owner of its shard and returns the owner's answer; 503 if there is none, and
+    /// then the part may have been taken.
     fn post<'a>(
         &'a self,
         slot: u16,
@@ -26,29 +27,29 @@ pub trait Elsewhere: Send + Sync + 'static {
     ) -> Pin<Box<dyn Future<Output = Outcome> + Send + 'a>>;
 }
 
-/// All slots, and what takes posts of those that are here.
+/// All shards, and the takers of those that are here.
 pub struct Slots<T> {
-    /// None where there is one.
+    /// None if there is one shard.
     resources: Option<Resources>,
-    /// What takes the posts of each, if it is here.
+    /// For each shard what takes its posts, if it is here.
     here: Vec<RwLock<Option<Arc<T>>>>,
     elsewhere: Option<Arc<dyn Elsewhere>>,
 }
 
 /// Where a request goes.
 pub enum Way<T> {
-    /// All of it to a slot that is here.
+    /// All of it to a shard that is here.
     Here(Arc<T>),
     Split(Split),
 }
 
 impl<T> Slots<T> {
-    /// Slot 0 alone, which may not be here yet.
+    /// Shard 0 alone, which may not be here yet.
     pub fn one(taker: Option<Arc<T>>) -> Arc<Slots<T>> {
         Arc::new(Slots { resources: None, here: vec![RwLock::new(taker)], elsewhere: None })
     }
 
-    /// As many as resources are put into; none is here.
+    /// As many shards as `resources` maps to; none is here yet.
     pub fn several(resources: Resources, elsewhere: Option<Arc<dyn Elsewhere>>) -> Arc<Slots<T>> {
         let here = (0..resources.slots()).map(|_| RwLock::default()).collect();
         Arc::new(Slots { resources: Some(resources), here, elsewhere })
@@ -68,13 +69,13 @@ impl<T> Slots<T> {
         }
     }
 
-    /// What takes the posts of a slot, if it is here.
+    /// What takes the posts of a shard, if it is here.
     pub fn here(&self, slot: u16) -> Option<Arc<T>> {
         let here = self.here.get(usize::from(slot))?;
-        here.read().unwrap_or_else(PoisonError::into_inner).clone() // one value is sound at any time
+        here.read().unwrap_or_else(PoisonError::into_inner).clone() // one value is always consistent
     }
 
-    /// Says what takes the posts of a slot from now on, if it is here.
+    /// Sets what takes the posts of a shard from now on, if it is here.
     pub fn set(&self, slot: u16, to: Option<Arc<T>>) {
         if let Some(here) = self.here.get(usize::from(slot)) {
             *here.write().unwrap_or_else(PoisonError::into_inner) = to;
@@ -82,7 +83,7 @@ impl<T> Slots<T> {
     }
 
     pub fn count(&self) -> u16 {
-        self.here.len() as u16 // as many as resources have
+        self.here.len() as u16 // as many as `resources` has
     }
 
     /// Why each post is answered 503 now, before it is read.
@@ -90,7 +91,7 @@ impl<T> Slots<T> {
         self.elsewhere.as_ref()?.unavailable()
     }
 
-    /// Brings a part of a request to its slot's owner.
+    /// Sends a part of a request to the owner of its shard.
     pub async fn elsewhere(&self, slot: u16, sender: &str, part: Original) -> Outcome {
         match &self.elsewhere {
             Some(elsewhere) => elsewhere.post(slot, sender, part).await,

@@ -1,26 +1,26 @@
-//! What the book said of a post, and when its sender may hear it.
+//! The answer to a post, and when its sender may get it.
 //!
-//! What the book took is said by a `Journalled` alone, which puts it into the journal first; and only what is durable gives its
-//! verdict away. What is said of a duplicate or a refusal waits for the journal too: it must not outrun the record of
-//! the first attempt, or the sender would drop a batch that a loss of power then takes. Where the slot was lost meanwhile neither is
-//! given: what another instance has says it.
+//! A post that the book took is appended to the journal by the constructor of its `Journalled`, and only a durable
+//! `Journalled` reveals its outcome. The answer to a duplicate or a refused post waits for the journal too: if it
+//! overtook the record of the first attempt, the sender would drop a batch that a loss of power may still take. If the
+//! shard was fenced meanwhile neither is given: the sender gets 503, and the new owner answers its retry.
 
 use super::posted::Posted;
 use crate::files::{Journal, Lost, Ticket};
 use crate::late::Refusals;
 use crate::otlp::{Causes, OffClock, Outcome, Reason, Rejection};
 
-/// What may be said once the journal is durable up to a place.
+/// An outcome that may be revealed once the journal is durable up to a position.
 #[must_use = "a sender waits for it"]
 pub(super) struct Journalled {
     ticket: Ticket,
     outcome: Outcome,
-    /// What its series refused of it.
+    /// The points that their series refused.
     late: Option<Box<Refusals>>,
 }
 
 impl Journalled {
-    /// Puts a post that the book took into the journal: a short lock, and no wait for the disk.
+    /// Appends a post that the book took to the journal. Takes a short lock and does not wait for the disk.
     pub fn taken(posted: &Posted, journal: &Journal) -> Journalled {
         let (post, names) = (&posted.read.post, posted.read.names());
         Journalled {
@@ -30,31 +30,30 @@ impl Journalled {
         }
     }
 
-    /// What nothing was taken of now, as where the book refused it: all that it took before is waited for.
+    /// An outcome of which nothing was taken now, for example a refusal: it waits for everything that was taken before.
     pub fn behind_all(said: impl Into<Outcome>, journal: &Journal) -> Journalled {
         Journalled { ticket: journal.now(), outcome: said.into(), late: None }
     }
 
-    /// The same of a post of which so many points are outside the profile, and others off by their clock or were not taken
-    /// for these reasons.
+    /// Adds how many points are outside the profile, off the clock, or not taken for other causes.
     pub fn without(mut self, foreign: u64, off: OffClock, turned: &Causes) -> Journalled {
         self.outcome = Outcome::taken_but(foreign, off, turned.clone());
         self
     }
 
-    /// The same without these points, which their series refuse.
+    /// Adds the points that their series refuse.
     pub fn without_refused(mut self, refused: Vec<(u64, Rejection)>) -> Journalled {
         self.outcome = self.outcome.without(refused);
         self
     }
 
-    /// The same of a post that has these refused points.
+    /// Adds the refused points that are to be kept.
     pub fn with_late(mut self, late: Option<Refusals>) -> Journalled {
         self.late = late.map(Box::new);
         self
     }
 
-    /// Waits until it may be said: with the points that are kept then.
+    /// Waits until the outcome may be revealed; returns it with the points to keep.
     pub async fn durable(self, journal: &Journal) -> (Outcome, Option<Box<Refusals>>) {
         match journal.durable(self.ticket).await {
             Ok(()) => (self.outcome, self.late),
@@ -88,7 +87,7 @@ mod tests {
         });
         tokio::time::sleep(Duration::from_millis(50)).await;
         let both_wait = answers.iter().all(|answer| !answer.is_finished());
-        // Before a check that may fail: the journal's end waits for the disk.
+        // Before an assertion that may fail: the drop of the journal waits for the disk.
         open.store(true, SeqCst);
         for answer in answers {
             answer.await.unwrap();

@@ -1,4 +1,4 @@
-//! Posts with points that are late, another sender's or were taken before, in each place, beside a model that goes point by point.
+//! Compares posts with late, foreign-owned and duplicate points in all positions with a model that goes point by point.
 
 mod kept;
 
@@ -14,10 +14,10 @@ use std::collections::BTreeMap;
 use std::sync::atomic::{AtomicBool, Ordering::SeqCst};
 use std::time::Duration;
 
-/// Of series of a sender, so many each.
+/// How many series each sender has.
 const SERIES: u64 = 3;
 
-/// A point: its series, by sender and number, its start, its end and its value.
+/// A point: its series (sender and number), its start, its end and its value.
 #[derive(Clone, Copy, Debug, PartialEq, Eq)]
 struct Point {
     series: (char, u64),
@@ -26,12 +26,12 @@ struct Point {
     value: i64,
 }
 
-/// What is to be known of a series.
+/// What the model knows of a series.
 #[derive(Clone, Debug, Default)]
 struct OfSeries {
     end: u64,
     sum: i64,
-    /// What each post had of it.
+    /// The points that each post had of it.
     posts: Vec<Vec<Point>>,
 }
 
@@ -47,7 +47,7 @@ enum Wanted {
 struct Model(BTreeMap<(char, u64), OfSeries>);
 
 impl Model {
-    /// What becomes of each point of a post, as its text says: in order, and each series by itself.
+    /// The fate of each point of a post, by its order in the text, for each series by itself.
     fn post(&mut self, sender: char, points: &[Point]) -> Vec<Wanted> {
         let mut wanted = vec![Wanted::Others; points.len()];
         let mut series: Vec<(char, u64)> = points.iter().map(|point| point.series).collect();
@@ -82,7 +82,7 @@ impl OfSeries {
         fates
     }
 
-    /// The same where no two neighbours are equal.
+    /// The same for points of which no two neighbours are equal.
     fn fates_of_different(&mut self, points: &[Point]) -> Vec<Wanted> {
         let last_two: Vec<Vec<Point>> = self.posts.iter().rev().take(2).cloned().collect();
         let (mut fates, mut taken) = (Vec::<Wanted>::new(), Vec::new());
@@ -122,7 +122,7 @@ fn body(points: &[Point]) -> String {
     format!(r#"{{"resourceMetrics":[{{"scopeMetrics":[{{"metrics":[{}]}}]}}]}}"#, metrics.join(","))
 }
 
-/// Points of a series that go on, or are late, or were in a post before.
+/// Points of a series that continue it, are late, or were in an earlier post.
 fn drawn(chance: &mut TestRandom, model: &Model, sender: char) -> Vec<Point> {
     let owner = if chance.below(8) == 0 { 'B' } else { sender };
     let series = (owner, chance.below(SERIES));
@@ -148,7 +148,7 @@ fn drawn(chance: &mut TestRandom, model: &Model, sender: char) -> Vec<Point> {
     }
 }
 
-/// The points of several series, among each other.
+/// Interleaves the points of several series at random.
 fn mixed(chance: &mut TestRandom, mut parts: Vec<Vec<Point>>) -> Vec<Point> {
     let mut all = Vec::new();
     while !parts.is_empty() {
@@ -167,7 +167,7 @@ async fn posted(slot: &Arc<Slot>, sender: char, body: String, by_number: bool) -
     slot.request(sender.to_string(), request).await
 }
 
-/// What is said: the status, how many points are rejected, and by reason how many and the first one.
+/// What an answer says: the status, how many points are rejected, and for each reason how many and the first one.
 fn said(outcome: &Outcome) -> (u16, u64, Vec<String>) {
     let begin = |message: &str| message.splitn(3, ": ").take(2).collect::<Vec<_>>().join(": ");
     match outcome {
@@ -261,7 +261,7 @@ fn one(start: u64, value: i64) -> String {
     body(&[Point { series: ('A', 0), start, end: start + 1, value }])
 }
 
-/// Else its sender would drop what a loss of power then takes.
+/// Otherwise the sender would drop points that a loss of power may still take.
 #[tokio::test(flavor = "multi_thread")]
 async fn a_duplicate_waits_for_the_first_attempt() {
     let place = tempfile::tempdir().unwrap();
@@ -283,7 +283,7 @@ async fn a_duplicate_waits_for_the_first_attempt() {
     let second = post();
     tokio::time::sleep(Duration::from_millis(50)).await;
     let both_wait = !first.is_finished() && !second.is_finished();
-    // Before a check that may fail: the journal's end waits for the disk.
+    // Before an assertion that may fail: the drop of the journal waits for the disk.
     open.store(true, SeqCst);
     for post in [first, second] {
         assert_eq!(post.await.unwrap(), Outcome::taken(0));
@@ -291,7 +291,7 @@ async fn a_duplicate_waits_for_the_first_attempt() {
     assert!(both_wait);
 }
 
-/// Else a start would put them in too, or count them as a fault.
+/// Otherwise a start would put the refused points in too, or count them as a fault.
 #[tokio::test]
 async fn the_journal_has_what_was_taken_alone() {
     let slot = Slot::in_memory(&Shared::of_test());
@@ -315,7 +315,7 @@ async fn the_journal_has_what_was_taken_alone() {
     assert_eq!(found, [(10, 5), (11, 6)]);
 }
 
-/// What it has for more than one of its series is in one line, whatever names these have.
+/// The points that are refused for one reason are in one line, whatever the names of their series.
 #[tokio::test]
 async fn each_reason_is_told_with_its_first_point() {
     let slot = Slot::in_memory(&Shared::of_test());
@@ -345,7 +345,7 @@ async fn each_reason_is_told_with_its_first_point() {
 
 type Shape = (u16, u64, Vec<(u64, Reason, Option<RejectedPoint>)>);
 
-/// What is to be seen of an answer: of each reason how many points are refused, and the first one.
+/// The comparable part of an answer: for each reason how many points are refused, and the first one.
 fn shape(outcome: &Outcome) -> Shape {
     match outcome {
         Outcome::Taken { rejected, parts, .. } => {
@@ -356,7 +356,7 @@ fn shape(outcome: &Outcome) -> Shape {
     }
 }
 
-/// `totxegun explain` says what a slot answers that has nothing of a body's series.
+/// `totxegun explain` answers as a shard that knows none of the body's series.
 #[tokio::test]
 async fn a_body_is_answered_as_it_is_explained() {
     let (slot, mut random, mut refused) = (Slot::in_memory(&Shared::of_test()), TestRandom(7), 0);

@@ -1,4 +1,4 @@
-//! Each request both ways, to two books: as JSON, and by number.
+//! Gives each request to two books, once as JSON and once by number, and compares them.
 
 use super::*;
 use crate::core::{Across, Read};
@@ -50,7 +50,7 @@ impl Both {
         prepared.map(|prepared| Request::Text(prepared.body)).map_err(|refused| refused.to_string())
     }
 
-    /// What both forward: it is the same to the byte, and so is their report.
+    /// Both forward the same bytes, and their reports are equal. Returns how many requests there were.
     fn flush(&self) -> usize {
         let [slow, fast] = [&self.slow, &self.fast].map(flushed);
         assert_eq!(fast.1, slow.1);
@@ -59,7 +59,7 @@ impl Both {
     }
 }
 
-/// The requests of all that is taken, and a report behind that.
+/// The requests of a flush of everything, and the report after it.
 fn flushed(core: &Arc<Core>) -> (Vec<Vec<u8>>, String) {
     let mut flushed = core.lock().take_all().unwrap();
     let texts = flushed.texts().unwrap();
@@ -95,7 +95,7 @@ fn rules(rules: &[&str]) -> FinerUnits {
     FinerUnits::new(rules).unwrap()
 }
 
-/// The same of texts, of both encodings.
+/// The same for texts of both encodings.
 #[test]
 fn a_text_by_number_is_what_the_library_reads_of_it() {
     let reading = Arc::new(Reading::default());
@@ -111,7 +111,7 @@ fn a_text_by_number_is_what_the_library_reads_of_it() {
         both.by_number += usize::from(by_number.is_some());
         let fast = match by_number {
             None => admitted(&both.fast, &both.numbers, sender, text.clone().into()),
-            // Not by the way back to its text.
+            // Not by way of its text.
             Some(by) => admitted_as_it_is(&both.fast, sender, deltas(by)),
         };
         assert_eq!(fast, slow, "{text:?}");
@@ -126,7 +126,7 @@ fn a_text_by_number_is_what_the_library_reads_of_it() {
     assert!(both.foreign > 2_000, "{}", both.foreign);
 }
 
-/// Without what is cumulative, which is foreign to the library.
+/// The points without the cumulative ones, which are foreign to the library.
 fn deltas(by: ByNumber) -> ByNumber {
     let mut points = Points::default();
     for (place, point) in (0..).zip(by.points.each()) {
@@ -148,8 +148,7 @@ fn admitted_as_it_is(core: &Arc<Core>, sender: &str, by: ByNumber) -> Result<u64
     admitted.map_err(|refused| refused.to_string())
 }
 
-/// Each request in JSON, or protobuf that is written as such, as the library reads it, by number, and as a start reads what the
-/// journal has of it then.
+/// Each request is read as JSON by the library, by number, and as a start reads what the journal has of it.
 #[test]
 fn what_a_text_goes_by_is_what_it_says() {
     let reading = Arc::new(Reading::default());
@@ -180,7 +179,7 @@ fn what_a_text_goes_by_is_what_it_says() {
     assert!(both.taken > 2_000 && both.foreign > 2_000, "{} {}", both.taken, both.foreign);
 }
 
-/// By names that a start has made of those that the journal has.
+/// Reads a post by the names that a start makes of those in the journal.
 fn replayed(core: &Arc<Core>, start: &Arc<Names>, read: &Read) -> Read {
     let mut own = Points::default();
     for point in by_number(read).unwrap().each() {
@@ -191,7 +190,7 @@ fn replayed(core: &Arc<Core>, start: &Arc<Names>, read: &Read) -> Read {
     core.read_points(sender, own, start.clone(), read.post.foreign).unwrap()
 }
 
-/// Where there is no room for its series a text stays one, but where it is of several hours.
+/// If there is no room for its series a text stays text, unless it has points of several hours.
 #[test]
 fn a_text_stays_one_where_there_is_no_room_for_its_series() {
     const HOUR: u64 = 3_600_000_000_000;
@@ -213,7 +212,7 @@ fn a_text_stays_one_where_there_is_no_room_for_its_series() {
     }
 }
 
-/// Where there is room for few series a text has numbers of its own.
+/// If there is room for few series, the text gets numbers of its own.
 #[test]
 fn a_text_has_numbers_also_where_there_is_no_room_for_them() {
     let core = Core::new(1).unwrap();
@@ -227,7 +226,8 @@ fn a_text_has_numbers_also_where_there_is_no_room_for_them() {
     assert_ne!(generation(&one), generation(&other));
 }
 
-/// Else a post of 4 MiB would have gigabytes of them: each of its series has all that its points share.
+/// Otherwise a post of 4 MiB could need gigabytes for them: each of its series has all attributes that its points
+/// share.
 #[test]
 fn numbers_of_one_post_alone_have_a_bound_too() {
     const HOUR: u64 = 3_600_000_000_000;
@@ -262,11 +262,11 @@ fn numbers_of_one_post_alone_have_a_bound_too() {
     assert_eq!((of_two_hours(10), of_two_hours(50)), (Ok(2), Err(Refused::LongSeries)));
 }
 
-/// A post that takes more than it asks room for uses up what the disk keeps back, where many come at once.
+/// Otherwise many such posts at once could use up the room that the disk keeps back.
 #[test]
 fn a_post_asks_for_the_room_that_it_takes_in_the_journal() {
-    const HEAD: u64 = 80; // of its record, and the mark ahead of it
-    const NAME: u64 = 16; // the record of one, beside its text
+    const HEAD: u64 = 80; // of its record, and of the mark before it
+    const NAME: u64 = 16; // the record of a name, without its text
     let place = tempfile::tempdir().unwrap();
     let folder = Folder::open(place.path(), Durability::Process).unwrap();
     let (journal, _) = folder.slot().unwrap();
@@ -274,7 +274,7 @@ fn a_post_asks_for_the_room_that_it_takes_in_the_journal() {
     let written = || std::fs::metadata(&segment).unwrap().len();
     let (reading, mut by) = (Arc::new(Reading::default()), [0; 2]);
     for body in posts_of_test(10, 300).into_iter().map(Bytes::from) {
-        // Numbers of their own: so the journal says all their names.
+        // Fresh numbers, so that the journal defines all their names.
         let (core, numbers, own) = (Core::new(1).unwrap(), Numbers::default(), Numbers::default());
         let text = prepare(Encoding::Protobuf, body.clone(), &reading).map(|prepared| prepared.body.into());
         let by_number = own.read(&core, &body, &reading).map(Request::from);
@@ -295,7 +295,7 @@ fn a_post_asks_for_the_room_that_it_takes_in_the_journal() {
     assert!(by.iter().all(|number| *number >= 50), "{by:?}");
 }
 
-/// Where there is room for few series.
+/// If there is room for few series.
 #[test]
 fn numbers_begin_anew_and_posts_under_way_keep_theirs() {
     let mut both = Both::new(Reading::default());

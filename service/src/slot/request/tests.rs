@@ -1,3 +1,5 @@
+//! Quotas, noted units, and the end of a shard, as the way of a post meets them.
+
 use super::*;
 use crate::shares::{Owned, Rules, Share};
 use crate::slot::Shared;
@@ -9,7 +11,7 @@ use std::time::Duration;
 
 mod units;
 
-/// As where there is no memory to write it: what is in flight never lands, and the slot ends.
+/// Simulates a flush that can never be written: the shard ends.
 #[tokio::test]
 async fn who_waits_behind_what_is_in_flight_is_told_that_the_slot_has_ended() {
     let slot = Slot::in_memory(&Shared::of_test());
@@ -28,7 +30,7 @@ async fn who_waits_behind_what_is_in_flight_is_told_that_the_slot_has_ended() {
     assert!(told.unwrap().status() == 503);
 }
 
-/// Who looks for a series for as long as nobody else has done something.
+/// Blocks each lookup of a series until the test has done something else.
 struct Slow(Mutex<Receiver<()>>);
 
 impl Owned for Slow {
@@ -45,7 +47,7 @@ impl Owned for Slow {
     }
 }
 
-/// Else all others of its thread would wait while its text is read, which may take long.
+/// Otherwise all other posts of its thread would wait while its text is parsed, which may take long.
 #[tokio::test]
 async fn a_long_post_of_who_has_all_of_its_share_is_looked_at_beside_others() {
     let shared = Shared::of_test();
@@ -66,7 +68,7 @@ async fn a_long_post_of_who_has_all_of_its_share_is_looked_at_beside_others() {
     assert_eq!(posting.await.unwrap(), Outcome::taken(0));
 }
 
-/// Nothing is in a flush.
+/// No series has been flushed.
 struct Nothing;
 
 impl Owned for Nothing {
@@ -83,7 +85,7 @@ impl Owned for Nothing {
     }
 }
 
-/// What it has it may post again, also before a flush says whose it is.
+/// A sender may post its own series again, even before a flush makes their owner known.
 #[tokio::test]
 async fn no_sender_comes_over_its_share_of_series_by_one_post() {
     let shared = Shared::of_test();
@@ -121,7 +123,7 @@ fn point(start: u64) -> String {
     format!(r#"{{"resourceMetrics":[{{"scopeMetrics":[{{"metrics":[{}]}}]}}]}}"#, metric("a", start))
 }
 
-/// Of a folder the process ends.
+/// In a folder the process would end.
 #[tokio::test]
 async fn half_a_post_ends_the_slot_alone_where_it_is_in_a_store() {
     let slot = Slot::in_memory(&Shared::of_test());
@@ -133,7 +135,8 @@ async fn half_a_post_ends_the_slot_alone_where_it_is_in_a_store() {
     assert_eq!(told.reason(), Some(Reason::SlotMoves));
 }
 
-/// Another instance may have taken none of it: who repeats the post there may have a point taken that would be kept here.
+/// Another instance may have taken none of the post: the sender retries there, and a point kept here might then be
+/// taken.
 #[tokio::test]
 async fn what_is_refused_of_a_post_of_a_lost_slot_is_not_kept() {
     let slot = Slot::in_memory(&Shared::of_test());

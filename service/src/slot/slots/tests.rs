@@ -1,4 +1,4 @@
-//! Requests in parts, to books and to slots that come and go.
+//! Requests in parts, for books and for shards that come and go.
 
 use super::super::numbers::Numbers;
 use super::super::posted::RequestReader;
@@ -40,7 +40,7 @@ impl Both {
         }
     }
 
-    /// How many points are foreign; none where it is refused.
+    /// How many points are foreign; none if it is refused.
     fn put(&self, book: usize, sender: &str, encoding: Encoding, body: &Bytes) -> Option<u64> {
         let text = prepare(encoding, body.clone(), &self.reading).ok()?.body;
         let window = Clock::default().window();
@@ -76,7 +76,8 @@ impl Both {
             let texts = flushed.texts().unwrap();
             core.lock().settle(flushed).unwrap();
             let report = String::from_utf8(core.lock().report().unwrap()).unwrap();
-            // Series, owners and frontiers: what was accepted is said since the last round, which come by the number of posts.
+            // Series, owners and frontiers only: accepted sums begin anew with each round, and rounds depend on the
+            // number of posts.
             let lines = report.lines().filter_map(|line| line.split(" accepted ").next());
             let mut report: Vec<String> = lines.map(String::from).collect();
             report.sort();
@@ -120,7 +121,7 @@ fn the_parts_of_requests_give_the_counts_and_totals_of_the_whole() {
 
 const SLOTS: u16 = 4;
 
-/// Slots with their books and journals, behind an intake.
+/// Shards with their books and journals, and an intake before them.
 struct Service {
     slots: Arc<Slots<Slot>>,
     all: Vec<Arc<Slot>>,
@@ -144,7 +145,7 @@ impl Hears for Heard {
 }
 
 impl Service {
-    /// No slot takes posts yet.
+    /// No shard takes posts yet.
     fn new(place: &Path) -> Service {
         let metrics = Arc::new(Metrics::new().unwrap());
         let shared = Shared::new(metrics.clone(), Clock::default());
@@ -162,7 +163,7 @@ impl Service {
         Service { slots, all: all.collect(), intake, budget, heard }
     }
 
-    /// Has a slot here.
+    /// Opens a shard and makes it reachable.
     fn open(&self, number: u16) {
         let slot = &self.all[usize::from(number)];
         slot.open();
@@ -197,7 +198,7 @@ impl Service {
     }
 }
 
-/// The name of a process whose resource has a slot.
+/// The name of a process whose resource belongs to this shard.
 fn process(slot: u16) -> String {
     let has_slot = |name: &String| slot_of_process(name) == slot;
     (0..).map(|number| format!("p{number}")).find(has_slot).unwrap()
@@ -226,7 +227,7 @@ fn request(processes: &[(&str, i64)], end: u64) -> Bytes {
     format!(r#"{{"resourceMetrics":[{}]}}"#, resources.join(",")).into()
 }
 
-/// A sender drops what is answered 400: it would take for lost what is there.
+/// A sender drops a post that is answered 400: it would consider the part that was taken as lost.
 #[tokio::test]
 async fn a_repeat_of_a_post_that_was_taken_in_part_is_taken() {
     let place = tempfile::tempdir().unwrap();
@@ -243,7 +244,7 @@ async fn a_repeat_of_a_post_that_was_taken_in_part_is_taken() {
     assert_eq!(service.heard(), ["A 503", "A 200", "A 200"]);
 }
 
-/// By its sender's slot each of two would have it.
+/// If the shard were chosen by the sender, two shards would have the series.
 #[tokio::test]
 async fn a_series_of_two_senders_meets_in_one_slot() {
     let place = tempfile::tempdir().unwrap();
@@ -263,7 +264,7 @@ async fn a_series_of_two_senders_meets_in_one_slot() {
     assert_eq!(service.totals(), [3, 5]);
 }
 
-/// What a post has found it goes to, whoever has the slot then; nothing is taken twice.
+/// A post goes to the shard that it found, whoever owns it by then; nothing is taken twice.
 #[tokio::test(flavor = "multi_thread", worker_threads = 4)]
 async fn slots_come_and_go_while_posts_go_on() {
     let place = tempfile::tempdir().unwrap();
@@ -308,7 +309,7 @@ async fn slots_come_and_go_while_posts_go_on() {
     assert_eq!(in_time.count(), 4 * last as usize, "each post has one answer at the end");
 }
 
-/// A folder's one is asked whatever a request has.
+/// The shard of a folder gets each request, whatever it contains.
 #[tokio::test]
 async fn one_slot_gets_all_requests_as_they_come() {
     let one = Slots::one(Some(Arc::new(5)));

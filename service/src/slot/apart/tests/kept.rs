@@ -3,8 +3,8 @@
 use super::*;
 use crate::late::{LateData, LateValue};
 
-/// What a series refuses is kept by its name, with its sender, its reason, its interval and its value, also if nothing is left of its
-/// post; and not what is taken, or was before.
+/// A point that its series refuses is kept with the name of the series, the sender, the reason, the interval and the
+/// value, even if nothing else of its post is taken. Points that are taken, now or before, are not kept.
 #[tokio::test]
 async fn what_a_series_refuses_is_kept() {
     let place = tempfile::tempdir().unwrap();

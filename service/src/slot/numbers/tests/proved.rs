@@ -1,15 +1,15 @@
-//! Bodies in protobuf by number, beside what the proved readers say of them: of their bytes, and of their JSON; and beside what a
-//! start reads of the journal.
+//! Compares protobuf bodies read by number with the proved readers, of the bytes and of their JSON, and with what a
+//! start reads from the journal.
 
 use super::*;
 use crate::otlp::plain_posts_of_test;
 
 struct Ways {
-    /// By their JSON.
+    /// Read as JSON.
     slow: Arc<Core>,
-    /// As they come.
+    /// Read as they come.
     fast: Arc<Core>,
-    /// By names that a start has made of those that the journal has.
+    /// Read by the names that a start makes of those in the journal.
     again: Arc<Core>,
     start: Arc<Names>,
     numbers: Numbers,
@@ -44,7 +44,7 @@ impl Ways {
         read(core, &self.numbers, sender, request).map_err(|refused| refused.to_string())
     }
 
-    /// What the proved reader of protobuf says of a body that it takes, and of which no point is foreign.
+    /// What the proved protobuf reader says of a body, if it accepts it and no point is foreign.
     fn proved(&self, sender: &str, body: &Bytes) -> Option<Read> {
         let mut read = Read::of_body(&self.fast, sender.into(), body.clone()).ok()?;
         let is_numbered = read.post.foreign == 0 && self.numbers.number(&self.fast, &mut read).is_ok();
@@ -59,7 +59,7 @@ impl Ways {
         let request = by_bytes.map_or_else(|| self.text(&body), |by| Ok(by.into()));
         let fast = request.and_then(|request| self.read(&self.fast, sender, request));
         if let (Ok(slow), Ok(fast)) = (&slow, &fast) {
-            // All words, since the numbers are of one beginning.
+            // All words are equal, since the numbers are of one generation.
             assert_eq!(said(fast), said(slow), "{body:02x?}");
         }
         if let (true, Ok(fast), Some(proved)) =
@@ -86,7 +86,7 @@ impl Ways {
         }
     }
 
-    /// What all forward is the same to the byte.
+    /// All three forward the same bytes.
     fn flush(&self) -> usize {
         let [slow, fast, again] = [&self.slow, &self.fast, &self.again].map(flushed);
         assert_eq!(fast, slow);
@@ -95,7 +95,7 @@ impl Ways {
     }
 }
 
-/// The points of a post: a reader of the library has them in the order of their series.
+/// The points of a post, sorted: a reader of the library has them in the order of their series.
 fn said(read: &Read) -> Option<Vec<&[u64]>> {
     let mut all: Vec<&[u64]> = by_number(read)?.each().collect();
     all.sort_unstable();

@@ -1,4 +1,4 @@
-//! Posts whose units the outbox has to know first.
+//! Posts with units of measure that the outbox has to know first.
 
 use super::*;
 use crate::core::Core;
@@ -6,7 +6,7 @@ use crate::files::{Disk, Durability, Folder};
 use crate::otlp::{taken_of_test, Encoding, FinerUnits};
 use std::sync::atomic::{AtomicBool, Ordering::SeqCst};
 
-/// Else another one would tell the outbox of the same units meanwhile, and neither would know what it has of them.
+/// Otherwise two posts could have the outbox keep the same units at once, and neither would know what it has.
 #[tokio::test]
 async fn the_outbox_is_told_of_units_by_one_at_a_time_also_where_the_sender_goes_away() {
     let (place, open) = (tempfile::tempdir().unwrap(), Arc::new(AtomicBool::new(true)));
@@ -28,10 +28,10 @@ async fn the_outbox_is_told_of_units_by_one_at_a_time_also_where_the_sender_goes
     let outcome = tokio::select! {
         biased;
         outcome = slot.post("A".into(), point(10).into()) => Some(outcome),
-        () = std::future::ready(()) => None, // its sender goes away
+        () = std::future::ready(()) => None, // the sender goes away
     };
     let has_turn = slot.keeping.try_lock().is_err();
-    // Before a check that may fail: the end waits for the disk.
+    // Before an assertion that may fail: the drop of the journal waits for the disk.
     open.store(true, SeqCst);
     assert!(outcome.is_none() && has_turn);
     drop(slot.keeping.lock().await);
