@@ -1,11 +1,14 @@
-//! A checkpoint moves what the book has to the outbox.
+//! A checkpoint moves everything pending in the book to the outbox, as one group of requests. `run` and `orders` make
+//! them.
 //!
-//! Under the lock of the book, and that of the runs before it, all is taken of it, and the journal turns to a new segment. So a group is exactly the
-//! posts of the segments before its commit. The rest is done while posts go on: the requests are written, and what was
-//! taken is settled; the group is committed once all its posts are on the disk, whatever was asked for them, and then the
-//! segments before are deleted. Where there is no memory to take all, it is written in small parts under the lock; and where
-//! there is none for that either it is tried again later. What was taken is not given back, since points of a later hour may
-//! have come meanwhile: without memory to write it, that is tried again, and then the process ends.
+//! Under the locks of the runs and of the book everything is flushed and the journal rolls over to a new segment. So a
+//! group is exactly the posts of the segments before its commit. The rest happens while posts go on: the requests are
+//! serialised and the flushes settled; the group is committed once all its posts are on the disk, whatever
+//! `--durability` is; then the earlier segments are deleted.
+//!
+//! If there is no memory to flush everything at once, it is serialised in small parts under the lock; if there is none
+//! for that either, the checkpoint is retried later. A flush that was taken is never given back, since points of a
+//! later window may have come meanwhile: serialising it is retried, and at last the process ends.
 
 use super::{Carried, Keeper, Trouble};
 use crate::core::{Book, BySeries, Changed, Flushed, Refused};
@@ -18,24 +21,24 @@ use crate::slot::Slot;
 use crate::work::blocking;
 use std::time::{Duration, Instant};
 
-/// How long until a checkpoint is tried again for which there was no memory, and how often one is tried.
+/// The pause before a checkpoint that lacked memory is retried, and the number of tries.
 const BETWEEN_TRIES: Duration = Duration::from_secs(1);
 const TRIES: u32 = 10;
 
-/// What was taken is all posts of the segments before `next` that are in no group yet.
+/// The group of a checkpoint: all posts of the segments before `next` that are in no group yet.
 pub(super) struct Group {
     posts: u64,
     next: u64,
-    /// For all before the turn.
+    /// Durable once everything before the roll is.
     turned: Ticket,
-    /// The runs that are in no commit, as they were at the turn; and so what posts had last of each series.
+    /// The runs that no commit has, as they were at the roll; likewise the last posts of each series.
     runs: Runs,
     recents: Changed,
 }
 
 impl Keeper {
-    /// Moves all that the book has to the outbox, as one group: how many requests. Where there is no memory now the book
-    /// has all still, and the next checkpoint tries again.
+    /// Moves everything pending to the outbox, as one group, and returns how many requests it has. If memory is short,
+    /// the book keeps everything and the next checkpoint tries again.
     pub(super) async fn checkpoint(&mut self) -> Result<Result<u64, Refused>, Trouble> {
         let (slot, carried) = (self.slot.clone(), std::mem::take(&mut self.carried));
         let (carried, done) = blocking(move || checkpoint(&slot, carried)).await?;
@@ -51,7 +54,8 @@ impl Keeper {
         Ok(done)
     }
 
-    /// Ends the keeper after so many tries, with a pause between two. A checkpoint that is ordered within a pause is none of them.
+    /// Ends the keeper after `TRIES` tries with a pause before each. A checkpoint that is ordered during a pause does
+    /// not count.
     fn put_off(&mut self, refused: Refused) -> Result<(), Trouble> {
         if self.put_off == 0 || Instant::now() >= self.next_checkpoint {
             self.put_off += 1;
@@ -84,7 +88,7 @@ fn checkpoint(slot: &Slot, carried: Vec<Vec<u8>>) -> Result<Carried<u64>, Troubl
     }
 }
 
-/// Writes what was taken, as soon as there is memory for it.
+/// Serialises what was flushed; retries while there is no memory.
 fn written(slot: &Slot, flushed: &mut Flushed) -> Result<Vec<Vec<u8>>, Trouble> {
     for tries in 1..TRIES {
         match flushed.texts() {
@@ -107,9 +111,9 @@ fn tell_put_off(slot: &Slot, tries: u32, refused: Refused) {
     );
 }
 
-/// Takes all at once: its requests are written without the lock.
+/// Flushes everything at once and serialises it without the lock.
 fn flush(slot: &Slot, bodies: &mut Vec<Vec<u8>>) -> Result<Result<Group, Refused>, Trouble> {
-    slot.journal.write_all()?; // where the disk stalls, it is waited for without the lock
+    slot.journal.write_all()?; // so that a stalled disk is waited for without the lock
     let began = Instant::now();
     let runs = slot.runs.lock();
     let mut book = slot.core.lock();
@@ -140,14 +144,15 @@ pub(super) fn flush_in_parts(
     Ok(turn(slot, runs, book))
 }
 
-/// Under the lock that took all of the book, and that of the runs: so they are those of the group's posts.
+/// Rolls the journal. The caller holds the locks under which the book was flushed, and that of the runs, so that the
+/// runs match the posts of the group.
 fn turn(slot: &Slot, runs: &State, book: &mut Book) -> Group {
     let (next, turned) = slot.journal.turn();
     let (runs, recents) = (runs.changed(), book.changed_recents());
     Group { posts: slot.ungrouped(), next, turned, runs, recents }
 }
 
-/// As `commit`, for who has no lock: what the outbox has now is noted.
+/// Commits without holding a lock, and records what the outbox has now.
 pub(super) fn commit_and_note(slot: &Slot, bodies: &[Vec<u8>], group: Group) -> Result<u64, Fault> {
     let (requests, saved, noted) = commit(slot, bodies, group)?;
     slot.runs.lock().saved(&saved);
@@ -156,9 +161,10 @@ pub(super) fn commit_and_note(slot: &Slot, bodies: &[Vec<u8>], group: Group) -> 
     Ok(requests)
 }
 
-/// Journal first, then outbox: a group is committed once all its posts are on the disk, and so is what no flush takes. How many
-/// requests it has, which runs, and of which series the ids are to be asked for. Where a drive keeps that order by itself, nothing is waited for: who has a lock may call
-/// it, and settles the outbox without.
+/// Commits a group: the journal is synced first, then the outbox. So a group is committed only once all its posts are
+/// on the disk, including those that no flush takes. Returns the number of requests, the runs that were committed, and
+/// the series whose ids are to be asked for. A store keeps this order by itself; then nothing waits here, so the caller
+/// may hold a lock and settles the outbox after releasing it.
 pub(super) fn commit(slot: &Slot, bodies: &[Vec<u8>], group: Group) -> Result<(u64, Runs, BySeries), Fault> {
     let Group { posts, next, turned, runs, recents } = group;
     let first = slot.outbox.journal();
@@ -179,7 +185,8 @@ pub(super) fn commit(slot: &Slot, bodies: &[Vec<u8>], group: Group) -> Result<(u
     Ok((requests, runs, noted))
 }
 
-/// This is a fault of this program, and a late repeat to such a series may be taken after a start.
+/// Reports series without an owner: a bug of this program, by which a late repeat to such a series may be taken after a
+/// start.
 fn tell_unowned(slot: &Slot, (count, one): (usize, Option<SeriesKey>)) {
     if let Some(one) = one {
         slot.metrics.faults.with_label_values(&["owner"]).inc_by(count as u64);
@@ -198,7 +205,7 @@ mod tests {
     use super::super::tests::keeper;
     use super::*;
 
-    /// Else the process ends before there may be memory again.
+    /// Otherwise the process would end before memory may be free again.
     #[test]
     fn checkpoints_that_are_ordered_while_there_is_no_memory_do_not_end_the_keeper() {
         let place = tempfile::tempdir().unwrap();

@@ -1,17 +1,17 @@
-//! Gives a fresh book what the files say: each series' owner and frontier, the posts that are in no group, the
-//! quarantines.
+//! Fills a fresh book from the files: the owner and frontier of each series, the posts that are in no group, and the
+//! quarantines. `run` calls it at a start, `forget` for a book that replaces another.
 //!
-//! To prime it, each series with frontier F gets a point of value zero over (F-1, F], as its owner's. That is taken, and
-//! thrown away. The book then knows every owner and frontier and has nothing to forward, so a late repeat is refused as
-//! before. Then it gets the posts in the journal's order, which was the order of the book that is gone, but for those of
-//! quarantined senders, which come last.
+//! To seed the book, each series with frontier F gets a point of value zero over (F-1, F] from its owner, and these
+//! points are flushed and discarded. The book then knows every owner and frontier and has nothing to forward, so
+//! duplicates and late points are refused as before. After that it gets the posts of the journal in their order, which
+//! was the order of the old book; only those of quarantined senders come last.
 //!
-//! All of it was taken before, so it may use up the reserve of memory, and where that is too little what the book has is written
-//! under way. Where all is too little nothing is lost: the keeper says so, and the slot takes no posts.
+//! All of it was taken before, so it may use the memory reserve, and if that is too small, pending points are
+//! serialised meanwhile. If even that fails nothing is lost: the keeper reports it, and the shard takes no posts.
 //!
-//! What comes is read side by side, on threads that last as long as it does, and goes in one after the other. So are the series
-//! that the journal names, ahead of that. Posts of one sender go in together, as one (`again`): each of its series has its points
-//! in their order all the same, and a call of the book costs as much as many points.
+//! Posts are parsed in parallel by scoped threads and applied in order; the series that the journal names get their
+//! numbers before, in the same way. Consecutive posts of one sender go in as one (`again`): the points of each of its
+//! series keep their order, and one call of the book costs as much as many points.
 
 mod again;
 mod prime;
@@ -33,21 +33,21 @@ use std::sync::Arc;
 use std::thread::Builder;
 use std::time::{Duration, Instant};
 
-/// How often it is said how far it is.
+/// How often the progress is logged.
 const PROGRESS: Duration = Duration::from_secs(1);
 
-/// What came of it.
+/// The result of filling a book.
 #[derive(Default)]
 pub(super) struct Filled {
-    /// How many posts of the journal went in.
+    /// How many posts of the journal were put in.
     pub posts: u64,
-    /// What had to be taken meanwhile: it belongs to the next group.
+    /// Requests that were serialised meanwhile to make room; they belong to the next group.
     pub carried: Vec<Vec<u8>>,
-    /// What the last commit has of runs, and what the posts said.
+    /// The runs of the last commit, continued by the posts.
     pub runs: State,
 }
 
-/// Of a slot whose book is being primed, where that was begun. None where it was told to stop.
+/// Fills the book of a shard, whose seeding may have begun already. None if it was told to stop.
 pub(super) fn fill_primed(
     slot: &Arc<Slot>,
     priming: Option<Priming>,
@@ -62,7 +62,7 @@ pub(super) fn fill_primed(
     }
 }
 
-/// None where it was told to stop.
+/// None if it was told to stop.
 pub(super) fn fill(
     slot: &Arc<Slot>,
     book: &mut Book,
@@ -72,7 +72,7 @@ pub(super) fn fill(
     replay(slot, book, own, stops)
 }
 
-/// Into a book that is primed, by these numbers.
+/// Puts the posts of the journal into a seeded book; `own` has its numbers.
 fn replay(
     slot: &Arc<Slot>,
     book: &mut Book,
@@ -92,7 +92,7 @@ fn replay(
     let held = slot.outbox.quarantined();
     filling.replay(|post| !held.contains(&post.sender), Book::admit_again)?;
     if !held.is_empty() {
-        // Behind the others: what is taken to make room for these must not be of a quarantined sender.
+        // After the others: whatever is flushed to make room for these posts must not belong to a quarantined sender.
         if !filling.fresh.filled.carried.is_empty() {
             filling.fresh.make_room()?;
         }
@@ -100,7 +100,8 @@ fn replay(
     }
     filling.fresh.quarantine(&held)?;
     filling.fresh.book.note_filled();
-    // They have much to give back, and nobody waits for that: where no thread can be had, it is done where nobody posts.
+    // On a thread, since freeing readers takes long and nobody waits for it. If no thread can be had, they are freed
+    // when nobody posts.
     let _ = Builder::new().name("readers".into()).spawn(free_spare_readers);
     let stopped = (filling.stops)();
     Ok((!stopped).then_some(filling.fresh.filled))
@@ -124,11 +125,11 @@ struct Fresh<'a> {
     shown: Instant,
 }
 
-/// What comes of the journal; none where room is to be made ahead of what is next.
+/// The next posts to put in; none to make room first.
 type Coming = Option<Again>;
 
 impl<S: Fn() -> bool> Filling<'_, S> {
-    /// Puts the posts of the journal that are wanted, in its order.
+    /// Puts in those posts of the journal that are wanted, in its order.
     fn replay(&mut self, is_wanted: impl Fn(&Post) -> bool + Sync, admit: Admit) -> Result<(), Trouble> {
         let Filling { numbers, fresh, stops } = self;
         let slot = fresh.slot;
@@ -145,14 +146,15 @@ impl<S: Fn() -> bool> Filling<'_, S> {
                 said(slot, &own, stops, |said| {
                     let mut groups = Groups::new(&slot.core);
                     for Said { named, mut post } in said {
-                        // Also of a post that is not wanted: no later one says it again.
+                        // Done even if the post is not wanted, since no later post defines the number again.
                         numbers.note(named);
                         if !is_wanted(&post) {
                             continue;
                         }
                         let mut numbered = numbers.number(&mut post);
                         if numbered.is_err_and(|refused| refused.status() == 503) {
-                            // There is no memory for that: it is tried again behind all before it, with room.
+                            // There is no memory for that: tries again with room, after all posts before it were put
+                            // in.
                             put(std::mem::replace(&mut groups, Groups::new(&slot.core)), numbers, queue);
                             queue.push(None);
                             queue.wait_until_empty();
@@ -167,13 +169,13 @@ impl<S: Fn() -> bool> Filling<'_, S> {
     }
 }
 
-/// Whether more is wanted.
+/// Returns whether more is wanted.
 fn put(groups: Groups, numbers: &Numbers, queue: &WorkQueue<Coming>) -> bool {
     groups.into_again(numbers).all(|again| queue.push(Some(again)))
 }
 
 impl Fresh<'_> {
-    /// Where several are refused as one, each goes in by itself.
+    /// Puts in posts as one; if they are refused, puts in each by itself.
     fn replay(&mut self, mut again: Again, admit: Admit) -> Result<(), Trouble> {
         self.say_progress();
         let posts = again.posts();
@@ -190,7 +192,7 @@ impl Fresh<'_> {
         })
     }
 
-    /// A post that a limit refuses is put after a flush.
+    /// Puts in a post, after a flush if a limit refuses it.
     fn replay_one(&mut self, mut again: Again, admit: Admit) -> Result<(), Trouble> {
         let mut put = self.put(&mut again, admit);
         if matches!(put, Err(refused) if refused.status() == 503 && refused != Refused::HalfTaken) {
@@ -201,8 +203,8 @@ impl Fresh<'_> {
         self.count(&again, put)
     }
 
-    /// A post that is refused for good now was in a group before: that is a fault, and nothing would be better for a
-    /// service that stops there.
+    /// Counts a post. If it is now refused for good, it was in a group before: this is reported as a fault, since
+    /// stopping the service would not help.
     fn count(&mut self, again: &Again, put: Result<u64, Refused>) -> Result<(), Trouble> {
         let (sender, foreign) = (&again.sender, again.foreign);
         match put {
@@ -226,7 +228,7 @@ impl Fresh<'_> {
         Ok(())
     }
 
-    /// How many points are foreign.
+    /// Returns how many points are foreign.
     fn put(&mut self, again: &mut Again, admit: Admit) -> Result<u64, Refused> {
         admit(self.book, again.as_read()?)?;
         let read = again.was_read()?;
@@ -237,7 +239,8 @@ impl Fresh<'_> {
         Ok(read.post.foreign)
     }
 
-    /// A fresh book has a point more of each series than the one before, so a limit may be met a little sooner.
+    /// Makes room. A fresh book has one more point of each series than the old one had, so it may reach a limit a
+    /// little sooner.
     fn make_room(&mut self) -> Result<(), Trouble> {
         free_spare_readers();
         self.book.make_room(&mut self.filled.carried).map_err(not_taken)

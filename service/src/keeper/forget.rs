@@ -1,9 +1,9 @@
-//! Series that nobody posts to are forgotten where there are too many, or where an operator says so; and where one ends is put
-//! back. A fresh book that knows no more of them takes the place.
+//! Forgets series that nobody posts to, if there are too many or an operator orders it, and rewinds the ends of series.
+//! In each case a fresh book, which does not know what was removed, replaces the old one.
 //!
-//! All of it is done under the lock of the book: what it has goes to the outbox first, so the fresh one needs what the
-//! files say alone, as at a start. Posts wait meanwhile. What is changed is durable before the fresh book is filled: else a
-//! post that it takes would be out of order for the next start.
+//! All of it happens under the lock of the book, and posts wait meanwhile. Everything pending goes to the outbox first,
+//! so the fresh book is filled from the files alone, as at a start. The change is durable before the fresh book is
+//! filled: otherwise a post that it takes could be out of order for the next start.
 
 use super::checkpoint::{commit, flush_in_parts};
 use super::fill::fill;
@@ -21,13 +21,13 @@ use std::sync::Arc;
 use std::time::{Duration, Instant};
 
 impl Keeper {
-    /// Forgets the series that nobody has posted to for so long.
+    /// Forgets the series that nobody has posted to for `age`.
     pub(super) async fn forget(&mut self, age: Duration) -> Result<(), Trouble> {
-        // What takes long is done before: little is left for the lock.
+        // A checkpoint before this leaves little to do under the lock.
         if self.checkpoint().await?.is_err() {
             return Ok(());
         }
-        // Else all posts would wait for a fresh book that is as the old one, and at each look again.
+        // Otherwise all posts would wait, at each look, for a fresh book that equals the old one.
         let slot = self.slot.clone();
         let helps = blocking(move || Ok::<_, Fault>(slot.outbox.has_any_of(age, &with_posts(&slot)?)));
         if !helps.await? {
@@ -53,7 +53,7 @@ impl Keeper {
         Ok(())
     }
 
-    /// Changes what is known of series. Durable once it is done.
+    /// Changes what is known of series; durable when it returns.
     pub(super) async fn amend(&mut self, amend: Amend) -> Result<Done, Trouble> {
         if let Err(refused) = self.checkpoint().await? {
             return Ok(not_now(refused));
@@ -62,8 +62,8 @@ impl Keeper {
         Ok(done.map_or_else(not_now, Done::Amended))
     }
 
-    /// Changes what the outbox knows of series, and has a fresh book in the place of the one that is there. The error is why
-    /// nothing was changed.
+    /// Changes what the outbox knows of series and replaces the book by a fresh one. An error says why nothing was
+    /// changed.
     async fn renew<T: Send + 'static>(
         &mut self,
         change: impl FnOnce(&Slot) -> Result<T, Fault> + Send + 'static,
@@ -80,7 +80,7 @@ fn renew<T>(slot: &Arc<Slot>, change: impl FnOnce(&Slot) -> Result<T, Fault>) ->
     let mut runs = slot.runs.lock();
     let mut book = slot.core.lock();
     let mut bodies = Vec::new();
-    // Before anything is changed: there has to be memory for two.
+    // Made before anything is changed, since there has to be memory for two books.
     let fresh = slot.core.fresh();
     let flushed = fresh.and_then(|fresh| Ok((fresh, flush_in_parts(slot, &runs, &mut book, &mut bodies)?)));
     let (mut fresh, group) = match flushed {
@@ -95,14 +95,14 @@ fn renew<T>(slot: &Arc<Slot>, change: impl FnOnce(&Slot) -> Result<T, Fault>) ->
     slot.set_ungrouped(filled.posts);
     drop(book);
     drop(runs);
-    drop(old); // without the lock: it has much to give back
+    drop(old); // without the lock, since freeing takes long
     slot.outbox.settle()?;
     let pause = &slot.metrics.checkpoint_pause_seconds;
     pause.observe(began.elapsed().as_secs_f64());
     Ok((filled.carried, Ok(changed)))
 }
 
-/// The book and the runs know otherwise than the files: only a start has both alike.
+/// The book and the runs now differ from the files: only a start makes them equal again.
 fn not_filled(trouble: Trouble) -> Trouble {
     match trouble {
         Trouble::NotFilled(why) | Trouble::NoMemoryToFill(why) => Trouble::NotFilled(format!(
@@ -113,7 +113,8 @@ fn not_filled(trouble: Trouble) -> Trouble {
     }
 }
 
-/// How many. By the clock, not by their points' times. A series with points in the journal that are in no group stays.
+/// Returns how many series were forgotten. Ages are measured by the clock, not by the times of points. A series stays
+/// if the journal has points of it that are in no group.
 fn forget_series(slot: &Slot, age: Duration) -> Result<u64, Fault> {
     let keep = with_posts(slot)?;
     let forgotten = slot.outbox.forget(age, &keep)?.len() as u64;
@@ -121,7 +122,8 @@ fn forget_series(slot: &Slot, age: Duration) -> Result<u64, Fault> {
     Ok(forgotten)
 }
 
-/// The series that have points in the journal that are in no group: behind a group those of quarantined senders alone.
+/// The series with points in the journal that are in no group; after a checkpoint these are the parked posts of
+/// quarantined senders.
 fn with_posts(slot: &Slot) -> Result<HashSet<Digest>, Fault> {
     let mut found = HashSet::new();
     let mut series = SeriesOfPosts::default();
@@ -132,7 +134,7 @@ fn with_posts(slot: &Slot) -> Result<HashSet<Digest>, Fault> {
     Ok(found)
 }
 
-/// The error is a series that is left as it was, and so are all.
+/// The inner error is a series that can't be changed; then none is.
 fn amended(slot: &Slot, amend: &Amend) -> Result<Result<(), SeriesKey>, Fault> {
     let kept_back = with_posts(slot)?;
     let (Amend::Forget(series) | Amend::PutBack { series, .. }) = amend;
@@ -141,7 +143,8 @@ fn amended(slot: &Slot, amend: &Amend) -> Result<Result<(), SeriesKey>, Fault> {
     }
     match amend {
         Amend::Forget(series) => {
-            // What a wrong clock has put ahead ends now; the ends of others stay, so that no repeat is added.
+            // Ends that a wrong clock has put ahead are set to now; the ends of others stay, so that no repeat is
+            // added.
             let now = nanoseconds();
             let is_ahead = |one: &SeriesKey| slot.outbox.ends_after(one, now + AHEAD.as_nanos() as u64);
             let (ahead, others): (Vec<_>, Vec<_>) = series.iter().cloned().partition(is_ahead);
@@ -160,9 +163,10 @@ fn amended(slot: &Slot, amend: &Amend) -> Result<Result<(), SeriesKey>, Fault> {
     Ok(Ok(()))
 }
 
-/// Behind all that was forwarded of them: the sink is told where series end at the latest from now on, before the book takes
-/// what begins there. Else it would leave out what begins before the end that a wrong clock has put ahead, and add what was put
-/// aside before and was posted again since.
+/// Tells the sink at which time the series end at the latest from now on. This comes after everything that was
+/// forwarded of them, and before the book takes points that begin there. Otherwise the sink would leave out points that
+/// begin before an end that a wrong clock had put ahead, and would add dead letters whose points were posted again
+/// since.
 fn tell_sink(slot: &Slot, series: &[SeriesKey], to: u64) -> Result<(), Fault> {
     let requests = Rewind::requests(series, to);
     slot.outbox.commit_with(&requests, slot.outbox.journal(), Runs::new(), &Recents::default())?;

@@ -1,8 +1,14 @@
-//! Keeps the book: checkpoints, quarantines, what is forgotten, and its start.
+//! The keeper of a shard: the one task that starts it, makes checkpoints, and carries out orders. `service` runs one
+//! for each shard.
 //!
-//! One task does all of this, one after the other: `run` waits for what is to be done, `checkpoint` moves what the book
-//! has to the outbox, `forget` leaves out series or puts their ends back, `fill` gives a fresh book what the files say, `series`
-//! says which ones a post has, `numbers` gives them numbers for the book, `rest` gives back memory where nobody posts, `unfilled` waits where a start has too little memory. What takes long is done on threads beside the runtime's.
+//! It does one thing after another, and runs what takes long on blocking threads. Nothing else moves posts from the
+//! journal to the outbox, or replaces the book.
+//!
+//! - `run`: the loop of the task; `orders`: orders of operators.
+//! - `checkpoint`: moves pending points to the outbox.
+//! - `fill`: fills a fresh book from the files; `numbers` and `series`: the series of the journal's posts.
+//! - `forget`: removes series, or rewinds their ends.
+//! - `rest`: gives back memory when nobody posts; `unfilled`: waits if a start lacks memory.
 
 mod checkpoint;
 mod fill;
@@ -25,18 +31,18 @@ use std::sync::Arc;
 use std::time::{Duration, Instant};
 use tokio::sync::{mpsc, oneshot};
 
-/// Orders that wait for their turn. Who gives one more waits for a place.
+/// How many orders may wait for their turn; further callers wait to queue theirs.
 const WAITING_ORDERS: usize = 16;
 
 #[derive(Clone, Debug)]
 pub struct Settings {
-    /// How long between two checkpoints.
+    /// The time between two checkpoints.
     pub every: Duration,
-    /// A series that nobody has posted to for so long is forgotten where there are too many.
+    /// A series that nobody has posted to for so long is forgotten if there are too many.
     pub forget: Option<Duration>,
 }
 
-/// What an operator may order.
+/// The orders of operators.
 #[derive(Clone, Debug, PartialEq, Eq)]
 pub enum Order {
     Checkpoint,
@@ -45,45 +51,45 @@ pub enum Order {
     Amend(Amend),
 }
 
-/// What is changed of what is known of series.
+/// A change of what is known of series.
 #[derive(Clone, Debug, PartialEq, Eq)]
 pub enum Amend {
-    /// Whose they are, and where they end.
+    /// Forgets who owns them and where they end.
     Forget(Vec<SeriesKey>),
-    /// They end at this time, in nanoseconds since 1970, where they ended later.
+    /// Rewinds their ends to this time, in nanoseconds since 1970, if they ended later.
     PutBack { series: Vec<SeriesKey>, to: u64 },
 }
 
-/// How an order ended.
+/// The result of an order.
 #[derive(Clone, Debug, PartialEq, Eq)]
 pub enum Done {
-    /// So many requests went into the outbox.
+    /// How many requests went into the outbox.
     Flushed { requests: u64 },
-    /// The book's answer.
+    /// The answer of the book.
     Answered(Outcome),
-    /// Nothing is changed where one of the series has posts of a quarantined sender, which are kept back.
+    /// The error is a series with parked posts of a quarantined sender; then nothing was changed.
     Amended(Result<(), SeriesKey>),
 }
 
-/// Why a keeper ended, or what it did not do.
+/// Why a keeper ended.
 #[derive(Debug, thiserror::Error)]
 pub enum Trouble {
-    /// Only a new start knows what is on the disk.
+    /// A call on files failed: only a new start finds out what is on the disk.
     #[error("{0}")]
     File(Fault),
-    /// Another instance has the slot, or may have. Nothing but the slot ends.
+    /// The shard is fenced, or may be: another instance has it. Only the shard ends.
     #[error(transparent)]
     Lost(#[from] Lost),
-    /// It was tried often enough. The journal has all.
+    /// A flush could not be serialised after all tries. The journal has everything.
     #[error("there is no memory to flush the book: nothing is lost, since the journal has all that was taken; give a greater --max-memory")]
     NoMemory,
-    /// No book answers so.
+    /// Never answered by a book.
     #[error("the book does not end what was taken of it ({0}): this is a fault of totxegun")]
     Broken(Refused),
     /// A fresh book does not take what the files have.
     #[error("{0}")]
     NotFilled(String),
-    /// The same, for want of memory.
+    /// The same for want of memory.
     #[error("{0}")]
     NoMemoryToFill(String),
 }
@@ -97,12 +103,12 @@ impl From<Fault> for Trouble {
     }
 }
 
-/// Gives orders to a keeper.
+/// Sends orders to a keeper.
 #[derive(Clone)]
 pub struct Orders(mpsc::Sender<(Order, oneshot::Sender<Done>)>);
 
 impl Orders {
-    /// `None` where the service is ending.
+    /// None if the service is ending.
     pub async fn order(&self, order: Order) -> Option<Done> {
         let (to, done) = oneshot::channel();
         self.0.send((order, to)).await.ok()?;
@@ -110,19 +116,19 @@ impl Orders {
     }
 }
 
-/// Keeps the book until it is told to stop; then all that was taken is in the outbox.
+/// Runs until it is told to stop; everything that was taken is then in the outbox.
 pub struct Keeper {
     slot: Arc<Slot>,
     settings: Settings,
     orders: mpsc::Receiver<(Order, oneshot::Sender<Done>)>,
-    /// Of its book, where that was begun.
+    /// The seeding of its book, if it was begun before.
     priming: Option<Priming>,
-    /// What was taken while the book was filled. It belongs to the next group.
+    /// Requests that were serialised while the book was filled; they belong to the next group.
     carried: Vec<Vec<u8>>,
-    /// A sender was released, so that there is something to flush.
+    /// A sender was released, so there is something to flush.
     released: bool,
     next_checkpoint: Instant,
-    /// How many checkpoints were put off, one after the other.
+    /// How many checkpoints in a row lacked memory.
     put_off: u32,
     next_look_at_ages: Instant,
     rest: rest::Rest,
@@ -146,16 +152,16 @@ impl Keeper {
         (keeper, Orders(to))
     }
 
-    /// One whose book is being primed already.
+    /// Takes over the seeding of its book.
     pub fn behind(self, priming: Option<Priming>) -> Keeper {
         Keeper { priming, ..self }
     }
 }
 
-/// What was taken of the book and belongs to the next group, and what came of what was done.
+/// The requests that belong to the next group, and the result.
 type Carried<T> = (Vec<Vec<u8>>, Result<T, Refused>);
 
-/// What the book did not do now. It may do it later.
+/// A refusal that may be gone if the order is given again later.
 fn not_now(refused: Refused) -> Done {
     Done::Answered(refused.into())
 }

@@ -1,4 +1,4 @@
-//! Posts of the journal for the book: what has a number in a file has another one here.
+//! Translates the numbers of series in the journal's files into those of the book, for `fill`.
 
 use crate::core::{Core, Names, Read, Refused};
 use crate::files::{Body, ByNumber, Post};
@@ -6,25 +6,25 @@ use crate::otlp::series::Around;
 use bytes::Bytes;
 use std::sync::{Arc, OnceLock};
 
-/// Takes posts one after the other, each in its turn: a later one does not say again what a number stands for.
+/// Takes the posts in the order of the journal, since a file defines a number only once.
 pub(super) struct Numbers {
     core: Arc<Core>,
     pub own: Arc<Own>,
-    /// By the number in the file that is read.
+    /// By the number in the file that is being read.
     of_file: ByNumber<Option<Number>>,
 }
 
-/// The book's numbers, which series get side by side. Those that are primed have them before any file names one: so the
-/// identity that their points have then is the book's own, whose place it knows.
+/// The book's numbers, which series get in parallel. Series that are seeded have theirs before any file names one, so
+/// that the points of the journal share the book's own identities.
 #[derive(Default)]
 pub(super) struct Own {
-    /// None until a series has one.
+    /// None until the first series gets a number.
     names: OnceLock<Arc<Names>>,
 }
 
-/// What a number in a file stands for.
+/// The series of a number in a file.
 pub(super) enum Number {
-    /// A request of one point that says it.
+    /// Not resolved yet: a request with one point of the series.
     Said(Bytes),
     Own(u64),
 }
@@ -34,13 +34,13 @@ impl Numbers {
         Numbers { core, own, of_file: ByNumber::default() }
     }
 
-    /// From now on these numbers stand for these series.
+    /// Defines these numbers.
     pub fn note(&mut self, named: Vec<(u64, Number)>) {
         named.into_iter().for_each(|(number, known)| *self.of_file.of(number) = Some(known));
     }
 
-    /// Has a post's points have the book's numbers. Where one can't, the post is as it was: `NoSuch` where nothing was said of its
-    /// number.
+    /// Replaces the numbers of a post by the book's. If that fails the post is unchanged; `NoSuch` means that a number
+    /// is not defined.
     pub fn number(&mut self, post: &mut Post) -> Result<(), Refused> {
         if let Body::Points(points) = &mut post.body {
             let own: Result<Vec<u64>, Refused> = points.numbers().map(|number| self.own_of(number)).collect();
@@ -49,14 +49,14 @@ impl Numbers {
         Ok(())
     }
 
-    /// A post that has them, to be read for the book.
+    /// A post with the book's numbers, to be parsed.
     pub fn unread(&self, mut post: Post) -> Result<Read, Refused> {
         let names = match &post.body {
             Body::Text(_) => {
-                post.foreign = 0; // it has them
+                post.foreign = 0; // the text contains them
                 None
             }
-            Body::Points(_) => Some(self.own.names()?.clone()), // it has none but those that the book took
+            Body::Points(_) => Some(self.own.names()?.clone()), // it has only points that the book took
         };
         Ok(self.core.unread(post, names))
     }
@@ -75,7 +75,7 @@ impl Number {
         }
     }
 
-    /// The book's number.
+    /// Resolves the number in the book.
     pub fn be_own(&mut self, of: &Own) -> Result<u64, Refused> {
         let own = match self {
             Number::Own(own) => return Ok(*own),
@@ -95,12 +95,12 @@ impl Own {
         Ok(self.names.get_or_init(|| new))
     }
 
-    /// Two that ask for one at once get the same.
+    /// Two concurrent calls for one series get the same number.
     fn number(&self, text: &[u8]) -> Result<u64, Refused> {
         self.names()?.number_of(text)
     }
 
-    /// Finds the numbers of these, of many at once where they have most in common.
+    /// Resolves these numbers; neighbours that differ little are resolved together.
     pub fn find(&self, mut said: &mut [&mut Number]) {
         let texts: Vec<Bytes> = said.iter().map_while(|number| number.text()).collect();
         let mut texts = &texts[..];
@@ -113,20 +113,20 @@ impl Own {
                 self.find_alike(those, &around.with(&points));
             }
             for number in those {
-                let _ = number.be_own(self); // it is asked for again in its turn
+                let _ = number.be_own(self); // if this fails, it is tried again later
             }
             (said, texts) = (left, &texts[alike..]);
         }
     }
 
-    /// By a request of their points, where the library says as many words of them as of sums: else they are found one by one.
+    /// Resolves them by one request, if the library finds one sum for each; otherwise they are resolved one by one.
     fn find_alike(&self, said: &mut [&mut Number], request: &[u8]) {
         let found = self.names().ok().and_then(|names| names.numbers_of(request, said.len()));
         let found = found.into_iter().flatten();
         said.iter_mut().zip(found).for_each(|(number, own)| **number = Number::Own(own));
     }
 
-    /// The series of a post that was read have numbers from now on, as far as there is memory.
+    /// Gives numbers to the series of a parsed post, as far as there is memory.
     pub fn note(&self, read: &mut Read) {
         if let Ok(names) = self.names() {
             read.note(names);
@@ -140,7 +140,7 @@ mod tests {
     use crate::files::Names as _;
     use crate::otlp::series::only;
 
-    /// Requests of a point each, which have all else in common.
+    /// Requests with one point each that differ only in one attribute.
     fn texts(metric: &str, data: &str, says: &str, attributes: std::ops::Range<u8>) -> Vec<Bytes> {
         let text = |attribute| {
             format!(

@@ -1,4 +1,4 @@
-//! What an operator orders.
+//! Carries out the orders of operators.
 
 use super::checkpoint::{commit_and_note, flush_in_parts};
 use super::{not_now, Carried, Done, Keeper, Order, Trouble};
@@ -23,9 +23,9 @@ impl Keeper {
         }
     }
 
-    /// In the book first, and then durable: a start quarantines who is noted.
+    /// Quarantines a sender in the book first, then durably: a start quarantines the senders that the outbox notes.
     async fn quarantine(&mut self, sender: String) -> Result<Done, Trouble> {
-        // What is taken, and in no group yet, would be held too.
+        // What was flushed and is in no group yet would be parked too.
         if !self.carried.is_empty() || self.slot.core.lock().has_earlier() {
             if let Err(refused) = self.checkpoint().await? {
                 return Ok(not_now(refused));
@@ -42,15 +42,15 @@ impl Keeper {
         Ok(Done::Answered(Outcome::taken(0)))
     }
 
-    /// Durable first, and then in the book: a start that quarantines the sender still would put what it posts now in with what
-    /// is kept back, over hours.
+    /// Releases a sender durably first, then in the book: otherwise a start that still quarantines the sender would put
+    /// its new posts together with the parked ones, across windows.
     async fn lift(&mut self, sender: String) -> Result<Done, Trouble> {
         let (outbox, of) = (self.slot.outbox.clone(), sender.clone());
         blocking(move || outbox.lift(&of)).await?;
         let done = self.slot.core.lock().lift(&sender);
         match done {
             Ok(()) => {}
-            // Its posts are held no more: the next checkpoint would let go of what the book keeps back.
+            // Its posts are no longer parked: the next checkpoint would drop what the book keeps back.
             Err(Refused::NoMemory) => return Err(Trouble::NoMemory),
             Err(refused) => return Ok(not_now(refused)),
         }
@@ -59,7 +59,8 @@ impl Keeper {
     }
 }
 
-/// In the book. Where something was taken meanwhile it is made a group of all that came, under the lock: it is little.
+/// Quarantines a sender in the book. If something was flushed meanwhile, makes a group of everything under the lock,
+/// since it is little.
 fn quarantine(slot: &Slot, sender: &str) -> Result<Carried<()>, Trouble> {
     let runs = slot.runs.lock();
     let mut book = slot.core.lock();

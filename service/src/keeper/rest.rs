@@ -1,5 +1,5 @@
-//! Where nobody posts, what is there for posts alone is given back: readers with what they know, what the books keep of posts
-//! until their rounds are closed, and what the allocator keeps for whoever asks next.
+//! Gives back memory when nobody posts: idle readers, what the books keep of posts until their rounds are closed, and
+//! the free memory of the allocator. `run` calls it at each look.
 
 use super::Keeper;
 use crate::core::{free_idle_readers, give_back_memory};
@@ -7,10 +7,10 @@ use crate::slot::Slot;
 use crate::work::blocking;
 use std::time::{Duration, Instant};
 
-/// How often it is looked whether anything came, and how long a reader is kept that nobody uses.
+/// How often it looks whether anything was posted, and how long an idle reader is kept.
 const LOOK: Duration = Duration::from_secs(10);
 
-/// When it is looked next, and what had come when it was looked last.
+/// When it looks next, and how many calls the book had had at the last look.
 pub(super) struct Rest {
     next: Instant,
     came: u64,
@@ -34,12 +34,12 @@ impl Keeper {
     }
 }
 
-/// What has come by now.
+/// Returns how many calls the book has had by now.
 fn rest(slot: &Slot, before: u64) -> u64 {
     free_idle_readers(LOOK);
     let came = slot.core.lock().came();
     if came == before {
-        // The lock is another's between two books: a post may come again.
+        // The lock is released between two books, since a post may come.
         while slot.core.lock().close_round_at_rest() {}
         give_back_memory();
     }
@@ -52,7 +52,7 @@ mod tests {
     use crate::core::{given_back, tests::points};
     use crate::keeper::tests::keeper;
 
-    /// Looks now; how many rounds were closed.
+    /// Looks now; returns how many rounds were closed.
     async fn look(keeper: &mut Keeper) -> usize {
         keeper.rest.next = Instant::now();
         keeper.rest().await;
@@ -74,13 +74,13 @@ mod tests {
             assert_eq!(slot.core.lock().admit(&mut read).is_ok(), is_taken);
             assert_eq!(look(&mut keeper).await, 0, "a post came");
         }
-        // One after the other is freed: by itself the allocator gives back one of many.
+        // Every second block is freed: by itself the allocator returns only one of many to the system.
         let block = || vec![1u8; BLOCK];
         let (freed, _kept): (Vec<_>, Vec<_>) = (0..BLOCKS).map(|_| (block(), block())).unzip();
         let before = given_back();
         drop(freed);
         assert_eq!(look(&mut keeper).await, 1);
-        // Other tests free and use some meanwhile.
+        // Other tests allocate and free meanwhile.
         assert!(given_back() > before + BLOCK * BLOCKS / 2);
         assert_eq!(look(&mut keeper).await, 0, "there is no other");
     }

@@ -1,4 +1,4 @@
-//! Starts, waits for what is to be done, and does one thing after the other.
+//! The loop of the keeper: starts the shard, then waits for events and handles one after another.
 
 use super::fill::{fill_primed, Filled};
 use super::{Keeper, Trouble};
@@ -12,23 +12,23 @@ use std::time::{Duration, Instant, SystemTime, UNIX_EPOCH};
 use tokio::sync::watch;
 use tokio::time::MissedTickBehavior;
 
-/// How often it is looked whether a checkpoint is due.
+/// How often it looks whether a checkpoint is due.
 const LOOK: Duration = Duration::from_millis(50);
-/// A checkpoint comes early after so many posts: a start puts in again what is in no group.
+/// A checkpoint is due early after so many posts, because a start has to put in what is in no group.
 const MANY_POSTS: u64 = 300_000;
-/// In a store senders wait while that is done for who takes over a slot, so it comes after what takes about a second: so many
-/// posts, or so many bytes of the journal.
+/// In a store the next owner replays the journal while senders wait, so a checkpoint is due after what takes about a
+/// second: so many posts, or so many bytes of the journal.
 const MANY_POSTS_IN_STORE: u64 = 20_000;
 const MANY_BYTES_IN_STORE: u64 = 64 << 20;
-/// How often it is looked whether there are series to forget where there are too many, and how often some are.
+/// How often it looks for series to forget while there are too many, and the pause after some were forgotten.
 const BETWEEN_LOOKS_AT_AGES: Duration = Duration::from_secs(1);
 const BETWEEN_FORGETTING: Duration = Duration::from_secs(10);
-/// A series that ends so long after the clock's time is told of at the start.
+/// Series that end further ahead of the clock are reported at the start.
 pub(super) const AHEAD: Duration = Duration::from_secs(3600);
 
 impl Keeper {
-    /// Returns once all that was taken is in the outbox after `stop`, or where it can't go on. A stop that comes
-    /// during the start leaves posts in the journal alone: the next start puts them in.
+    /// Returns when everything that was taken is in the outbox after `stop`, or when it can't go on. A stop during the
+    /// start leaves posts in the journal, and the next start puts them in.
     pub async fn run(mut self, mut stop: watch::Receiver<bool>) -> Result<(), Trouble> {
         let ended = self.serve(&mut stop).await;
         match ended {
@@ -45,7 +45,7 @@ impl Keeper {
     async fn serve(&mut self, stop: &mut watch::Receiver<bool>) -> Result<(), Trouble> {
         self.begin().await?;
         match self.start(stop).await {
-            // Of a store another instance may have more.
+            // In a store another instance may have more memory.
             Err(Trouble::NoMemoryToFill(why)) if !self.slot.journal.is_in_store() => {
                 return self.stay_unfilled(&why, stop).await;
             }
@@ -66,14 +66,14 @@ impl Keeper {
                 () = stop.wait_true() => return self.finish().await,
                 Some((order, to)) = self.orders.recv() => {
                     let done = self.carry_out(order).await?;
-                    // Also of what was refused: by a slot that is another's nothing is said.
+                    // After a refusal, too: a shard that is fenced says nothing.
                     let outbox = self.slot.outbox.clone();
                     blocking(move || outbox.settle()).await?;
-                    let _ = to.send(done); // who ordered it may not wait any more
+                    let _ = to.send(done); // the caller may not wait any more
                 }
                 () = self.slot.crowded.notified() => self.forget_if_it_helps().await?,
                 () = self.slot.hurried.notified() => {
-                    // One that was put off has its own time.
+                    // A checkpoint that was put off has its own time.
                     if self.put_off == 0 {
                         let _put_off = self.checkpoint().await?;
                     }
@@ -83,16 +83,16 @@ impl Keeper {
         }
     }
 
-    /// Deletes what the last commit has left of the journal.
+    /// Deletes the segments of the journal that the last commit has made obsolete.
     pub(super) async fn begin(&mut self) -> Result<(), Trouble> {
         let slot = self.slot.clone();
         blocking(move || Ok(slot.journal.forget(slot.outbox.journal())?)).await
     }
 
-    /// Fills the book: false where it was told to stop before.
+    /// Fills the book; false if it was told to stop first.
     pub(super) async fn start(&mut self, stop: &watch::Receiver<bool>) -> Result<bool, Trouble> {
         let began = Instant::now();
-        // What is read of the journal has to be there.
+        // What is read of the journal has to be durable first.
         self.slot.journal.durable(self.slot.journal.now()).await?;
         let (slot, stop, priming) = (self.slot.clone(), stop.clone(), self.priming.take());
         let filled = blocking(move || fill_primed(&slot, priming, || *stop.borrow())).await?;
@@ -116,8 +116,9 @@ impl Keeper {
         Ok(true)
     }
 
-    /// In a store that went back a sink may have all that the journal brought, and nothing of what comes: both as one would be left
-    /// out, or count twice. Nothing says in time whether it went back.
+    /// Makes a group of what was put in, before the first post. If a store went back, a sink may have all that the
+    /// journal brought, and nothing of what comes next; if both were one request it would be left out or count twice.
+    /// Nothing says in time whether a store went back.
     async fn flush_what_was_filled(&mut self) -> Result<(), Trouble> {
         if self.slot.journal.is_in_store() && (self.slot.ungrouped() > 0 || !self.carried.is_empty()) {
             let _put_off = self.checkpoint().await?; // without memory for it, it comes later
@@ -142,7 +143,7 @@ impl Keeper {
         ungrouped > 0 || self.released || !self.carried.is_empty()
     }
 
-    /// Whether what is in no group, so many posts, would take a start long.
+    /// Whether a start would take long to put in what is in no group, `ungrouped` posts.
     fn has_many(&self, ungrouped: u64) -> bool {
         let journal = &self.slot.journal;
         match journal.is_in_store() {
@@ -151,7 +152,7 @@ impl Keeper {
         }
     }
 
-    /// A fresh book without the series that nobody posts to, where there are some.
+    /// Forgets series that nobody posts to, if there are any.
     async fn forget_if_it_helps(&mut self) -> Result<(), Trouble> {
         let Some(age) = self.settings.forget else {
             return Ok(());
@@ -167,8 +168,8 @@ impl Keeper {
         Ok(())
     }
 
-    /// Refuses posts from now on, and makes a last checkpoint. Then each sender that still waits for its answer is told: what
-    /// follows may be that another instance has the slot, and then a post that is durable would be answered 503.
+    /// Refuses posts from now on, makes a last checkpoint, and then waits for the journal, so that each waiting sender
+    /// gets its answer. After this another instance may take the shard, and a durable post would be answered 503.
     async fn finish(&mut self) -> Result<(), Trouble> {
         self.slot.stop();
         let slot = self.slot.number();
@@ -191,7 +192,7 @@ impl Keeper {
     }
 }
 
-/// Of such series right points are refused.
+/// Reports series that end far ahead of the clock, since their good points are refused.
 fn tell_ahead(slot: &Slot) {
     let now = SystemTime::now().duration_since(UNIX_EPOCH).unwrap_or_default() + AHEAD;
     let (series_count, last) = slot.outbox.ahead_of(u64::try_from(now.as_nanos()).unwrap_or(u64::MAX));
@@ -207,7 +208,7 @@ fn tell_ahead(slot: &Slot) {
     }
 }
 
-/// Posts in no group, of a journal of so many bytes.
+/// Whether so many posts in no group, in a journal of so many bytes, are many for a store.
 fn are_many_in_store(posts: u64, bytes: u64) -> bool {
     posts > MANY_POSTS_IN_STORE || posts > 0 && bytes > MANY_BYTES_IN_STORE
 }
@@ -217,7 +218,7 @@ mod tests {
     use super::super::tests::keeper;
     use super::*;
 
-    /// Else ten tries take half a second, and the process ends.
+    /// Otherwise ten tries would take half a second, and the process would end.
     #[tokio::test]
     async fn a_checkpoint_that_was_put_off_waits_for_its_time_however_many_posts_there_are() {
         let place = tempfile::tempdir().unwrap();
@@ -240,7 +241,7 @@ mod tests {
     fn a_checkpoint_comes_early_by_posts_and_by_bytes() {
         let (posts, bytes) = (MANY_POSTS_IN_STORE, MANY_BYTES_IN_STORE);
         for (posts, bytes, are_many) in [
-            (0, u64::MAX, false), // all is in a group
+            (0, u64::MAX, false), // everything is in a group
             (posts, 0, false),
             (posts + 1, 0, true),
             (1, bytes, false),

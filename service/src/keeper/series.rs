@@ -1,19 +1,19 @@
-//! The series of the journal's posts, whether they are texts or points by number.
+//! Finds the series of the journal's posts, whether these are text or points by number. `forget` asks it.
 
 use crate::core::series_of_text;
 use crate::files::{Body, Replayed};
 use crate::otlp::series::{only, Digest};
 use std::collections::{HashMap, HashSet};
 
-/// Reads posts one after the other, each in its turn: a later one does not say again what a number stands for.
+/// Takes the posts in the order of the journal, since a file defines a number only once.
 #[derive(Default)]
 pub(super) struct SeriesOfPosts {
-    /// None where the text of a name is not that of one point.
+    /// None if the text of a name does not have exactly one point.
     named: HashMap<u64, Option<Digest>>,
 }
 
 impl SeriesOfPosts {
-    /// Those with points of the profile; none where the book would refuse the post whole.
+    /// The series with points of the profile; none if the book would refuse the whole post.
     pub fn of(&mut self, read: &Replayed) -> Option<HashSet<Digest>> {
         for (number, text) in &read.named {
             self.named.insert(*number, only(text).map(|key| key.digest()));

@@ -1,4 +1,4 @@
-//! What a keeper does over files: in which order, while a disk is slow, over restarts, and where series are forgotten.
+//! The keeper over files: the order of its writes, slow disks, restarts, and forgetting series.
 
 mod amend;
 mod cumulative;
@@ -32,7 +32,7 @@ struct Run {
 }
 
 impl Run {
-    /// A slot that takes posts, in a folder of its own.
+    /// A shard that takes posts, in a folder of its own.
     async fn begin(place: &Path, disk: Disk) -> Run {
         let folder = Folder::open_on(disk, &place.join("data"), Durability::Process).unwrap();
         Run::begin_in(folder, settings()).await
@@ -59,13 +59,13 @@ impl Run {
         Run { slot, orders, stop, running }
     }
 
-    /// A point of a series after those before.
+    /// Posts the next point of a series.
     async fn post(&self, number: u64) -> Outcome {
         post_of(&self.slot, number).await
     }
 
-    /// A post of each of many senders, and a thread for each. None is in the journal before all others but so many were
-    /// answered, or a while has passed: the book is held.
+    /// Posts for many senders, each on a thread of its own. The lock of the book is held until all but `waiting` of
+    /// them are answered, or a while has passed; so before that none is in the journal.
     fn post_at_once(&self, bodies: Vec<String>, waiting: usize) -> Vec<Outcome> {
         let (book, begun) = (self.slot.core.lock(), Instant::now());
         let answered = bodies.len() - waiting;
@@ -95,7 +95,7 @@ impl Run {
     }
 }
 
-/// What the outbox has, as a sink takes it.
+/// The sum of everything in the outbox, as a sink would add it up.
 async fn sum_of_all(slot: &Slot) -> i64 {
     let mut sum = 0;
     while slot.outbox.waiting().0 > 0 {
@@ -122,7 +122,7 @@ fn point(name: &str, number: u64) -> String {
     )
 }
 
-/// One of a series that takes so many bytes in the journal, since it has little in common with others.
+/// A point of a series that takes so many bytes in the journal because it shares little with others.
 fn long_point(series: usize, length: usize) -> String {
     let digits = |at: usize| format!("{:016x}", (at as u64 + 1).wrapping_mul(0x9e37_79b9_7f4a_7c15));
     let attribute = |(key, at): (usize, usize)| {
@@ -135,12 +135,12 @@ fn long_point(series: usize, length: usize) -> String {
     point(&format!("n{series}"), 1).replace("\"asInt\"", &attributes)
 }
 
-/// A keeper that orders nothing by itself.
+/// A keeper that makes no checkpoints by itself.
 pub(crate) fn settings() -> Settings {
     Settings { every: Duration::from_secs(3600), forget: None }
 }
 
-/// One that has not begun.
+/// A keeper that has not begun.
 pub(super) fn keeper(place: &Path) -> Keeper {
     let folder = Folder::open(&place.join("data"), Durability::Process).unwrap();
     let (journal, outbox) = folder.slot().unwrap();
@@ -153,7 +153,8 @@ fn is_in(part: &str, path: &Path) -> bool {
     path.to_string_lossy().contains(part)
 }
 
-/// Else a loss of power leaves a group of a series whose owner nobody knows any more, and a repeat is counted again.
+/// Otherwise a loss of power could leave a group of a series whose owner nobody knows any more, and a repeat would
+/// count again.
 #[tokio::test(flavor = "multi_thread")]
 async fn a_group_is_committed_once_its_posts_are_on_the_disk_also_where_posts_are_only_written() {
     let place = tempfile::tempdir().unwrap();
@@ -178,7 +179,8 @@ async fn a_group_is_committed_once_its_posts_are_on_the_disk_also_where_posts_ar
     run.end().await;
 }
 
-/// Else a start that quarantines it still puts what came meanwhile in with what is kept back: as one point, over all its hours.
+/// Otherwise a start that still quarantines the sender would put its new posts together with the parked ones, as one
+/// point over all their windows.
 #[tokio::test(flavor = "multi_thread")]
 async fn nothing_of_a_sender_is_taken_before_it_is_noted_that_it_is_released() {
     let place = tempfile::tempdir().unwrap();
@@ -204,7 +206,7 @@ async fn nothing_of_a_sender_is_taken_before_it_is_noted_that_it_is_released() {
     run.end().await;
 }
 
-/// Else a checkpoint lets go of its posts, which the book keeps back, while the outbox has it released.
+/// Otherwise a checkpoint would drop its posts, which the book keeps back although the outbox has the sender released.
 #[test]
 fn a_release_that_finds_no_memory_in_the_book_ends_the_slot() {
     let place = tempfile::tempdir().unwrap();
@@ -229,7 +231,7 @@ fn a_release_that_finds_no_memory_in_the_book_ends_the_slot() {
     });
 }
 
-/// Nobody who posts waits for the disk of a group, and what comes meanwhile is in the next one.
+/// No post waits for the sync of a group, and posts that come meanwhile are in the next group.
 #[tokio::test(flavor = "multi_thread")]
 async fn posts_go_on_while_a_group_is_committed() {
     let place = tempfile::tempdir().unwrap();
@@ -264,7 +266,8 @@ async fn posts_go_on_while_a_group_is_committed() {
     run.end().await;
 }
 
-/// Else its points are in a group whose commit says that it is in none: a start would put it in again.
+/// Otherwise its points would be in a group whose commit says that they are in none, and a start would put them in
+/// again.
 #[tokio::test(flavor = "multi_thread")]
 async fn a_checkpoint_waits_for_a_post_that_is_written() {
     let place = tempfile::tempdir().unwrap();
@@ -275,7 +278,7 @@ async fn a_checkpoint_waits_for_a_post_that_is_written() {
     while run.slot.ungrouped() == 0 {
         tokio::time::sleep(Duration::from_millis(1)).await;
     }
-    // The book has it, and who wants to take it out waits.
+    // The book has the post, and a flush has to wait.
     let taking = tokio::task::spawn_blocking(move || core.lock().series());
     tokio::time::sleep(Duration::from_millis(100)).await;
     let is_taken = taking.is_finished();
@@ -287,7 +290,7 @@ async fn a_checkpoint_waits_for_a_post_that_is_written() {
     run.end().await;
 }
 
-/// The door is looked at again under the lock: what is taken after the last checkpoint would be in no group.
+/// Whether posts are taken is checked again under the lock: a post after the last checkpoint would be in no group.
 #[tokio::test(flavor = "multi_thread")]
 async fn nothing_is_taken_after_the_last_checkpoint() {
     let place = tempfile::tempdir().unwrap();
@@ -301,7 +304,8 @@ async fn nothing_is_taken_after_the_last_checkpoint() {
     assert_eq!(slot.ungrouped(), 0);
 }
 
-/// Else they use up what is kept back, and no start has room for its own files until somebody makes some.
+/// Otherwise they could use up the reserved room, and no start would have room for its own files until somebody frees
+/// some.
 #[tokio::test(flavor = "multi_thread")]
 async fn posts_that_come_at_once_leave_the_room_that_is_kept_for_commits() {
     const KEPT: u64 = 256 << 20;

@@ -1,6 +1,6 @@
-//! A slot of a folder whose book could not be filled at the start, for want of memory: what is in the outbox is delivered and shown,
-//! posts and orders are answered 503. The service before it took what the journal has, so one that ended here would keep all
-//! deliveries waiting for an operator.
+//! Runs a shard of a folder whose book could not be filled for want of memory: the outbox is still delivered and shown,
+//! while posts and orders get 503. An earlier run took what the journal has, so if the service ended here, all
+//! deliveries would wait for an operator.
 
 use super::{not_now, Keeper, Trouble};
 use crate::core::Refused;
@@ -9,7 +9,7 @@ use crate::work::blocking;
 use tokio::sync::watch;
 
 impl Keeper {
-    /// Returns once it is told to stop. The journal stays as it is.
+    /// Returns when it is told to stop. The journal stays as it is.
     pub(super) async fn stay_unfilled(
         &mut self,
         why: &str,
@@ -26,7 +26,7 @@ impl Keeper {
                 Some((_, to)) = self.orders.recv() => {
                     let outbox = self.slot.outbox.clone();
                     blocking(move || outbox.settle()).await?;
-                    let _ = to.send(not_now(Refused::NoMemory)); // who ordered it may not wait any more
+                    let _ = to.send(not_now(Refused::NoMemory)); // the caller may not wait any more
                 }
             }
         }

@@ -1,32 +1,32 @@
-//! Posts that a book had, and is to have again. Those of a sender go in together where they can: no series has points of two
-//! senders, so only the order of each one's own says anything.
+//! Posts of the journal that go into a book again. Posts of one sender go in together if they can: no series has points
+//! of two senders, so only the order within a sender matters.
 
 use super::super::numbers::Numbers;
 use crate::core::{Core, Read, Refused};
 use crate::files::{Body, Points, Post};
 use ahash::AHashMap;
 
-/// So many points go together, so that none takes long.
+/// The most points of posts that go in together, so that no call takes long.
 const MOST_POINTS: usize = 1000;
 
-/// Posts of one sender, one behind the other, as one.
+/// Consecutive posts of one sender, joined into one.
 pub struct Again {
     pub sender: String,
-    /// So many of their points were foreign.
+    /// How many of their points were foreign.
     pub foreign: u64,
-    /// Why they can't be read by number.
+    /// The error says why they can't be read by number.
     read: Result<Read, Refused>,
-    /// What was said when they were read.
+    /// The result of parsing.
     said: Result<(), Refused>,
-    /// Where there are several.
+    /// The posts, if there are several.
     each: Vec<Post>,
 }
 
-/// Posts in their order, those of a sender that go together.
+/// Collects posts in their order, into groups that go in together.
 pub struct Groups<'c> {
     core: &'c Core,
     all: Vec<Group>,
-    /// Of each sender the last.
+    /// The last group of each sender.
     last: AHashMap<String, usize>,
 }
 
@@ -34,7 +34,7 @@ pub struct Groups<'c> {
 struct Group {
     posts: Vec<Post>,
     points: usize,
-    /// In which all of it ends: else nothing goes with it.
+    /// The window of all its points; none if nothing may be joined to it.
     stretch: Option<u64>,
     refused: Option<Refused>,
 }
@@ -44,7 +44,7 @@ impl Groups<'_> {
         Groups { core, all: Vec::new(), last: AHashMap::new() }
     }
 
-    /// One that has the book's numbers, or why it has none.
+    /// Adds a post that has the book's numbers, or the reason why it has none.
     pub fn push(&mut self, post: Post, numbered: Result<(), Refused>) {
         let refused = numbered.err();
         let points = match &post.body {
@@ -98,34 +98,34 @@ impl Again {
         }
     }
 
-    /// What was read.
+    /// The parsed post.
     pub fn as_read(&mut self) -> Result<&mut Read, Refused> {
         self.said?;
         self.read.as_mut().map_err(|refused| *refused)
     }
 
-    /// The same, once the book has it.
+    /// The parsed post, after the book has taken it.
     pub fn was_read(&self) -> Result<&Read, Refused> {
         self.read.as_ref().map_err(|refused| *refused)
     }
 
-    /// Whether as many of its points as before are foreign.
+    /// Whether as many of its points are foreign as before.
     pub fn has_all(&mut self) -> bool {
         let foreign = self.foreign;
         self.as_read().is_ok_and(|read| read.post.foreign == foreign)
     }
 
-    /// How many posts it is.
+    /// How many posts it consists of.
     pub fn posts(&self) -> usize {
         self.each.len().max(1)
     }
 
-    /// These, where there are several.
+    /// The posts, if there are several.
     pub fn each_post(&self) -> &[Post] {
         &self.each
     }
 
-    /// Each by itself, where there are several: they are to be read.
+    /// Each post by itself, not yet parsed, if there are several.
     pub fn each(self) -> impl Iterator<Item = Again> {
         let Again { read, each, .. } = self;
         each.into_iter().map(move |post| {
@@ -136,7 +136,7 @@ impl Again {
     }
 }
 
-/// All points of these, one behind the other.
+/// The points of these posts, one after the other.
 fn joined(posts: &[Post], count: usize) -> Points {
     let points = || {
         posts.iter().filter_map(|post| match &post.body {
@@ -164,7 +164,7 @@ mod tests {
         Post { sender: sender.into(), foreign, body: Body::Points(points) }
     }
 
-    /// Of each group the sender, and of each of its posts the first end.
+    /// The sender of each group, and the first end of each of its posts.
     fn groups(posts: Vec<(Post, Result<(), Refused>)>) -> Vec<(String, Vec<u64>)> {
         let core = Core::new(1).unwrap();
         let mut groups = Groups::new(&core);

@@ -1,4 +1,5 @@
-//! Primes a fresh book. The outbox alone says by what: so a start does it beside all that is ahead of the journal's posts.
+//! Seeds a fresh book from the outbox alone, so a start does it in parallel with everything else before the journal's
+//! posts.
 
 use super::super::numbers::Own;
 use super::super::Trouble;
@@ -13,12 +14,12 @@ use std::sync::Arc;
 use std::thread::{sleep, Builder, JoinHandle};
 use std::time::Duration;
 
-/// So that no post takes long. What its series share is in memory once.
+/// So that no post takes long. What the series of a post share is in memory once.
 const SERIES_OF_A_POST: usize = 1000;
-/// How often who waits looks.
+/// How often `ended` looks whether the thread is done.
 const LOOK: Duration = Duration::from_millis(1);
 
-/// A book that is being primed, on a thread that ends soon once this is dropped.
+/// A book that is being seeded, on a thread that ends soon after this is dropped.
 pub struct Priming {
     thread: JoinHandle<Result<Arc<Own>, Trouble>>,
     stop: Stop,
@@ -33,7 +34,7 @@ impl Drop for Stop {
 }
 
 impl Priming {
-    /// Begins it, where there is a thread.
+    /// Starts seeding, if a thread can be had.
     pub fn begin(core: &Arc<Core>, outbox: &Arc<Outbox>, has_posts: bool) -> Option<Priming> {
         let (core, outbox, stop) = (core.clone(), outbox.clone(), Stop(Arc::default()));
         let stopped = stop.0.clone();
@@ -45,7 +46,7 @@ impl Priming {
         Some(Priming { thread, stop })
     }
 
-    /// Returns once it is done, or was stopped.
+    /// Waits until seeding has ended or was stopped.
     pub(super) fn ended(self, stops: impl Fn() -> bool) -> Result<Arc<Own>, Trouble> {
         while !self.thread.is_finished() {
             if stops() {
@@ -62,11 +63,11 @@ struct Part<'o> {
     of: &'o Owned,
     owner: &'o str,
     series: &'o [(u32, u64)],
-    /// What primes them, once it is read.
+    /// The parsed posts that seed them.
     posts: Result<Vec<Read>, Unprimed>,
 }
 
-/// Why series can't be primed.
+/// Why series can't be seeded.
 #[derive(Debug, thiserror::Error)]
 enum Unprimed {
     #[error(transparent)]
@@ -75,7 +76,7 @@ enum Unprimed {
     NotForwarded(#[from] NotForwarded),
 }
 
-/// The book's numbers; where there is no post to put in, none is asked for.
+/// Seeds the book and returns its numbers; if there are no posts to put in, series get none.
 pub(super) fn prime(
     core: &Core,
     outbox: &Outbox,
@@ -85,7 +86,8 @@ pub(super) fn prime(
 ) -> Result<Arc<Own>, Trouble> {
     let own = Arc::<Own>::default();
     let noted = has_posts.then_some(&*own);
-    // In the order of their keys: so neighbours share most, and each goes behind those that a book has, or near their end.
+    // In the order of their keys, so that neighbours share most, and each goes at or near the end of those that a book
+    // has.
     let of = &outbox.owned();
     in_order(
         |part: &mut Part| with_reserve(|| part.be_read(core, noted)),

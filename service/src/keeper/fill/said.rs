@@ -1,4 +1,5 @@
-//! The posts of the journal, with what its files say of numbers: series get theirs side by side, ahead of the posts' turns.
+//! Reads the posts of the journal with the numbers that its files define. Series get their numbers in the book in
+//! parallel, before `fill` puts their posts in.
 
 use super::super::numbers::{Number, Own};
 use super::super::Trouble;
@@ -7,25 +8,25 @@ use crate::files::{Body, Post, Replayed};
 use crate::slot::Slot;
 use crate::work::in_order;
 
-/// Posts of the journal go together up to so many, or so many bytes.
+/// The most posts, and bytes, that are handled together.
 const POSTS_OF_A_PART: usize = 256;
 const BYTES_OF_A_PART: usize = 256 << 10;
 
-/// Posts of the journal, one behind the other.
+/// Consecutive posts of the journal.
 #[derive(Default)]
 struct Part {
     posts: Vec<Said>,
     bytes: usize,
 }
 
-/// A post, and what its file says of numbers ahead of it.
+/// A post, and the numbers that its file defines before it.
 pub(super) struct Said {
     pub named: Vec<(u64, Number)>,
     pub post: Post,
 }
 
-/// Gives the posts of the journal that are in no group, in order, some at a time, until `each` is false. What they say of numbers
-/// is known already, but where there is no memory for that.
+/// Calls `each` with the posts of the journal that are in no group, in order, some at a time, until it returns false.
+/// Their numbers are resolved already, unless there was no memory for that.
 pub(super) fn said(
     slot: &Slot,
     own: &Own,

@@ -1,9 +1,9 @@
-//! What primes.
+//! The points that seed a book.
 
 use crate::core::{Core, Names};
 use crate::otlp::series::{request_of, zeros, SeriesKey, KINDS, VALUES};
 
-/// Else a late repeat would be taken, and a posted point be of another series than the one that was primed.
+/// Otherwise a late repeat would be taken, and a posted point would belong to another series than the seeded one.
 #[test]
 fn what_primes_is_of_the_series_that_its_key_names() {
     let lists =

@@ -1,4 +1,4 @@
-//! An operator puts back where series end, or has them forgotten.
+//! An operator rewinds the ends of series, or has series forgotten.
 
 use super::cumulative::{copy, text, Point, BEGIN};
 use super::*;
@@ -42,7 +42,7 @@ async fn a_series_that_is_put_back_goes_on_from_there() {
     assert_eq!(refusal(run.post(5).await), "out of order: point 0, frontier 10");
     assert_eq!(run.post(20).await, Outcome::taken(0));
     assert_eq!(refusal(run.slot.post("B".into(), point("a", 30).into()).await), "other writer: point 0");
-    // It never goes ahead by that.
+    // It never moves the end forward.
     assert_eq!(run.amend(Amend::PutBack { series, to: 900 }).await, Ok(()));
     assert_eq!(run.slot.outbox.series().into_values().next().unwrap().frontier, 21);
     assert_eq!(run.post(21).await, Outcome::taken(0));
@@ -77,7 +77,7 @@ async fn a_series_that_is_forgotten_is_whose_it_is_posted_by_next() {
     run.end().await;
 }
 
-/// Its points are put in again at each start, and so is where they end.
+/// Its points are put in again at each start, and so is its end.
 #[tokio::test(flavor = "multi_thread")]
 async fn a_series_with_points_that_are_kept_back_is_left_as_it_was() {
     let place = tempfile::tempdir().unwrap();
@@ -105,7 +105,7 @@ fn cumulative(start: u64, time: u64, value: i64) -> Point {
     Point { name: "m".into(), start: BEGIN + start, time: BEGIN + time, value, all: 0 }
 }
 
-/// What a run has come to stays known, so nothing of it is lost or counted again.
+/// What the run has come to stays known, so nothing of it is lost or counted again.
 #[tokio::test(flavor = "multi_thread")]
 async fn the_run_of_a_series_that_is_put_back_goes_on() {
     let place = tempfile::tempdir().unwrap();
@@ -126,7 +126,7 @@ async fn the_run_of_a_series_that_is_put_back_goes_on() {
     run.end().await;
 }
 
-/// A run that is older than what was counted by deltas counts from here on, once that is forgotten.
+/// A run that is older than what was counted by deltas counts from here on, after that was forgotten.
 #[tokio::test(flavor = "multi_thread")]
 async fn a_series_goes_from_delta_to_cumulative_once_it_is_forgotten() {
     let place = tempfile::tempdir().unwrap();
@@ -145,7 +145,8 @@ async fn a_series_goes_from_delta_to_cumulative_once_it_is_forgotten() {
     run.end().await;
 }
 
-/// A copy of the folder from before each call of the disk, with how many posts were answered by then, and whether the order was.
+/// Copies of the folder from before each call of the disk, with how many posts had been answered, and whether the order
+/// had.
 #[derive(Default)]
 struct Kills {
     at: Mutex<Vec<(usize, bool)>>,

@@ -1,4 +1,4 @@
-//! Cumulative points, who sends them, and what a plain count of them says.
+//! Cumulative points, programs that send them, and a plain count of them.
 
 use super::*;
 use crate::files::test_random::TestRandom;
@@ -7,16 +7,16 @@ use crate::otlp::Outcome;
 use crate::runs::Options;
 use std::collections::BTreeMap;
 
-/// Points begin here, so that they are of runs that began after the folder was made.
+/// Points begin here, so that their runs began after the folder was made.
 pub const BEGIN: u64 = 4_000_000_000_000_000_000;
 
-/// A cumulative point of a series: its name says its kind.
+/// A cumulative point of a series, whose name says its kind.
 #[derive(Clone, Debug)]
 pub struct Point {
     pub name: String,
     pub start: u64,
     pub time: u64,
-    /// A histogram's, of one bound: below it, and all.
+    /// A histogram has one bound: how many are below it, and how many there are.
     pub value: i64,
     pub all: i64,
 }
@@ -80,11 +80,11 @@ impl Run {
     }
 }
 
-/// Begins where a `kill -9` would have left a run.
+/// Begins a run from what a `kill -9` of the other would have left.
 pub async fn killed(run: Run, place: &Path, number: usize, options: Options) -> Run {
     let [from, to] = [number, number + 1].map(|number| place.join(format!("data{number}")));
     copy(&from, &to);
-    // What it still does is for nobody.
+    // Whatever it still does is not seen.
     run.end().await;
     Run::begin_runs(&to, options).await
 }
@@ -94,10 +94,10 @@ pub fn copy(from: &Path, to: &Path) {
     assert!(copied.unwrap().success());
 }
 
-/// What is counted, without a thought for deltas: of each run of a series its last values.
+/// A count that knows nothing of deltas: the last values of each run of a series.
 #[derive(Default)]
 pub struct Plain {
-    /// Start and time of the last point, and the interval.
+    /// The start and the time of the last point, and its interval.
     last: BTreeMap<String, (u64, u64, u64)>,
     runs: BTreeMap<String, Vec<(i64, i64)>>,
 }
@@ -116,7 +116,7 @@ impl Plain {
                 if point.time - last < 3 * interval {
                     return;
                 }
-                // The one before has ended, and of this one counts what comes to it from now on.
+                // The run before it has ended; of this one counts what is added from now on.
                 runs.push((-point.value, -all));
                 point.time - point.start
             }
@@ -135,10 +135,10 @@ impl Plain {
     }
 }
 
-/// A sender's program.
+/// The program of a sender.
 pub struct Program {
     pub sender: &'static str,
-    /// How long before its first point it may have begun anew, beside one.
+    /// How long before its first point a run may begin, so that it overlaps another one.
     pub overlap: u64,
     start: u64,
     points: Vec<Point>,
@@ -152,7 +152,7 @@ impl Program {
         Program { sender, overlap: 0, start: BEGIN, points: names.map(point).into(), sent: Vec::new() }
     }
 
-    /// What it sends next; nothing where that is lost on its way.
+    /// What it sends next; none if that is lost on its way.
     pub fn next(&mut self, now: u64, chance: &mut TestRandom) -> Option<Vec<Point>> {
         if chance.below(12) == 0 {
             let overlap = if self.overlap > 0 { chance.below(self.overlap) } else { 0 };
@@ -169,7 +169,7 @@ impl Program {
         self.sent.push(self.points[..few].to_vec());
         match chance.below(6) {
             0 => None,
-            // Again, or one that was late.
+            // Again, or a late one.
             1 => Some(self.sent[chance.below(self.sent.len() as u64) as usize].clone()),
             _ => self.sent.last().cloned(),
         }

@@ -1,4 +1,4 @@
-//! Series are forgotten where there are too many, and for their age alone.
+//! Series are forgotten only if there are too many, and only for their age.
 
 use super::*;
 use crate::core::tests::points;
@@ -28,8 +28,8 @@ async fn until_taken(run: &Run, sender: &str, names: &[String], start: u64) {
     panic!("it was never taken");
 }
 
-/// A later run, in which all that was posted is old enough to be forgotten. B's point stays in the journal, in no group: so its
-/// series is not.
+/// A later run, in which everything posted before is old enough to be forgotten, except the series of B, whose point
+/// stays in the journal and in no group.
 async fn with_old_and_held(run: Run, folder: impl Fn() -> Folder) -> Run {
     assert_eq!(post(&run, "B", &["held".into()], 10).await, Outcome::taken(0));
     run.end().await;
@@ -51,7 +51,7 @@ async fn series_are_forgotten_where_there_are_too_many() {
         assert_eq!(post(&run, "A", part, 10).await, Outcome::taken(0));
     }
     let run = with_old_and_held(run, folder).await;
-    // What was seen meanwhile stays.
+    // Series that were seen meanwhile stay.
     let (used, new) = (names(7..8), names(MOST..MOST + 1));
     assert_eq!(post(&run, "A", &used, 20).await, Outcome::taken(0));
     assert_eq!(refused(&post(&run, "A", &new, 10).await), "too many series");
@@ -62,7 +62,7 @@ async fn series_are_forgotten_where_there_are_too_many() {
     assert_eq!(refused(&post(&run, "C", &used, 30).await), "other writer: point 0");
     assert_eq!(refused(&post(&run, "B", &["held".into()], 30).await), "quarantined");
     assert_eq!(refused(&post(&run, "C", &["held".into()], 30).await), "other writer: point 0");
-    // Nobody is the owner of what was forgotten.
+    // A series that was forgotten has no owner.
     assert_eq!(post(&run, "C", &names(8..9), 30).await, Outcome::taken(0));
     for kind in ["replay", "owner"] {
         let faults = run.slot.metrics.faults.with_label_values(&[kind]).get();
@@ -88,7 +88,7 @@ async fn none_is_forgotten_where_none_is_old_enough() {
     run.end().await;
 }
 
-/// What is old has posts that are kept back: a fresh book would be as the old one, and all posts would wait for it.
+/// Only series with parked posts are old: a fresh book would equal the old one, and all posts would wait for it.
 #[tokio::test(flavor = "multi_thread")]
 async fn no_fresh_book_is_made_where_only_what_is_kept_back_is_old() {
     let place = tempfile::tempdir().unwrap();
@@ -101,7 +101,7 @@ async fn no_fresh_book_is_made_where_only_what_is_kept_back_is_old() {
     while pauses() == before {
         tokio::time::sleep(Duration::from_millis(5)).await;
     }
-    // It has its turn once the look is over.
+    // The order is carried out after the look.
     assert_eq!(run.flush().await, 0);
     assert_eq!(pauses() - before, 2, "the checkpoint ahead of the look, and this one");
     run.end().await;

@@ -1,5 +1,5 @@
-//! A slot whose files are in a store: another instance takes it at each call of its drive in turn, and has exactly what was
-//! answered. Who posts repeats what got no answer.
+//! A shard whose files are in a store: another instance takes it over at each call of its drive, one after another, and
+//! has exactly what was answered. Senders retry what got no answer.
 
 use super::cumulative::{self, text, BEGIN};
 use super::*;
@@ -16,12 +16,12 @@ use std::sync::atomic::AtomicU64;
 
 const EPOCH: &str = "00000000000000aa";
 
-/// What is done, one after the other.
+/// The steps, one after another.
 #[derive(Clone, Copy, Debug)]
 enum Act {
-    /// The next delta point of a sender's series.
+    /// Posts the next delta point of a sender's series.
     Delta(&'static str),
-    /// A point of A's run, of this value.
+    /// Posts a point of A's run with this value.
     Run(i64),
     Checkpoint,
     Quarantine,
@@ -58,19 +58,19 @@ const ACTS: [Act; 24] = [
     Deliver,
 ];
 
-/// How the slot goes away.
+/// How the owner loses the shard.
 #[derive(Clone, Copy, Debug)]
 enum How {
-    /// The call says so.
+    /// The call itself fails.
     Told,
-    /// The next sync finds it.
+    /// The next sync fails.
     Unseen,
 }
 
-/// The instance that has the slot, and what comes of it.
+/// The instance that owns the shard, and everything that came of it.
 struct World {
     run: Option<Run>,
-    /// Who has taken it.
+    /// The next owner, once there is one.
     next: Next,
     moves: u64,
     sink: BTreeMap<(String, u64), Vec<u8>>,
@@ -78,7 +78,7 @@ struct World {
     time: u64,
 }
 
-/// The slot is lost: what was done got no answer.
+/// The shard is fenced: the step got no answer.
 struct Moved;
 
 impl World {
@@ -86,7 +86,7 @@ impl World {
         self.next.lock().unwrap().is_some()
     }
 
-    /// The instance that has the slot now.
+    /// The instance that owns the shard now.
     async fn begun(&mut self) {
         while self.run.is_none() {
             let owner = self.next.lock().unwrap().take().unwrap();
@@ -110,7 +110,7 @@ impl World {
         }
     }
 
-    /// The former instance has ended this slot, and nothing else.
+    /// The former instance has ended this shard and nothing else.
     async fn move_on(&mut self) {
         let run = self.run.take().unwrap();
         let ended = run.running.await.unwrap();
@@ -184,7 +184,7 @@ impl World {
     }
 }
 
-/// Status and text; none where the slot is lost.
+/// Status and text; an error if the shard is fenced.
 fn answered(outcome: Outcome) -> Result<(u16, String), Moved> {
     let why = outcome.refusal().unwrap_or_default().to_string();
     match outcome.reason() {
@@ -193,7 +193,7 @@ fn answered(outcome: Outcome) -> Result<(u16, String), Moved> {
     }
 }
 
-/// An instance that takes posts; none where it lost the slot before.
+/// An instance that takes posts; none if it lost the shard before.
 async fn began(owner: Arc<dyn Drive>) -> Option<Run> {
     let (journal, outbox, _dead) = match drive::open(owner, EPOCH) {
         Err(Fault::Lost(_)) => return None,
@@ -211,10 +211,11 @@ async fn began(owner: Arc<dyn Drive>) -> Option<Run> {
     Some(run)
 }
 
-/// The next owner of the slot, as soon as somebody takes it.
+/// The next owner of the shard, as soon as there is one.
 type Next = Arc<Mutex<Option<Arc<Owner>>>>;
 
-/// An owner who loses the slot at its call of this number. Who takes it then loses it so many calls later, if at all.
+/// An owner that loses the shard at its call of this number. The next one loses it `more` calls later, if that is
+/// given.
 fn losing(store: &Arc<Store>, next: &Next, call: u64, more: Option<u64>, how: How) -> Arc<Owner> {
     let (calls, of_store, of_next) = (AtomicU64::new(0), store.clone(), next.clone());
     store.take_with(move |_: Step| -> io::Result<()> {
@@ -233,7 +234,7 @@ fn losing(store: &Arc<Store>, next: &Next, call: u64, more: Option<u64>, how: Ho
     })
 }
 
-/// Does all with a drive that is lost at its call of this number: how often the slot has moved.
+/// Does all steps with a drive that loses the shard at its call of this number; returns how often the shard moved.
 async fn lose_at(call: u64, more: Option<u64>, how: How) -> u64 {
     let (store, next) = (Arc::new(Store::default()), Next::default());
     let run = began(losing(&store, &next, call, more, how)).await;
@@ -256,10 +257,10 @@ async fn lose_at(call: u64, more: Option<u64>, how: How) -> u64 {
     world.moves + u64::from(world.is_taken())
 }
 
-/// As many at once as there are processors, as a rule.
+/// As many at once as there usually are processors.
 const AT_ONCE: u64 = 4;
 
-/// Up to which call each was tried.
+/// Tries all calls; returns up to which.
 async fn lose_at_each(how: How) -> u64 {
     for first in (0..).step_by(AT_ONCE as usize) {
         let calls = first..first + AT_ONCE;
@@ -287,7 +288,7 @@ async fn what_was_answered_is_there_for_who_takes_the_slot_unseen() {
     assert!(calls > 100, "{calls}");
 }
 
-/// Also while the one who has taken it opens its files and fills its book.
+/// Even while the next owner opens its files and fills its book.
 #[tokio::test(flavor = "multi_thread", worker_threads = 4)]
 async fn what_was_answered_is_there_over_many_owners() {
     for how in [How::Told, How::Unseen] {
@@ -298,7 +299,7 @@ async fn what_was_answered_is_there_over_many_owners() {
     }
 }
 
-/// An instance whose syncs stand still while that is on.
+/// An instance whose syncs stall while the flag is set.
 async fn stalling(store: &Arc<Store>) -> (Run, Arc<AtomicBool>) {
     let stalls = Arc::new(AtomicBool::new(false));
     let is_on = stalls.clone();
@@ -311,7 +312,8 @@ async fn stalling(store: &Arc<Store>) -> (Run, Arc<AtomicBool>) {
     (began(owner).await.unwrap(), stalls)
 }
 
-/// Who has forwarded it hears of it once the store has it, and not what it was where the slot is lost.
+/// The instance that forwarded a post gets the outcome only once the store has it; if the shard is fenced by then, it is
+/// told to retry.
 #[tokio::test(flavor = "multi_thread", worker_threads = 4)]
 async fn what_was_forwarded_waits_for_the_store_too() {
     let store = Arc::new(Store::default());
@@ -335,7 +337,7 @@ async fn what_was_forwarded_waits_for_the_store_too() {
     assert_eq!(told, Reason::SlotMoves.into());
 }
 
-/// A store may take long, and posts are put into the book meanwhile; who comes later is told.
+/// A store may take long, and posts are put into the book meanwhile; later ones are refused at once.
 #[tokio::test(flavor = "multi_thread", worker_threads = 4)]
 async fn nobody_waits_for_the_store_with_the_lock_of_the_book() {
     let (run, stalls) = stalling(&Arc::default()).await;
@@ -362,13 +364,13 @@ async fn nobody_waits_for_the_store_with_the_lock_of_the_book() {
     run.end().await;
 }
 
-/// What follows is that another has the slot: a post that is durable would be answered 503, and its repeat 400.
+/// Afterwards another instance has the shard: a durable post would be answered 503, and its retry 400.
 #[tokio::test(flavor = "multi_thread", worker_threads = 4)]
 async fn who_waits_is_answered_before_the_slot_is_handed_over() {
     let (store, is_held) = (Arc::new(Store::default()), Arc::new(AtomicBool::new(false)));
     let held = is_held.clone();
     let owner = store.take_with(move |step| {
-        // The journal's thread alone: the checkpoint is durable before.
+        // Only the journal's thread: the checkpoint is durable before it.
         let is_its = step == Step::Sync && std::thread::current().name() == Some("journal");
         while is_its && held.load(SeqCst) {
             std::thread::sleep(Duration::from_millis(1));

@@ -1,10 +1,10 @@
-//! What a book is primed by that begins with the outbox alone: each commit says whose its series are.
+//! Seeding a book from the outbox alone: each commit names the owners of its series.
 
 use super::*;
 use crate::otlp::series::only;
 
-/// Also of a post that the journal has as a text, and of one that was kept back for a while: else whoever posts first behind a start
-/// would have the series, and a database does not know whose it is.
+/// Even for a post that the journal has as text, and for one that was parked for a while: otherwise the first sender
+/// after a start would own the series, and a database would not know its owner.
 #[tokio::test(flavor = "multi_thread")]
 async fn a_commit_says_whose_its_series_are() {
     let place = tempfile::tempdir().unwrap();
@@ -42,9 +42,9 @@ async fn a_commit_says_whose_its_series_are() {
     run.end().await;
 }
 
-/// It takes as long as many series need, and nobody waits for it then.
+/// Seeding takes long if there are many series, and after a stop nobody needs it.
 #[tokio::test(flavor = "multi_thread")]
-#[allow(clippy::await_holding_lock)] // whoever waits for it is no task
+#[allow(clippy::await_holding_lock)] // a thread waits for this lock, and no task
 async fn who_is_told_to_stop_while_it_is_primed_ends_soon() {
     let place = tempfile::tempdir().unwrap();
     let folder = Folder::open(&place.path().join("data"), Durability::Process).unwrap();

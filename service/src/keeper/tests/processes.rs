@@ -1,5 +1,5 @@
-//! Cumulative points of several processes that have the same series, or whose series others had: each says what it has counted,
-//! and that is counted once, or refused by its name.
+//! Cumulative points of several processes with the same series, or with series that others had: what each has counted
+//! is counted once, or refused by name.
 
 use super::cumulative::{killed, point, rejected, Point, BEGIN};
 use super::*;
@@ -19,7 +19,7 @@ async fn posted(run: &Run, start: u64, time: u64, value: i64) -> Outcome {
     run.cumulative("A", &[point("m", start, time, value)]).await
 }
 
-/// Whether all of a post was taken, or was there already; else it is refused by the name of an earlier run.
+/// Whether all of a post was taken, now or before; otherwise it is refused by the name of an earlier run.
 async fn is_taken(run: &Run, start: u64, time: u64, value: i64) -> bool {
     let outcome = posted(run, start, time, value).await;
     if outcome == Outcome::taken(0) {
@@ -29,7 +29,7 @@ async fn is_taken(run: &Run, start: u64, time: u64, value: i64) -> bool {
     false
 }
 
-/// A process of B's ran long before the end of a series of A's, which is ahead of the clock.
+/// A process of B ran long before the end of a series of A, and that end is ahead of the clock.
 #[tokio::test(flavor = "multi_thread")]
 async fn a_series_counts_from_its_start_where_others_were_forgotten() {
     let place = tempfile::tempdir().unwrap();
@@ -50,7 +50,7 @@ async fn a_series_counts_from_its_start_where_others_were_forgotten() {
     }
 }
 
-/// Also by a start of its own, where the snapshot says what was forgotten.
+/// Also after a start, for which the snapshot says what was forgotten.
 #[tokio::test(flavor = "multi_thread")]
 async fn what_was_forgotten_of_a_series_counts_no_second_time() {
     let place = tempfile::tempdir().unwrap();
@@ -73,7 +73,7 @@ async fn what_was_forgotten_of_a_series_counts_no_second_time() {
     run.end().await;
 }
 
-/// Of the second process each point is a moment older than the last one of the first.
+/// Each point of the second process is a moment older than the last one of the first.
 #[tokio::test(flavor = "multi_thread")]
 async fn a_late_point_of_another_process_is_refused_by_name() {
     let place = tempfile::tempdir().unwrap();
@@ -83,14 +83,14 @@ async fn a_late_point_of_another_process_is_refused_by_name() {
         assert!(!is_taken(&run, BEGIN + 7, BEGIN + 60 * turn - 1, 30 * turn as i64).await, "{turn}");
         run = killed(run, place.path(), turn as usize - 1, Options::default()).await;
     }
-    // Of its start and time too, and it is no repeat.
+    // Even with the start and time of an earlier point it is no repeat, since its value differs.
     assert!(!is_taken(&run, BEGIN, BEGIN + 180, 31).await);
     run.flush().await;
     assert_eq!(run.forwarded().await["m"].0, 30);
     run.end().await;
 }
 
-/// Its sender did not hear the answer, and went on, or has begun anew.
+/// Its sender did not get the answer and went on, or has begun anew.
 #[tokio::test(flavor = "multi_thread")]
 async fn a_repeat_is_known_behind_the_next_run() {
     let place = tempfile::tempdir().unwrap();
@@ -102,7 +102,7 @@ async fn a_repeat_is_known_behind_the_next_run() {
         for (start, time, value) in [(0, 60, 3), (0, 120, 5), (125, 180, 2)] {
             assert!(is_taken(&run, BEGIN + start, BEGIN + time, value).await, "{start} {time}");
         }
-        // What came to the first run behind its last point was never taken.
+        // What was added to the first run after its last point was never taken.
         assert!(!is_taken(&run, BEGIN, BEGIN + 130, 6).await);
         if kill == 1 {
             run.flush().await;
@@ -114,7 +114,7 @@ async fn a_repeat_is_known_behind_the_next_run() {
     run.end().await;
 }
 
-/// A rolling restart: the old process says what it has counted when the new one has begun.
+/// A rolling restart: the old process reports its count after the new one has begun.
 #[tokio::test(flavor = "multi_thread")]
 async fn a_process_counts_from_where_the_one_before_it_was_silent_for_three_intervals() {
     for kills in [false, true] {
@@ -134,9 +134,9 @@ async fn a_process_counts_from_where_the_one_before_it_was_silent_for_three_inte
             }
             taken.push(is_taken(&run, BEGIN + 605, BEGIN + 605 + 60 * turn, 360 * turn as i64).await);
         }
-        // The last interval was ten, which is less than half of the one before: so it is taken for thirty.
+        // The last interval was ten, less than half of the one before, so it is taken for thirty.
         assert_eq!(taken, [&[false; 1][..], &[true; 9]].concat());
-        // What the old one still says is late, and refused.
+        // Whatever the old process still reports is late and refused.
         assert!(!is_taken(&run, BEGIN, BEGIN + 700, 52).await);
         run.flush().await;
         assert_eq!(run.forwarded().await["m"].0, 51 + 3_600 - 720);
@@ -161,7 +161,7 @@ async fn a_process_from_before_its_series_was_forgotten_goes_on_from_where_it_is
     run.slot.outbox.leave_these(&run.keys()).unwrap();
     run.end().await;
     let run = begin(place.path()).await;
-    // Another one that began before it, and is silent then.
+    // Another run that began before it, and then falls silent.
     assert!(is_taken(&run, BEGIN, BEGIN + 70, 100).await);
     assert!(is_taken(&run, BEGIN, BEGIN + 80, 101).await);
     assert!(!is_taken(&run, BEGIN + 10, BEGIN + 81, 8).await);
@@ -181,7 +181,7 @@ impl<S: Subscriber> Layer<S> for Lines {
     }
 }
 
-/// One connection can post some thousand a second.
+/// One connection can post several thousand a second.
 #[tokio::test(flavor = "multi_thread")]
 async fn posts_whose_points_begin_where_they_end_fill_no_log() {
     let place = tempfile::tempdir().unwrap();

@@ -1,5 +1,5 @@
-//! Cumulative points over checkpoints, kills, quarantines and what is forgotten: what reaches the outbox is what a plain count
-//! of the same posts says.
+//! Cumulative points over checkpoints, kills, quarantines and forgotten series: the outbox gets what a plain count of
+//! the same posts gives.
 
 use super::cumulative::{copy, killed, point, rejected, text, Plain, Point, Program, BEGIN};
 use super::*;
@@ -71,7 +71,7 @@ async fn runs_over_kills_and_quarantines_come_to_the_sum_of_their_last_values() 
     }
 }
 
-/// Of the cumulative points some are lost, and some come again.
+/// Some of the cumulative points are lost, and some come twice.
 #[tokio::test(flavor = "multi_thread")]
 async fn the_same_counts_in_delta_and_cumulative_come_to_the_same() {
     let (place, options) = (tempfile::tempdir().unwrap(), Options::default());
@@ -102,7 +102,7 @@ async fn the_same_counts_in_delta_and_cumulative_come_to_the_same() {
         for _ in 0..times {
             assert_eq!(run.cumulative("A", &all).await, Outcome::taken(0));
         }
-        // Before a run ends its last point has come.
+        // The last point of a run comes before the run ends.
         if chance.below(15) == 0 && times > 0 {
             (start, come_to) = (now, [(0, 0); 3]);
         }
@@ -125,7 +125,7 @@ async fn the_same_counts_in_delta_and_cumulative_come_to_the_same() {
     run.end().await;
 }
 
-/// A run that goes on after its series was forgotten is none that began anew.
+/// A run that continues after its series was forgotten has not begun anew.
 #[tokio::test(flavor = "multi_thread")]
 async fn a_run_whose_series_was_forgotten_counts_from_there_on() {
     let place = tempfile::tempdir().unwrap();
@@ -137,7 +137,7 @@ async fn a_run_whose_series_was_forgotten_counts_from_there_on() {
     run.end().await;
     let run = Run::begin_runs(&place.path().join("data"), Options::default()).await;
     run.forwarded().await;
-    // Late: it was counted.
+    // It is late, since it was counted.
     let late = run.cumulative("A", &[point("m", BEGIN, BEGIN + 9, 4)]).await;
     let why = "1 cumulative point from before series were forgotten".to_string();
     assert_eq!(rejected(&late), (1, why));
@@ -154,7 +154,7 @@ async fn a_run_whose_series_was_forgotten_counts_from_there_on() {
     run.end().await;
 }
 
-/// Of what is refused all else of its post is taken, and another sender's series stays its own.
+/// Everything else of a post with refused points is taken, and another sender's series stays its own.
 #[tokio::test(flavor = "multi_thread")]
 async fn what_is_refused_has_its_name() {
     let place = tempfile::tempdir().unwrap();
@@ -165,7 +165,7 @@ async fn what_is_refused_has_its_name() {
         Outcome::taken(0)
     );
     assert_eq!(run.slot.metrics.noted_runs.get(), 1);
-    // The same again, also of another, adds nothing.
+    // The same point again adds nothing; a point of another sender is refused.
     assert_eq!(run.cumulative("A", std::slice::from_ref(&old)).await, Outcome::taken(0));
     let other = run.cumulative("B", &[point("m", 10, BEGIN + 5, 7)]).await;
     assert_eq!(other, Refused::OtherWriter { point: 0 }.into());
@@ -176,7 +176,8 @@ async fn what_is_refused_has_its_name() {
     let said = rejected(&run.cumulative("A", &earlier).await);
     assert_eq!(said, (1, "1 point of a run that began before the last point of another".into()));
     run.flush().await;
-    // A point of another's that is no later than the run is no repeat: it names the one, though another was left out.
+    // A point of another sender's series that is no later than the run is no repeat: it is named, even if another point
+    // was left out.
     let other = [point("m3", BEGIN, BEGIN + 1, 1), point("m", 10, BEGIN, 5)];
     let outcome = run.cumulative("B", &other).await;
     let Outcome::Taken { rejected: 1, parts, .. } = &outcome else { panic!("{outcome:?}") };
@@ -190,7 +191,7 @@ async fn what_is_refused_has_its_name() {
     run.end().await;
 }
 
-/// Of many series that have delta points in no flush each point is refused by its name, and the others of the post are taken.
+/// For many series with unflushed delta points, each point is refused by name, and the others of the post are taken.
 #[tokio::test(flavor = "multi_thread")]
 async fn a_post_learns_at_once_where_all_of_its_series_end() {
     let place = tempfile::tempdir().unwrap();
@@ -208,7 +209,7 @@ async fn a_post_learns_at_once_where_all_of_its_series_end() {
     run.end().await;
 }
 
-/// A request of both.
+/// A request with both kinds of points.
 fn mixed(deltas: &[Point], all: &[Point]) -> String {
     let [deltas, all] = [text(deltas, 1), text(all, 2)];
     let resource = all.strip_prefix(r#"{"resourceMetrics":["#).unwrap();
@@ -222,7 +223,7 @@ impl Run {
     }
 }
 
-/// Else a post that has delta and cumulative points of many series is tried as often as it has series.
+/// Otherwise a post with delta and cumulative points of many series would be tried once for each series.
 #[tokio::test(flavor = "multi_thread")]
 async fn a_post_is_tried_once_whatever_delta_points_are_ahead_of_its_cumulative_ones() {
     const SERIES: u64 = 60;
@@ -243,7 +244,7 @@ async fn a_post_is_tried_once_whatever_delta_points_are_ahead_of_its_cumulative_
     run.end().await;
 }
 
-/// A late, a repeated and another's delta point of a post that has cumulative ones too: each is as in any other post.
+/// A late, a duplicate and a foreign-owned delta point are treated as in any other post, even beside cumulative points.
 #[tokio::test(flavor = "multi_thread")]
 async fn delta_points_beside_cumulative_ones_are_refused_alone_and_repeated() {
     let place = tempfile::tempdir().unwrap();
@@ -276,7 +277,7 @@ async fn delta_points_beside_cumulative_ones_are_refused_alone_and_repeated() {
     let sums = run.forwarded().await;
     let sum = |name: &str| sums[name].0;
     assert_eq!(["b", "d", "e", "f", "m", "b2"].map(sum), [1, 2, 3, 8, 6, 9]);
-    // Nothing is left of it.
+    // No point of it is taken.
     let late = [point("e", BEGIN + 1, BEGIN + 10, 7)];
     let outcome = run.mixed("A", &late, &[point("b", BEGIN, BEGIN + 30, 4)]).await;
     assert_eq!(outcome.status(), 400, "{outcome:?}");
@@ -301,7 +302,7 @@ async fn a_run_goes_on_behind_a_refused_post_with_delta_points_of_its_series() {
     run.end().await;
 }
 
-/// Delta points that begin where a run has come to are taken, and then the run's are not: no span counts twice.
+/// Delta points that begin where a run has come to are taken, and then the run's points are not: no span counts twice.
 #[tokio::test(flavor = "multi_thread")]
 async fn delta_and_cumulative_points_of_a_series_never_count_one_span_twice() {
     let place = tempfile::tempdir().unwrap();
@@ -320,11 +321,11 @@ async fn delta_and_cumulative_points_of_a_series_never_count_one_span_twice() {
         let beside = format!("m-{name}");
         let points = [point(&beside, BEGIN, BEGIN + 20, 4), point(name, BEGIN, BEGIN + 20, 7)];
         assert_eq!(rejected(&run.cumulative("A", &points).await), (1, mixed.clone()));
-        // One that began behind them is another run.
+        // A run that began after them is another run.
         let anew = [point(name, BEGIN + 20, BEGIN + 30, 1)];
         assert_eq!(run.cumulative("A", &anew).await, Outcome::taken(0));
     }
-    // A series that had delta points alone.
+    // A series that had only delta points.
     let body = delta("d", BEGIN, BEGIN + 10, 5);
     assert_eq!(run.slot.post("A".into(), body.into()).await, Outcome::taken(0));
     let all = [point("d", BEGIN, BEGIN + 20, 7)];
@@ -339,10 +340,11 @@ async fn delta_and_cumulative_points_of_a_series_never_count_one_span_twice() {
     run.end().await;
 }
 
-/// Wherever a kill has cut the journal: a start has the posts before, and what is posted again is added once.
+/// Wherever a kill has cut the journal: a start has the posts before the cut, and posts that are sent again are added
+/// once.
 #[tokio::test(flavor = "multi_thread")]
 async fn a_journal_that_is_cut_anywhere_goes_on_with_what_is_posted_again() {
-    const HEADER: usize = 64; // and the mark ahead of it
+    const HEADER: usize = 64; // and the mark before it
     let place = tempfile::tempdir().unwrap();
     let path = place.path().join("data0");
     let options = Options { first: First::Count, reset: Reset::Refuse };

@@ -1,4 +1,4 @@
-//! Cumulative points and what their sender may post.
+//! Cumulative points and the quota of their sender.
 
 use super::cumulative::{point, Point, BEGIN};
 use super::*;
@@ -8,7 +8,7 @@ use crate::runs::Options;
 use crate::shares::{Owned, Rules, Share};
 use std::collections::HashMap;
 
-/// Nobody's series are flushed.
+/// No series has been flushed.
 struct Unflushed;
 
 impl Owned for Unflushed {
@@ -45,7 +45,8 @@ fn points(of: &str, count: usize) -> Vec<Point> {
     (0..count).map(|number| point(&format!("m{of}{number}"), BEGIN, BEGIN + 1, 1)).collect()
 }
 
-/// As of delta points, whose repeat is refused. Else who comes again for another slot's part would never have enough for that.
+/// As for delta points, whose repeats are refused. Otherwise a sender that retries for another shard's part would never
+/// have enough quota for that part.
 #[tokio::test(flavor = "multi_thread")]
 async fn what_adds_nothing_uses_up_no_share() {
     let place = tempfile::tempdir().unwrap();
@@ -59,7 +60,7 @@ async fn what_adds_nothing_uses_up_no_share() {
     run.end().await;
 }
 
-/// Else who breaks its calls off could post any number.
+/// Otherwise a sender that cancels its calls could post any number.
 #[tokio::test(flavor = "multi_thread")]
 async fn a_post_that_goes_on_without_its_sender_uses_up_its_share() {
     let place = tempfile::tempdir().unwrap();

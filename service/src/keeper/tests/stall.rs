@@ -1,11 +1,11 @@
-//! A disk that stalls: who comes later is told at once, and all goes on after it.
+//! A disk that stalls: later posts are refused at once, and everything goes on afterwards.
 
 use super::*;
 use crate::intake::Threads;
 use crate::otlp::Reason;
 use tokio::runtime::Handle;
 
-/// The disk answers again, also where a check fails: the end of a test waits for it.
+/// Makes the disk answer again, even if an assertion fails: the end of a test waits for it.
 struct Thaw(Arc<AtomicBool>);
 
 impl Drop for Thaw {
@@ -14,7 +14,7 @@ impl Drop for Thaw {
     }
 }
 
-/// Posts on a disk of which one kind of call stalls in one folder: those under way wait, later ones are turned away.
+/// Posts on a disk that stalls one kind of call in one folder: posts in flight wait, later ones are refused.
 async fn stall(stalled: Call, folder: &'static str) {
     let place = tempfile::tempdir().unwrap();
     let stalls = Arc::new(AtomicBool::new(false));
@@ -47,7 +47,7 @@ async fn stall(stalled: Call, folder: &'static str) {
         let outcome = turned_away.post(format!("S{number}"), point("s", 1).into()).await;
         assert_eq!(outcome, Reason::DiskSilent.into());
     }
-    // What an operator is shown.
+    // What an operator sees.
     let shown = (run.slot.unavailable(), run.slot.journal.held().posts, run.slot.outbox.stuck());
     assert_eq!(shown, (Some(Reason::DiskSilent), 0, None));
     assert!(run.slot.journal.size().0 > 0 && run.slot.outbox.waiting().0 == 0);
@@ -83,7 +83,7 @@ async fn posts_are_turned_away_while_the_disk_of_a_group_stalls() {
     stall(Call::Sync, "outbox").await;
 }
 
-/// A run whose writes into the journal stall while that is on, at most for four seconds.
+/// A run whose writes to the journal stall while the flag is set, for at most four seconds.
 async fn run_with_stalling_writes(place: &Path) -> (Run, Thaw) {
     let stalls = Arc::new(AtomicBool::new(false));
     let stalling = stalls.clone();
@@ -105,7 +105,7 @@ async fn run_with_stalling_writes(place: &Path) -> (Run, Thaw) {
     (run, Thaw(stalls))
 }
 
-/// A thread that waited would serve nobody until the disk goes on, also those whose posts are turned away.
+/// A thread that waited would serve nobody until the disk goes on, not even posts that are refused.
 async fn waits_for_no_write(thread: &Handle) {
     let place = tempfile::tempdir().unwrap();
     let (run, thaw) = run_with_stalling_writes(place.path()).await;
@@ -133,13 +133,13 @@ async fn a_thread_that_serves_waits_for_no_write() {
     waits_for_no_write(&threads.place().0).await;
 }
 
-/// Posts come there from other instances.
+/// Posts from other instances come on such threads.
 #[tokio::test]
 async fn another_thread_waits_for_no_write() {
     waits_for_no_write(&Handle::current()).await;
 }
 
-/// Posts would wait for that lock, on the threads that serve.
+/// Posts would wait for that lock, on the threads that serve senders.
 #[tokio::test(flavor = "multi_thread", worker_threads = 4)]
 async fn a_checkpoint_waits_for_a_write_without_the_lock_of_the_book() {
     let place = tempfile::tempdir().unwrap();
