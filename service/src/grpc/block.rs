@@ -1,22 +1,22 @@
-//! A block of headers, looked at before the library reads it: none with a `:status` gets there.
+//! Checks a block of headers before h2 decodes it: a block with a `:status` is never passed on. `guard` calls it.
 //!
-//! A request has none. The release of the library that is used here panics at one of 1xx, and so the process would end. A
-//! block is read no further than to know where its headers end and which they are (RFC 7541, 6).
+//! A request has no `:status`, and h2 of the release used here panics at one of 1xx, which would end the process. The
+//! block is decoded only as far as needed to find where its headers end and what they are called (RFC 7541, 6).
 
-/// Flags of a frame of headers.
+/// Flags of HEADERS frames.
 const END_HEADERS: u8 = 4;
 const PADDED: u8 = 8;
 const PRIORITY: u8 = 32;
-/// How long a priority is.
+/// The length of the priority fields.
 const PRIORITY_LENGTH: usize = 5;
 
-/// The places of `:status` in the table that all connections have.
+/// The indexes of `:status` in HPACK's static table.
 const PLACES: std::ops::RangeInclusive<usize> = 8..=14;
 const NAME: &[u8] = b":status";
-/// The same as the code of RFC 7541 has it, two bits longer.
+/// The same by the Huffman code of RFC 7541; it ends two bits before the last byte does.
 const NAME_PACKED: [u8; 5] = [0xb8, 0x84, 0x8d, 0x36, 0xa3];
 
-/// What came of a block, frame by frame.
+/// The headers block that is being received, frame by frame.
 #[derive(Default)]
 pub struct Block {
     bytes: Vec<u8>,
@@ -25,13 +25,13 @@ pub struct Block {
 }
 
 impl Block {
-    /// A frame that begins a block.
+    /// Begins a block with a HEADERS frame.
     pub fn begins(&mut self, flags: u8) {
         self.bytes.clear();
         (self.frames, self.flags) = (1, flags);
     }
 
-    /// A frame that goes on with it; it has neither padding nor a priority.
+    /// Continues it with a CONTINUATION frame, which has neither padding nor a priority.
     pub fn goes_on(&mut self, flags: u8) {
         self.frames += 1;
         self.flags = flags & END_HEADERS;
@@ -45,12 +45,12 @@ impl Block {
         self.bytes.len()
     }
 
-    /// A part of a frame.
+    /// Adds a part of a frame.
     pub fn put(&mut self, part: &[u8]) {
         self.bytes.extend_from_slice(part);
     }
 
-    /// A frame is whole. Whether the library may read what has come so far.
+    /// Called at the end of each frame; whether h2 may read what has come so far.
     pub fn may_be_read(&mut self) -> bool {
         if self.unframe().is_none() {
             return false;
@@ -59,7 +59,7 @@ impl Block {
         !is_whole || is_of_request(&std::mem::take(&mut self.bytes)) == Some(true)
     }
 
-    /// Takes away what is around the headers in the first frame.
+    /// Removes padding and priority from the first frame.
     fn unframe(&mut self) -> Option<()> {
         let padding = match self.flags & PADDED {
             0 => 0,
@@ -76,7 +76,7 @@ impl Block {
     }
 }
 
-/// Whether a block has no `:status`. None of what can't be read.
+/// Whether a block has no `:status`; none if it can't be decoded.
 fn is_of_request(block: &[u8]) -> Option<bool> {
     let mut rest = Rest(block);
     while let Some(first) = rest.0.first() {
@@ -84,7 +84,7 @@ fn is_of_request(block: &[u8]) -> Option<bool> {
             128.. => (7, false),
             64..=127 => (6, true),
             32..=63 => {
-                rest.number(5)?; // the size of the connection's own table
+                rest.number(5)?; // the size of the connection's dynamic table
                 continue;
             }
             _ => (4, true),
@@ -112,7 +112,7 @@ fn is_name((is_packed, name): (bool, &[u8])) -> bool {
     }
 }
 
-/// What is not read yet.
+/// The part of the block that is not decoded yet.
 struct Rest<'a>(&'a [u8]);
 
 impl<'a> Rest<'a> {
@@ -122,7 +122,7 @@ impl<'a> Rest<'a> {
         Some(*byte)
     }
 
-    /// A number whose first bits are the last ones of a byte, so many. It has as many bytes as the library reads.
+    /// Decodes an integer with a prefix of so many bits. It may have as many bytes as h2 accepts.
     fn number(&mut self, prefix: u32) -> Option<usize> {
         let most = (1 << prefix) - 1;
         let first = usize::from(self.byte()?) & most;
@@ -140,7 +140,7 @@ impl<'a> Rest<'a> {
         None
     }
 
-    /// Whether a text is packed, and its bytes.
+    /// A string literal: whether it is Huffman-coded, and its bytes.
     fn text(&mut self) -> Option<(bool, &'a [u8])> {
         let is_packed = *self.0.first()? >= 128;
         let length = self.number(7)?;
@@ -161,7 +161,7 @@ mod tests {
         [&[packed | text.len() as u8][..], text].concat()
     }
 
-    /// The header `a: b`, in a way in which it may be written.
+    /// The header `a: b`, in the representation that `first` selects.
     fn other(first: u8) -> Vec<u8> {
         [vec![first], text(b"a", 0), text(b"b", 0)].concat()
     }
@@ -169,7 +169,7 @@ mod tests {
     #[test]
     fn a_status_is_seen_however_it_is_written() {
         let method = vec![0x83];
-        let long = [vec![0x0f, 0x80 | 46, 0], text(b"x", 0)].concat(); // the name at place 61
+        let long = [vec![0x0f, 0x80 | 46, 0], text(b"x", 0)].concat(); // index 61 as the name
         let sound = [vec![0x3f, 0xe1, 31], method, other(0), other(0x10), other(0x40), long].concat();
         assert_eq!(is_of_request(&sound), Some(true));
         let literal = |first: u8, name: Vec<u8>| [vec![first], name, text(b"100", 0)].concat();

@@ -1,4 +1,4 @@
-//! A connection of gRPC: the number of its calls is bounded, and it is closed where it is silent or idle.
+//! Serves a gRPC connection by hyper: bounds the number of its calls, and closes it if it is silent, idle or evicted.
 
 use super::answer;
 use super::guard::Guarded;
@@ -15,20 +15,21 @@ use std::convert::Infallible;
 use std::sync::{Arc, Mutex};
 use std::time::{Duration, Instant};
 
-/// Calls of a connection at a time.
+/// How many calls a connection may have at a time.
 const CALLS: u32 = 100;
-/// What a client may send ahead, for a call and for its connection: this is in no budget yet.
+/// What a client may send ahead for a call, and for its connection; no budget counts these bytes yet.
 const AHEAD: u32 = 128 << 10;
 const AHEAD_ALL: u32 = 256 << 10;
-/// The longest headers of a call.
+/// The longest header list of a call.
 const HEADERS: u32 = 16 << 10;
-/// A client that is silent for so long is asked whether it is there, and has so long to say so.
+/// After this silence the client is pinged, and has this long to answer.
 const SILENT: Duration = Duration::from_secs(30);
 const TO_ANSWER: Duration = Duration::from_secs(20);
-/// How long a client that was told that the connection ends has to end it.
+/// How long a client has to end the connection after GOAWAY.
 const TO_END: Duration = Duration::from_secs(5);
 
-/// How many calls are under way, and when the last one ended; and the permit of their connection, which idles meanwhile.
+/// How many calls are in flight and when the last one ended, with the permit of the connection, which is idle between
+/// calls.
 struct Calls {
     state: Mutex<(usize, Instant)>,
     permit: Arc<ConnectionPermit>,
@@ -49,7 +50,7 @@ impl Calls {
     }
 }
 
-/// One call, also one that is given up.
+/// One call, until it is answered or cancelled.
 struct Call(Arc<Calls>);
 
 impl Call {
@@ -73,7 +74,7 @@ impl Drop for Call {
     }
 }
 
-/// HTTP/2 within these bounds.
+/// HTTP/2 with these bounds.
 fn bounded() -> Http {
     let mut http = Http::new();
     http.http2_only(true)

@@ -1,13 +1,13 @@
-//! Ends a connection that floods: too long a block of headers, or too many frames that cost the sender nothing. A ping for
-//! each message that came is none of these: gRPC's client for Go measures the connection so, after each answer. Nor is an
-//! empty frame that ends a call, one for each.
+//! Closes a connection that floods the service: with a headers block that is too long, or with too many frames that
+//! cost the sender nothing. It sits between the socket and h2, which lacks these bounds in the release used here, and
+//! looks only at the type and the length of each frame.
 //!
-//! The library's own bounds on these are younger than the release that is used here, so the frames are counted where
-//! their bytes are read: what a frame is and how long, no more. What is no HTTP/2 at all is left to the library, but for
-//! what it panics at: a status in a request (`block`), and that a client goes away, which it is not told.
-//!
-//! To a frame that is wrong by itself the library queues a reset of its stream, without a bound where nobody reads them
-//! (RUSTSEC-2024-0003). So only so many frames are read before all is sent that was said to those before.
+//! - A ping for each received message is allowed: gRPC's client for Go measures the connection like this after each
+//!   answer. So is one empty frame to end each call.
+//! - Input that is no HTTP/2 is left to h2, except for two things at which it panics: a status in a request (`block`),
+//!   and GOAWAY, which is hidden from it.
+//! - For each frame that is wrong by itself h2 queues a reset, without a bound if the client does not read them
+//!   (RUSTSEC-2024-0003). So after a number of frames nothing more is read until all answers are sent.
 
 use super::block::Block;
 use std::io::{Error, ErrorKind, IoSlice, Result};
@@ -16,12 +16,12 @@ use std::task::{ready, Context, Poll, Waker};
 use std::time::{Duration, Instant};
 use tokio::io::{AsyncRead, AsyncWrite, ReadBuf};
 
-/// What a client sends first.
+/// The length of the client's connection preface.
 const PREFACE: usize = 24;
-/// Of a frame: its length, its kind, its flags, its stream.
+/// The length of a frame header: length, type, flags, stream.
 const HEAD: usize = 9;
 
-/// The longest block of headers, and in how many frames.
+/// The longest headers block, and the most frames it may have.
 const BLOCK: usize = 64 << 10;
 const BLOCK_FRAMES: usize = 16;
 
@@ -29,41 +29,41 @@ const BLOCK_FRAMES: usize = 16;
 const IDLE_FRAMES: usize = 1000;
 const WITHIN: Duration = Duration::from_secs(10);
 
-/// How many frames are read at most, more or less, before what was said to them is sent.
+/// About how many frames are read before everything queued in answer is sent.
 const UNANSWERED: usize = 1000;
 
 const DATA: u8 = 0;
-/// A flag of data. Some clients say by an empty frame that a message was all: one for each call.
+/// A flag of DATA. Some clients end a message with an empty frame: one for each call.
 const END_STREAM: u8 = 1;
 const HEADERS: u8 = 1;
 const PUSH_PROMISE: u8 = 5;
 const PING: u8 = 6;
-/// A client says so that it takes no calls more, which it never gets. The library gives up calls behind the stream that
-/// this names, and counts wrongly those that it has not begun with.
+/// GOAWAY: the client says that it accepts no more streams, of which it never gets any. h2 would cancel the calls after
+/// the stream that the frame names, and miscounts those that it has not begun.
 const GOAWAY: u8 = 7;
 const WINDOW_UPDATE: u8 = 8;
 const CONTINUATION: u8 = 9;
-/// A kind that no frame has: the library passes it over.
+/// A frame type that does not exist; h2 ignores such frames.
 const UNKNOWN: u8 = 0xff;
-/// The place of a frame's kind in its head.
+/// The index of the type in a frame header.
 const KIND: usize = 3;
 
-/// What the frames of a connection were so far.
+/// The state of the frames of a connection.
 struct Frames {
-    /// Bytes that are passed over: of the preface, or of a frame behind its head.
+    /// How many bytes to skip: of the preface, or of a frame after its header.
     passed_over: usize,
     head: [u8; HEAD],
     of_head: usize,
     block: Block,
-    /// Whether what comes is of the block.
+    /// Whether the current frame belongs to the block.
     is_of_block: bool,
-    /// How many came since all was sent.
+    /// How many frames have come since everything was sent.
     unanswered: usize,
     idle: usize,
     since: Instant,
-    /// How many pings may come for messages that came.
+    /// How many pings may come for messages received.
     pings: usize,
-    /// How many empty frames may end calls that began.
+    /// How many empty frames may end calls that have begun.
     ends: usize,
 }
 
@@ -83,7 +83,7 @@ impl Frames {
         }
     }
 
-    /// Whether the connection may go on behind these bytes, of which the kinds of some frames are changed.
+    /// Whether the connection may continue after these bytes. Changes the type of GOAWAY frames in them.
     fn may_go_on(&mut self, mut bytes: &mut [u8]) -> bool {
         while !bytes.is_empty() {
             let passed_over = self.passed_over.min(bytes.len());
@@ -110,11 +110,11 @@ impl Frames {
                 }
             }
         }
-        // A frame without more than its head has no byte behind it.
+        // A frame that consists of its header alone ends here.
         self.passed_over > 0 || self.frame_ends()
     }
 
-    /// Whether the library may read a frame that is whole.
+    /// At the end of a frame: whether h2 may read it.
     fn frame_ends(&mut self) -> bool {
         !std::mem::take(&mut self.is_of_block) || self.block.may_be_read()
     }
@@ -134,7 +134,7 @@ impl Frames {
             DATA if length > 0 => self.pings = IDLE_FRAMES.min(self.pings + 1),
             DATA if flags & END_STREAM != 0 && self.ends > 0 => self.ends -= 1,
             PING if self.pings > 0 => self.pings -= 1,
-            PUSH_PROMISE => return false, // no client may, and its headers would be in no `block`
+            PUSH_PROMISE => return false, // no client may send it, and its headers would be in no `block`
             WINDOW_UPDATE => {}
             _ => {
                 if self.since.elapsed() > WITHIN {
@@ -152,7 +152,7 @@ impl Frames {
 pub struct Guarded<S> {
     stream: S,
     frames: Frames,
-    /// Who reads again once all is sent.
+    /// The task that reads again after everything is sent.
     reader: Option<Waker>,
 }
 
@@ -169,7 +169,7 @@ impl<S: AsyncRead + Unpin> AsyncRead for Guarded<S> {
         into: &mut ReadBuf<'_>,
     ) -> Poll<Result<()>> {
         if self.frames.unanswered >= UNANSWERED {
-            self.reader = Some(context.waker().clone()); // `poll_flush` wakes it
+            self.reader = Some(context.waker().clone()); // woken by `poll_flush`
             return Poll::Pending;
         }
         let before = into.filled().len();
@@ -223,7 +223,7 @@ mod tests {
         frame
     }
 
-    /// Whether a connection of these frames may go on, whatever parts its bytes come in.
+    /// Whether a connection with these frames may continue, however its bytes are cut into parts.
     fn may_go_on(frames: &[Vec<u8>]) -> bool {
         let bytes = [vec![0; PREFACE], frames.concat()].concat();
         let (may_go_on, passed_on) = passed_on(&bytes, bytes.len());
@@ -235,7 +235,7 @@ mod tests {
         may_go_on
     }
 
-    /// The same of bytes in parts that are so long, and what the library reads of them.
+    /// The same for bytes in parts of this length, and the bytes that h2 reads.
     fn passed_on(bytes: &[u8], part: usize) -> (bool, Vec<u8>) {
         let (mut counted, mut bytes) = (Frames::new(), bytes.to_vec());
         let may_go_on = bytes.chunks_mut(part).all(|part| counted.may_go_on(part));
@@ -267,7 +267,7 @@ mod tests {
         assert!(!may_go_on(&[frame(HEADERS, 16384), frame(CONTINUATION, 50_000)]));
     }
 
-    /// Else who reads nothing has the library keep a reset for each of its frames.
+    /// Otherwise h2 would keep a reset for each frame of a client that does not read.
     #[tokio::test]
     async fn no_more_is_read_before_what_was_said_is_sent() {
         use tokio::io::{AsyncReadExt, AsyncWriteExt};

@@ -1,4 +1,5 @@
-//! `grpc.health.v1`: whether posts are taken, as orchestrators and balancers ask. No name is needed: it says what `/readyz` does.
+//! `grpc.health.v1`: answers orchestrators and balancers whether posts are taken, as `/readyz` does. Needs no sender's
+//! name.
 
 use super::{is_grpc, message, reply, timeout};
 use crate::intake::refusal::Refusal;
@@ -8,7 +9,7 @@ use hyper::{Body, Response};
 use prost::Message;
 
 const CHECK: &str = "/grpc.health.v1.Health/Check";
-/// What is asked about: the whole, or its one service.
+/// The services that may be asked about: the whole server, or its one service.
 const SERVICES: [&str; 2] = ["", "opentelemetry.proto.collector.metrics.v1.MetricsService"];
 
 #[derive(Clone, PartialEq, Message)]
@@ -25,12 +26,12 @@ pub(super) struct HealthCheckResponse {
 
 pub(super) const SERVING: i32 = 1;
 pub(super) const NOT_SERVING: i32 = 2;
-/// Codes of gRPC.
+/// gRPC status codes.
 const INVALID_ARGUMENT: i32 = 3;
 const NOT_FOUND: i32 = 5;
 const UNAVAILABLE: i32 = 14;
 
-/// `Watch` is not had: a client that gets UNIMPLEMENTED asks by `Check`.
+/// Whether a request calls `Check`. `Watch` is not implemented: clients that get UNIMPLEMENTED fall back to `Check`.
 pub fn is_asked(parts: &Parts) -> bool {
     parts.uri.path() == CHECK && is_grpc(&parts.headers)
 }

@@ -1,11 +1,11 @@
-//! The one message of a call: a byte that says whether it is packed, its length, its bytes.
+//! Receives the one message of a call: a byte that says whether it is compressed, its length, and its bytes.
 
 use crate::intake::refusal::Refusal;
 use crate::intake::{Arrival, Hold, LEFT_BYTES, LEFT_TIME, MOST};
 use bytes::Bytes;
 use hyper::body::{Body, HttpBody};
 
-/// What is before a message.
+/// The length of the prefix before a message.
 const PREFIX: usize = 5;
 
 #[derive(Debug, PartialEq, Eq)]
@@ -14,13 +14,13 @@ pub struct Message {
     pub bytes: Bytes,
 }
 
-/// Receives the whole body of a call. One that says that it is too long is refused before it is read.
+/// Receives the whole body of a call. If its announced length is too long, it is refused before it has arrived.
 pub async fn receive(body: &mut Body, hold: &mut Hold) -> Result<Message, Refusal> {
     let mut whole = Vec::new();
     let mut first: Option<Bytes> = None;
     let mut arrival = Arrival::of(hold);
     while let Some(part) = arrival.next(body.data()).await? {
-        let part = part.map_err(|_| Refusal::Gone)?; // the call was given up, or its connection has ended
+        let part = part.map_err(|_| Refusal::Gone)?; // the call was cancelled, or its connection has ended
         let have = first.as_ref().map_or(whole.len(), Bytes::len) + part.len();
         arrival.has(have)?;
         match first.take() {
@@ -35,7 +35,7 @@ pub async fn receive(body: &mut Body, hold: &mut Hold) -> Result<Message, Refusa
             return Err(Refusal::Malformed);
         }
     }
-    // Most messages come in one part: nothing is copied.
+    // Most messages come in one part, which is not copied.
     let whole = first.unwrap_or_else(|| whole.into());
     match length(&whole)? {
         Some(length) if whole.len() == PREFIX + length => {
@@ -45,7 +45,7 @@ pub async fn receive(body: &mut Body, hold: &mut Hold) -> Result<Message, Refusa
     }
 }
 
-/// Reads what still comes after a refusal and throws it away, within bounds.
+/// Reads and discards the rest of a refused call, within bounds.
 pub async fn throw_away(body: &mut Body) {
     let reading = async {
         let mut thrown = 0;
@@ -54,10 +54,10 @@ pub async fn throw_away(body: &mut Body) {
             thrown += part.len();
         }
     };
-    let _ = tokio::time::timeout(LEFT_TIME, reading).await; // who takes longer may see a reset alone
+    let _ = tokio::time::timeout(LEFT_TIME, reading).await; // a slower sender may see only a reset
 }
 
-/// How long the message is, once its prefix is there.
+/// The length of the message, once its prefix has arrived.
 fn length(received: &[u8]) -> Result<Option<usize>, Refusal> {
     let Some((prefix, _)) = received.split_first_chunk::<PREFIX>() else {
         return Ok(None);
@@ -79,7 +79,7 @@ mod tests {
     const TOO_LONG: &str =
         "body too long: over 4194304 bytes, packed or unpacked: post fewer points at a time";
 
-    /// What is received where the body comes in these parts.
+    /// Receives a body that comes in these parts.
     async fn received(parts: Vec<Vec<u8>>) -> Result<Message, String> {
         let budget = Budget::new(64 << 20);
         let (mut sender, mut body) = Body::channel();

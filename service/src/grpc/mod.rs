@@ -1,9 +1,9 @@
-//! OTLP over gRPC: its one unary method over HTTP/2, for senders that speak nothing else.
+//! OTLP over gRPC: the one unary method `Export` over HTTP/2. `service` starts it at an address of its own.
 //!
-//! A message goes the way of a body that came over HTTP: the same reader, slot, journal and bound of memory, so the
-//! same answers. `message` takes it out of its frame, `reply` says what became of it as gRPC does, `connections` serves,
-//! and `guard` ends a connection that floods, or whose headers (`block`) the library must not read. `health` is what orchestrators
-//! ask.
+//! A message goes the same way as an HTTP body: the same reader, shard, journal and memory budget, and so the same
+//! answers (`Intake::put`). `message` takes it out of its frame, and `reply` encodes the answer. `connections` serves;
+//! `guard` closes connections that flood, or send headers (`block`) that h2 must not decode. `health` answers
+//! orchestrators.
 
 mod block;
 mod connections;
@@ -40,7 +40,7 @@ async fn answer<T: Taker>(intake: Arc<Intake<T>>, who: &Who, request: Request<Bo
     }
     let is_grpc = is_grpc(&parts.headers);
     let (call, limit) = (call(&parts, who), timeout::of(&parts.headers));
-    drop(parts); // they may be long, are in no budget, and a call may last
+    drop(parts); // headers may be long and are in no budget, and a call may take long
     if !is_grpc {
         message::throw_away(&mut body).await;
         let mut response = Response::new(Body::empty());
@@ -54,12 +54,12 @@ async fn answer<T: Taker>(intake: Arc<Intake<T>>, who: &Who, request: Request<Bo
             let taking = take(&intake, head, &mut body);
             match tokio::time::timeout(limit, taking).await {
                 Ok(outcome) => outcome,
-                // What was taken stays; the sender's repeat is refused where it was taken.
+                // If the post was taken it stays so, and the sender's retry is a duplicate.
                 Err(_) => intake.refused(&sender, &Refusal::Deadline),
             }
         }
     };
-    // An answer before the end of a body is followed by a reset, and some clients see that alone.
+    // An answer before the end of the body is followed by a reset, and some clients see only the reset.
     if outcome.reason() != Some(Reason::Deadline) && !body.is_end_stream() {
         message::throw_away(&mut body).await;
     }
@@ -67,14 +67,14 @@ async fn answer<T: Taker>(intake: Arc<Intake<T>>, who: &Who, request: Request<Bo
     reply::response(&outcome).await
 }
 
-/// `application/grpc`, with or without `+proto`.
+/// Whether the content type is `application/grpc` or `application/grpc+proto`.
 fn is_grpc(headers: &HeaderMap) -> bool {
     let kind = headers.get(CONTENT_TYPE).and_then(|kind| kind.to_str().ok());
     let kind = kind.and_then(|kind| kind.split(';').next()).unwrap_or_default();
     ["application/grpc", "application/grpc+proto"].contains(&kind.trim())
 }
 
-/// The head of a call that may have a message. Whether this is packed is said by its frame.
+/// The head of a call. The frame of the message says whether it is compressed.
 fn call(parts: &Parts, who: &Who) -> Result<Head, Turned> {
     let of = |name: &str| parts.headers.get_all(name).iter().map(|value| value.as_bytes());
     let authority = parts.uri.authority().map(|authority| authority.as_str().as_bytes());
@@ -106,7 +106,7 @@ async fn take<T: Taker>(intake: &Arc<Intake<T>>, mut head: Head, body: &mut Body
             if !message.is_packed {
                 head.packing = Packing::Plain;
             }
-            // A call may be given up at any time: nothing of its post was taken then, or all of it.
+            // The call may be cancelled at any time: then its post was taken whole or not at all.
             intake.put(head, message.bytes, hold).await
         }
     }

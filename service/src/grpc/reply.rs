@@ -1,4 +1,4 @@
-//! What a call is answered: a message and a status behind it, or a status alone.
+//! Encodes the answer to a call: a message with a status in the trailers, or a status alone.
 
 use crate::otlp::{Detail, Encoding, Outcome, Rejection, Status};
 use bytes::Bytes;
@@ -7,7 +7,7 @@ use hyper::{Body, Response};
 use percent_encoding::{utf8_percent_encode, AsciiSet, CONTROLS};
 use prost::Message;
 
-/// What is not written as it is in a status' message.
+/// The characters that are percent-encoded in a status message.
 const ESCAPED: &AsciiSet = &CONTROLS.add(b'%');
 
 /// `google.rpc.RetryInfo`.
@@ -35,7 +35,7 @@ pub async fn response(outcome: &Outcome) -> Response<Body> {
     }
 }
 
-/// A message, and the status behind it. Both find room: nothing else is sent so.
+/// A message, and the status in the trailers. The channel has room for both, since nothing else is sent through it.
 pub async fn message(message: &[u8]) -> Response<Body> {
     let (mut sender, body) = Body::channel();
     let _ = sender.try_send_data(framed(message));
@@ -47,7 +47,7 @@ pub async fn message(message: &[u8]) -> Response<Body> {
     response
 }
 
-/// A status alone.
+/// A status without a message.
 pub fn failed(code: i32, why: &str) -> Response<Body> {
     let mut response = empty();
     put(response.headers_mut(), "grpc-status", &code.to_string());

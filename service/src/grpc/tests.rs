@@ -1,4 +1,4 @@
-//! What a client of gRPC is answered, and when its connection ends.
+//! Answers to gRPC clients, and when their connections end.
 
 use super::reply::RetryInfo;
 use super::*;
@@ -26,10 +26,10 @@ mod frames;
 mod health;
 mod slow;
 
-/// Keeps what it is given, and answers as it was told, or never.
+/// Records the posts it gets and returns `outcome`; never answers if there is none.
 struct Kept {
     posts: Mutex<Vec<(String, Bytes)>>,
-    /// Whose calls were answered without asking.
+    /// The senders of calls that were refused without asking it.
     turned: Mutex<Vec<String>>,
     outcome: Option<Outcome>,
 }
@@ -104,7 +104,7 @@ impl Served {
         Served::with(Some(Outcome::taken(0)), 64 << 20).await
     }
 
-    /// One call on a connection of its own.
+    /// Makes one call on a connection of its own.
     async fn call(&self, path: &str, headers: &[(&str, &str)], body: Vec<u8>) -> Answer {
         let stream = TcpStream::connect(self.address).await.unwrap();
         let (mut calls, connection) =
@@ -129,7 +129,7 @@ impl Served {
         self.call(METHOD, &headers, body).await
     }
 
-    /// Waits until all that was under way has been given up.
+    /// Waits until everything that was in flight has been cancelled.
     async fn nothing_is_held(&self) {
         for _ in 0..500 {
             if self.budget.used() == 0 {
@@ -305,7 +305,7 @@ async fn a_deadline_ends_the_call_and_not_the_post() {
     assert_eq!(*served.kept.turned.lock().unwrap(), ["-"], "no operator would see it");
 }
 
-/// They may be long, and no budget counts them.
+/// Headers may be long, and no budget counts them.
 #[tokio::test]
 async fn headers_are_dropped_while_a_message_comes() {
     let (kept, metrics) = (Served::start().await.kept, Arc::new(Metrics::new().unwrap()));

@@ -1,12 +1,12 @@
-//! How long a call may take: by its own `grpc-timeout`, and no longer than a post over HTTP.
+//! How long a call may take: its `grpc-timeout`, but no longer than a post over HTTP.
 
 use hyper::header::HeaderMap;
 use std::time::Duration;
 
-/// A body has this long to come, and what a slot then needs is short of it.
+/// A body may take this long to arrive; what the shard then needs is short in comparison.
 const LONGEST: Duration = Duration::from_secs(60);
 
-/// What can't be read bounds nothing.
+/// The timeout of a call. A header that can't be parsed is ignored.
 pub fn of(headers: &HeaderMap) -> Duration {
     let text = headers.get("grpc-timeout").and_then(|value| value.to_str().ok());
     text.and_then(read).unwrap_or(LONGEST).min(LONGEST)

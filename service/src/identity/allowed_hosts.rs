@@ -1,8 +1,8 @@
-//! Which hosts a request may name if nothing proves who sends it.
+//! Which hosts a request may name if nothing proves who sends it. `Who` asks it for each request.
 //!
-//! A web page can make its own name resolve to this machine (DNS rebinding) and have the browser post here under any sender's
-//! name. Such a request names the page's host. If senders need a token or a certificate, a page has neither, and any host is
-//! accepted.
+//! By DNS rebinding a web page can make a name of its own resolve to this machine, and have the browser post here under
+//! any sender's name. Such a request names the page's host. If senders need a token or a certificate, a page has
+//! neither, so any host is accepted.
 
 use super::Stranger;
 use crate::log::shown;

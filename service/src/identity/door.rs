@@ -1,4 +1,4 @@
-//! TLS and names at the senders' addresses.
+//! Decides how senders are identified at an address: by TLS with certificates, by tokens, or by their own word.
 
 use super::who::{By, Certified};
 use super::{AllowedHosts, Tokens, Who};
@@ -11,7 +11,7 @@ use std::net::IpAddr;
 use std::path::PathBuf;
 use std::sync::Arc;
 
-/// What stands between a sender and its address. The default believes all, without TLS, whatever host they name.
+/// The checks at the address of senders. By default there is no TLS, and every sender and host is believed.
 #[derive(Clone, Default)]
 pub struct Door {
     pub(crate) tls: Option<Arc<Tls>>,
@@ -20,7 +20,7 @@ pub struct Door {
     hosts: Option<Arc<AllowedHosts>>,
 }
 
-/// The file of `--admin-tokens`.
+/// Opens the file of `--admin-tokens`.
 pub fn operators(path: PathBuf, metrics: &Metrics) -> Result<Arc<Reloaded<Tokens>>> {
     let reader = Reader {
         read: Box::new(|contents: &[Vec<u8>]| Tokens::read(&contents.concat())?.of_operators()),
@@ -30,7 +30,7 @@ pub fn operators(path: PathBuf, metrics: &Metrics) -> Result<Arc<Reloaded<Tokens
 }
 
 impl Door {
-    /// Reads the files of both. The error names what can't be used and says what to do.
+    /// Reads the files. An error names what can't be used and says what to do.
     pub fn open(tls: Option<&Files>, tokens: Option<PathBuf>, metrics: &Arc<Metrics>) -> Result<Door> {
         let without = match tokens {
             Some(_) => WithoutCertificate::LetIn,
@@ -46,18 +46,18 @@ impl Door {
         Ok(Door { tls: tls.map(Arc::new), by_certificate, tokens: tokens.transpose()?, hosts: None })
     }
 
-    /// The same door. Requests that prove nothing have to name one of these hosts.
+    /// The same door, where requests that prove nothing have to name one of these hosts.
     pub fn with_allowed_hosts(self, hosts: AllowedHosts) -> Door {
         Door { hosts: Some(Arc::new(hosts)), ..self }
     }
 
-    /// By whom the requests of a connection are, which may be behind a handshake, and comes from `peer`.
+    /// How the senders of a connection's requests are identified. `shaken` is its handshake, if it had one.
     pub fn who(&self, shaken: Option<&Shaken>, peer: Option<IpAddr>) -> Who {
         let chain = shaken.zip(self.tls.as_ref()).and_then(|(shaken, tls)| shaken.chain(tls));
         let by = match (chain, &self.tls, &self.tokens) {
             (Some(chain), _, tokens) => By::Certificate(Certified::new(chain, tokens.clone())),
             (None, _, Some(tokens)) => By::Token(tokens.clone()),
-            // No handshake ends so. If one did, nobody would be believed.
+            // No handshake ends like this. If one did, nobody would be trusted.
             (None, Some(tls), None) if self.by_certificate => {
                 let chain = ClientChain::new(Vec::new(), tls.contexts(), tls.clone());
                 By::Certificate(Certified::new(chain, None))
@@ -72,17 +72,17 @@ impl Door {
         self.tokens.clone()
     }
 
-    /// Whether who posts has to prove who it is.
+    /// Whether senders have to prove who they are.
     pub fn has_names(&self) -> bool {
         self.by_certificate || self.tokens.is_some()
     }
 
-    /// Whether nobody can read along.
+    /// Whether the connections are encrypted.
     pub fn has_tls(&self) -> bool {
         self.tls.is_some()
     }
 
-    /// Whether strangers can neither read along nor post.
+    /// Whether strangers can neither read nor post.
     pub fn is_closed(&self) -> bool {
         self.has_tls() && self.has_names()
     }

@@ -1,6 +1,9 @@
-//! Who a sender is: by the certificate that it shows, else by its token, else by its own word (`who`). `tokens` is the
-//! file that says which tokens there are, and who may use the names of others. Where its own word is enough, `allowed_hosts`
-//! keeps web pages out. `door` has all of it for the addresses.
+//! Identifies senders: by the certificate that they show, otherwise by their token, otherwise by their own word.
+//! `intake` and `grpc` ask it for each request. A sender posts under its own name, or under those that the file of
+//! tokens allows.
+//!
+//! - `door`: the checks of an address; `who`: the identity of a connection and its requests.
+//! - `tokens`: the file of tokens; `allowed_hosts`: keeps web pages out if no proof is needed.
 
 mod allowed_hosts;
 mod door;
@@ -14,7 +17,7 @@ pub use who::{by_token, Who};
 
 use crate::otlp::Reason;
 
-/// Why a request is refused for who sends it. The text never has anything of a token.
+/// Why a request is refused for its sender. The text never contains any part of a token.
 #[derive(Debug, PartialEq, Eq, thiserror::Error)]
 pub enum Stranger {
     #[error("no token: send one header `Authorization: Bearer TOKEN`")]
@@ -39,12 +42,12 @@ pub enum Stranger {
          the name by --allowed-hosts"
     )]
     OtherHost { host: String },
-    /// The other name is somebody's token, which is shown nowhere.
+    /// The name that was asked for is somebody's token, which is never shown.
     #[error("{name} {MAY_NOT} a token: leave x-sender out")]
     TokenAsName { name: String },
 }
 
-/// What stands between who posts and the name that it gives itself.
+/// The text between the sender's name and the name that it asks for.
 const MAY_NOT: &str = "may not post as";
 
 impl Stranger {

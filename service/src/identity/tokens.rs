@@ -1,9 +1,13 @@
-//! The file of `--tokens`: which tokens there are, whose each is, and which names of others it may use.
+//! The file of `--tokens`: the digest of each token, its owner, the names of others that an owner may use, and quotas.
 //!
-//! A line is `NAME sha256:HEX`, of a token's digest, so that nobody can post by what the file says. `NAME/PATTERN` may also
-//! post as whoever the pattern says: a name, or the beginning of one and `*`. `NAME/PATTERN certificate` lets a certificate
-//! do so. Behind either, `series=N` and `points=N` say how many series NAME may have, and points a second; `NAME - series=N`
-//! says no more than that. Empty lines and those that begin with `#` say nothing.
+//! The lines, besides empty ones and those that begin with `#`:
+//!
+//! - `NAME sha256:HEX`: the digest of a token, so that nobody can post with what the file has.
+//! - `NAME/PATTERN sha256:HEX`: the owner may also post as the senders of the pattern: a name, or its beginning and
+//!   `*`.
+//! - `NAME/PATTERN certificate`: the same for a sender with a certificate.
+//! - After either, `series=N` and `points=N` are the quotas of NAME: series, and points a second.
+//! - `NAME - series=N`: a quota alone.
 
 use crate::otlp::NO_NAME;
 use crate::shares::{Share, MOST_POINTS};
@@ -19,16 +23,16 @@ const DIGEST: &str = "sha256:";
 const CERTIFICATE: &str = "certificate";
 const NO_PROOF: &str = "-";
 
-/// A sender by its own name.
+/// A sender and the names it may use.
 #[derive(Debug, PartialEq, Eq)]
 pub struct Sender {
     pub name: String,
-    /// The names that it may use beside it: with `*` at its end all that begin so.
+    /// The other names that it may use; one that ends with `*` stands for all that begin like this.
     pub others: Vec<String>,
 }
 
 impl Sender {
-    /// Whether it may post under a name.
+    /// Whether it may post under this name.
     pub fn may_be(&self, name: &str) -> bool {
         let fits = |other: &String| match other.strip_suffix('*') {
             Some(begin) => name.starts_with(begin),
@@ -38,7 +42,7 @@ impl Sender {
     }
 }
 
-/// The SHA-256 of a token. Comparing two takes the same time wherever they differ.
+/// The SHA-256 of a token. Comparing two takes constant time.
 struct TokenDigest([u8; 32]);
 
 impl PartialEq for TokenDigest {
@@ -55,33 +59,33 @@ impl Hash for TokenDigest {
     }
 }
 
-/// What the file says.
+/// The contents of the file.
 #[derive(Default)]
 pub struct Tokens {
     owners: HashMap<TokenDigest, Arc<Sender>>,
-    /// By name: senders of certificates that may use others' names.
+    /// Senders with certificates that may use others' names, by name.
     certified: HashMap<String, Arc<Sender>>,
-    /// By name.
+    /// The quotas, by name.
     shares: HashMap<String, Share>,
 }
 
-/// What a line says.
+/// The contents of a line.
 struct Line {
     sender: Sender,
     proof: Proof,
     share: Share,
 }
 
-/// By what a line's sender shows who it is.
+/// How the sender of a line proves who it is.
 enum Proof {
     Token([u8; 32]),
     Certificate,
-    /// Another line has it.
+    /// Another line has the proof.
     None,
 }
 
 impl Tokens {
-    /// Reads the file's contents. The error has the number of the line, and nothing of what is in it.
+    /// Parses the file. An error has the number of the line, and nothing of its contents.
     pub fn read(contents: &[u8]) -> Result<Tokens, String> {
         let text = std::str::from_utf8(contents).map_err(|_| "it is no text in UTF-8".to_string())?;
         let mut tokens = Tokens::default();
@@ -115,12 +119,12 @@ impl Tokens {
         Ok(())
     }
 
-    /// What a sender may have by a line of its own.
+    /// The quota of a sender, if a line has one.
     pub fn share(&self, name: &str) -> Option<Share> {
         self.shares.get(name).copied()
     }
 
-    /// The same as a file of operators, whose names stand alone.
+    /// Checks a file of operators, which has only names and tokens.
     pub fn of_operators(self) -> Result<Tokens, String> {
         let is_of_senders = |owner: &Arc<Sender>| !owner.others.is_empty();
         let has_names_alone = self.certified.is_empty() && self.shares.is_empty();
@@ -133,7 +137,7 @@ impl Tokens {
         }
     }
 
-    /// Why nobody has a token, and what to do, where no line has one.
+    /// If no line has a token: that nobody is let in, and what to do.
     pub fn shut(&self) -> Option<&'static str> {
         let is_empty = self.owners.is_empty() && self.certified.is_empty();
         is_empty.then_some(
@@ -141,17 +145,17 @@ impl Tokens {
         )
     }
 
-    /// The same where certificates let senders in: lines may say no more than what these may have.
+    /// The same if certificates let senders in: then the file may have quotas alone.
     pub fn shut_beside_certificates(&self) -> Option<&'static str> {
         self.shut().filter(|_| self.shares.is_empty())
     }
 
-    /// Whose a token is.
+    /// The owner of a token.
     pub fn owner(&self, token: &[u8]) -> Option<Arc<Sender>> {
         self.owners.get(&TokenDigest(Sha256::digest(token).into())).cloned()
     }
 
-    /// The sender of a certificate's name, where it may use others'.
+    /// The sender with this name in its certificate, if it may use others' names.
     pub fn certified(&self, name: &str) -> Option<Arc<Sender>> {
         self.certified.get(name).cloned()
     }
@@ -228,7 +232,7 @@ pub fn line(name: &str, token: &str) -> String {
 mod tests {
     use super::*;
 
-    /// By `printf abc | sha256sum`.
+    /// From `printf abc | sha256sum`.
     const OF_ABC: &str = "sha256:ba7816bf8f01cfea414140de5dae2223b00361a396177a9cb410ff61f20015ad";
 
     fn refused(text: &str) -> String {
@@ -313,7 +317,7 @@ mod tests {
         }
     }
 
-    /// Else each post of one sender takes as long as all others' tokens.
+    /// Otherwise each post would take as long as comparing it with all tokens.
     #[test]
     fn a_token_is_found_among_many_at_once() {
         let others: String =
@@ -339,7 +343,7 @@ mod tests {
         }
     }
 
-    /// Who has a certificate needs no token to be there.
+    /// A sender with a certificate needs no token in the file.
     #[test]
     fn a_file_of_shares_alone_is_one_beside_certificates() {
         for text in ["a certificate series=7", "a - points=9"] {

@@ -1,4 +1,4 @@
-//! Who the sender of a connection is, and of each of its requests.
+//! Identifies the sender of a connection and of each of its requests. `intake/head` and `grpc` ask it.
 
 use super::{AllowedHosts, Sender, Stranger, Tokens};
 use crate::otlp::{self, NO_NAME};
@@ -7,26 +7,26 @@ use crate::tls::ClientChain;
 use std::net::IpAddr;
 use std::sync::Arc;
 
-/// Who posts on a connection.
+/// How the senders of a connection are identified, and its peer.
 pub struct Who {
     pub(super) by: By,
     pub(super) peer: Option<IpAddr>,
 }
 
-/// By what the requests of a connection are named.
+/// How the requests of a connection are identified.
 pub enum By {
     /// By their own word, if they name one of these hosts.
     Believed(Option<Arc<AllowedHosts>>),
-    /// By the token of each.
+    /// By a token in each request.
     Token(Arc<Reloaded<Tokens>>),
     /// By the certificate that the connection has shown.
     Certificate(Certified),
 }
 
-/// Whose a request is.
+/// The proved identity of a request.
 #[derive(Debug)]
 pub enum Proved {
-    /// Whoever it says.
+    /// Nothing is proved: the sender is whatever the request says.
     Anybody,
     Sender(Arc<Sender>),
 }
@@ -40,7 +40,7 @@ impl Who {
         }
     }
 
-    /// Whose a request is that has these values of the header `Authorization`.
+    /// The identity of a request with these values of the header `Authorization`.
     pub fn proved<'h>(&self, authorization: impl Iterator<Item = &'h [u8]>) -> Result<Proved, Stranger> {
         match &self.by {
             By::Believed(_) => Ok(Proved::Anybody),
@@ -49,8 +49,8 @@ impl Who {
         }
     }
 
-    /// By what a request is known that is refused before its name is: where names are proved, by the certificate, else by
-    /// the address that it came from, which is no sender's name.
+    /// The label of a request that is refused before its sender is known. If senders prove their names, it is the
+    /// certificate's name or the peer's address, in a form that is no sender's name.
     pub fn unnamed(&self) -> String {
         let certified = match &self.by {
             By::Believed(_) => return NO_NAME.into(),
@@ -64,7 +64,7 @@ impl Who {
         }
     }
 
-    /// The same refusal without a token in it: some senders give theirs as their name.
+    /// The same refusal without a token in it: some senders put theirs into `x-sender`.
     pub fn without_token(&self, stranger: Stranger) -> Stranger {
         let tokens = match &self.by {
             By::Believed(_) => None,
@@ -82,11 +82,11 @@ impl Who {
     }
 }
 
-/// What stands before the address of who has no name.
+/// Stands before the address of a client without a name.
 const STRANGER: &str = "address ";
 
 impl Proved {
-    /// By what a request is known that is refused for another reason.
+    /// The label of a request that is refused for another reason.
     pub fn known(&self) -> &str {
         match self {
             Proved::Anybody => NO_NAME,
@@ -94,7 +94,7 @@ impl Proved {
         }
     }
 
-    /// Who posts, if that is proved.
+    /// The sender, if it is proved.
     pub fn sender(self) -> Option<Arc<Sender>> {
         match self {
             Proved::Anybody => None,
@@ -102,7 +102,7 @@ impl Proved {
         }
     }
 
-    /// The name of a request's sender, which may name itself.
+    /// The name that the request posts under; `own` is what it calls itself.
     pub fn name(&self, own: Option<&str>) -> Result<String, Stranger> {
         match (self, own) {
             (Proved::Anybody, own) => Ok(own.unwrap_or(NO_NAME).to_string()),
@@ -115,7 +115,7 @@ impl Proved {
     }
 }
 
-/// Whose a request is that has these values of the header `Authorization`.
+/// The owner of the token in these values of the header `Authorization`.
 pub fn by_token<'h>(
     tokens: &Tokens,
     mut authorization: impl Iterator<Item = &'h [u8]>,
@@ -127,7 +127,7 @@ pub fn by_token<'h>(
     tokens.owner(token).ok_or(Stranger::WrongToken)
 }
 
-/// The token of `Bearer TOKEN` (RFC 6750, 2.1); the scheme's case says nothing (RFC 9110, 11.1).
+/// The token of `Bearer TOKEN` (RFC 6750, 2.1). The scheme is case-insensitive (RFC 9110, 11.1).
 fn bearer(value: &[u8]) -> Option<&[u8]> {
     const SCHEME: &[u8] = b"bearer ";
     let (scheme, token) = value.split_at_checked(SCHEME.len())?;
@@ -135,7 +135,7 @@ fn bearer(value: &[u8]) -> Option<&[u8]> {
     (scheme.eq_ignore_ascii_case(SCHEME) && !token.is_empty()).then_some(token)
 }
 
-/// A sender by its certificate.
+/// A sender identified by its certificate.
 pub struct Certified {
     chain: ClientChain,
     sender: Option<Arc<Sender>>,
@@ -165,7 +165,7 @@ mod tests {
     use crate::tls::tests::{certificate, folder, server, tls, Made};
     use crate::tls::WithoutCertificate;
 
-    /// Who shows a certificate of the root that is believed.
+    /// A client with a certificate of the trusted root.
     fn shown(subject: &str, names: Option<&str>) -> Certified {
         let at = folder();
         server(at.path());
@@ -183,7 +183,7 @@ mod tests {
         assert_eq!(uri.sender().unwrap().name, name);
     }
 
-    /// Whatever name it may post under.
+    /// Whichever name it may post under.
     #[test]
     fn who_shows_a_certificate_has_proved_its_own_name() {
         let who = Who { by: By::Certificate(shown("/CN=x", Some("DNS:shop-1"))), peer: None };

@@ -1,42 +1,43 @@
-//! What a certificate says of its owner and of its end (RFC 5280). Whether it is believed is looked at elsewhere.
+//! Parses the name and the expiry of an X.509 certificate (RFC 5280). Whether it is trusted is not checked here, see
+//! `senders`.
 
 use super::der::{Der, GENERALIZED_TIME, INTEGER, OBJECT, OCTETS, SEQUENCE, SET, UTC_TIME};
 use crate::log::days;
 
-/// Tags of the parts of a certificate that are numbered.
+/// The tags of the numbered parts of a certificate.
 const VERSION: u8 = 0xa0;
 const EXTENSIONS: u8 = 0xa3;
-/// The object `subjectAltName`, 2.5.29.17, and the kinds of its names that are looked at.
+/// The object identifier of `subjectAltName`, 2.5.29.17, and the kinds of names that are read.
 const ALTERNATIVE_NAMES: &[u8] = &[0x55, 0x1d, 0x11];
 const DNS: u8 = 0x82;
 const URI: u8 = 0x86;
-/// The object `commonName`, 2.5.4.3.
+/// The object identifier of `commonName`, 2.5.4.3.
 const COMMON_NAME: &[u8] = &[0x55, 0x04, 0x03];
 
-/// What is read of one.
+/// The parts of a certificate that are used.
 #[derive(Debug, PartialEq, Eq)]
 pub struct Certificate {
-    /// The first DNS name or URI of `subjectAltName`, else the last CN of the subject: none where it has neither.
+    /// The first DNS name or URI of `subjectAltName`, otherwise the last CN of the subject; none if it has neither.
     pub name: Option<String>,
-    /// Seconds since 1970 at which it ends.
+    /// When it expires, in seconds since 1970.
     pub ends: i64,
 }
 
 impl Certificate {
-    /// Reads the bytes of one, in DER: none where they are no certificate.
+    /// Parses a certificate in DER; none if the bytes are none.
     pub fn read(bytes: &[u8]) -> Option<Certificate> {
         let mut body = Der(bytes).expect(SEQUENCE)?.expect(SEQUENCE)?;
         if body.0.first() == Some(&VERSION) {
             body.next();
         }
         body.expect(INTEGER)?;
-        body.expect(SEQUENCE)?; // how it is signed
-        body.expect(SEQUENCE)?; // by whom
+        body.expect(SEQUENCE)?; // the signature algorithm
+        body.expect(SEQUENCE)?; // the issuer
         let mut times = body.expect(SEQUENCE)?;
         times.next()?;
         let ends = seconds(times.next()?)?;
         let subject = body.expect(SEQUENCE)?;
-        body.expect(SEQUENCE)?; // its key
+        body.expect(SEQUENCE)?; // the public key
         let mut rest = body;
         let extensions = rest.find(|part| part.0 == EXTENSIONS).map(|part| Der(part.1));
         let name = extensions.and_then(alternative_name).or_else(|| common_name(subject));
@@ -69,7 +70,7 @@ fn text(bytes: &[u8]) -> Option<String> {
     String::from_utf8(bytes.to_vec()).ok().filter(|text| !text.is_empty())
 }
 
-/// `YYMMDDhhmmssZ`, of the years 1950 to 2049, or `YYYYMMDDhhmmssZ`.
+/// Parses `YYMMDDhhmmssZ`, for the years 1950 to 2049, or `YYYYMMDDhhmmssZ`.
 fn seconds((tag, digits): (u8, &[u8])) -> Option<i64> {
     let digits = std::str::from_utf8(digits).ok()?.strip_suffix('Z')?;
     let (year, rest) = match tag {
@@ -94,7 +95,7 @@ mod tests {
     use super::super::tests::{certificate, folder, Made};
     use super::*;
 
-    /// The name of a certificate with these words of `openssl req`.
+    /// The name of a certificate made with these arguments of `openssl req`.
     fn name(subject: &str, names: Option<&str>) -> Option<String> {
         let at = folder();
         let made = certificate(at.path(), Made { name: "a", subject, names, ..Made::default() });
@@ -132,7 +133,7 @@ mod tests {
         }
     }
 
-    /// It comes from a stranger, and is read after it was believed: still no byte of it may end the thread.
+    /// The bytes come from outside and are parsed after they were trusted: even so, none may make the thread panic.
     #[test]
     fn what_is_cut_or_changed_is_read_without_a_panic() {
         let at = folder();

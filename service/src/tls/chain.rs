@@ -1,4 +1,5 @@
-//! The certificates that a client has shown in its handshake, and whether they are still trusted.
+//! The certificates that a client has shown in its handshake, and whether they are still trusted. `identity` asks for
+//! each request.
 
 use super::{Certificate, Contexts, Tls};
 use crate::log::seconds;
@@ -48,7 +49,7 @@ impl ClientChain {
     }
 }
 
-/// When the first of these certificates expires that has not expired by then.
+/// When the first of these certificates expires that has not expired before `then`.
 fn next_end(chain: &[rustls::Certificate], then: i64) -> i64 {
     let ends = chain.iter().filter_map(|shown| Some(Certificate::read(&shown.0)?.ends));
     ends.filter(|end| *end >= then).min().unwrap_or(i64::MAX)
@@ -60,7 +61,7 @@ mod tests {
     use super::super::WithoutCertificate;
     use super::*;
 
-    /// What the root `ca` has signed.
+    /// A chain of one certificate that the root `ca` has signed.
     fn chain(made: impl FnOnce(&std::path::Path) -> Vec<u8>) -> ClientChain {
         let at = folder();
         server(at.path());
@@ -77,7 +78,7 @@ mod tests {
         let mut chain = chain(sound);
         let days = |judged: &Judged| (judged.until - seconds() as i64) / 86_400;
         assert!((19..=20).contains(&days(chain.judged.get_mut().unwrap())));
-        // Since then one has ended between it and its root.
+        // One certificate between it and its root has expired since then.
         let shown = std::mem::take(&mut chain.shown);
         assert!(chain.is_believed(), "it is not looked at for each post");
         chain.judged.get_mut().unwrap().until = seconds() as i64 - 1;
@@ -86,7 +87,7 @@ mod tests {
         assert_eq!([next_end(&shown, ends), next_end(&shown, ends + 1)], [ends, i64::MAX]);
     }
 
-    /// As of a session that was resumed: no handshake has looked at its end.
+    /// As after a resumed session: no handshake has checked its expiry.
     #[test]
     fn a_chain_that_had_ended_before_its_handshake_is_not_believed() {
         let ended = chain(|at| {
@@ -97,7 +98,7 @@ mod tests {
         assert!(!ended.is_believed());
     }
 
-    /// Else who was let in before posts on, and has its chain looked at for each post.
+    /// Otherwise a client that was let in before could go on posting, or its chain would be verified for each post.
     #[test]
     fn a_chain_is_judged_once_by_each_file() {
         let (of, other) = (chain(sound), chain(sound));

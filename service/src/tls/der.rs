@@ -1,4 +1,4 @@
-//! DER as certificates have it: a tag, a length, contents.
+//! A minimal parser of DER, as certificates use it: tag, length, contents.
 
 pub const INTEGER: u8 = 0x02;
 pub const OCTETS: u8 = 0x04;
@@ -8,12 +8,12 @@ pub const GENERALIZED_TIME: u8 = 0x18;
 pub const SEQUENCE: u8 = 0x30;
 pub const SET: u8 = 0x31;
 
-/// Values one after another. What is malformed ends them.
+/// Consecutive values. The first malformed one ends the iteration.
 #[derive(Clone, Copy)]
 pub struct Der<'d>(pub &'d [u8]);
 
 impl<'d> Der<'d> {
-    /// The contents of the next value, which has this tag.
+    /// The contents of the next value, if it has this tag.
     pub fn expect(&mut self, tag: u8) -> Option<Der<'d>> {
         self.next().filter(|found| found.0 == tag).map(|found| Der(found.1))
     }

@@ -1,4 +1,4 @@
-//! When our certificate expires, as a metric that is made where it is asked for.
+//! The metric of our certificate's expiry, read when the page of metrics is made.
 
 use super::{Contexts, Place};
 use crate::metrics::Metrics;
@@ -13,7 +13,7 @@ struct Expiry {
     contexts: Arc<Reloaded<Contexts>>,
 }
 
-/// The page has it from now on. Without TLS it has none, and no alert of it.
+/// Registers the metric. Without TLS there is none, so no alert of it fires.
 pub fn register(of: Place, metrics: &Metrics, contexts: Arc<Reloaded<Contexts>>) -> prometheus::Result<()> {
     let (name, whose) = match of {
         Place::Senders => ("totxegun_certificate_not_after_timestamp_seconds", "the senders' addresses"),

@@ -1,4 +1,4 @@
-//! A handshake, within its time: who stalls holds up nobody who posts.
+//! Makes TLS handshakes within a time limit, on a thread of its own, so that a client that stalls delays no post.
 
 use super::socket::Socket;
 use super::{ClientChain, Contexts, Protocol, Tls};
@@ -14,31 +14,31 @@ use tokio::runtime::Handle;
 use tokio_rustls::server::TlsStream;
 use tokio_rustls::TlsAcceptor;
 
-/// How long a handshake may take: so many looks. While others wait for a place it has only one.
+/// How long a handshake may take, in looks. While another client waits for a permit, one look ends it.
 const LOOK: Duration = Duration::from_secs(1);
 const LOOKS: u32 = 10;
 
-/// A stranger can fail at any rate, so a failure is told once a minute at most.
+/// Failures are logged at most once a minute, since a stranger can cause them at any rate.
 static TOLD: RateLimit = RateLimit::every(Duration::from_secs(60));
 
-/// A connection behind its handshake.
+/// The stream of a connection after its handshake.
 pub type Stream = TlsStream<Socket>;
 
-/// A connection on its way to the thread that serves it.
+/// A connection on its way from the handshake's thread to the one that serves it.
 pub struct Shaken {
     stream: Stream,
-    /// What it was believed by.
+    /// The contexts that verified it.
     contexts: Arc<Contexts>,
 }
 
 impl Shaken {
-    /// The connection, on the runtime that this is called on.
+    /// Attaches the connection to the calling runtime.
     pub fn arrive(mut self) -> Result<Stream> {
         self.stream.get_mut().0.arrive()?;
         Ok(self.stream)
     }
 
-    /// The certificates that the client has shown: none where it may go without.
+    /// The certificates that the client has shown; none if it may go without.
     pub fn chain(&self, tls: &Arc<Tls>) -> Option<ClientChain> {
         let shown = self.stream.get_ref().1.peer_certificates()?;
         Some(ClientChain::new(shown.to_vec(), self.contexts.clone(), tls.clone()))
@@ -46,12 +46,12 @@ impl Shaken {
 }
 
 impl Tls {
-    /// Where handshakes are made.
+    /// The runtime on which handshakes are made.
     pub fn runtime(&self) -> Handle {
         self.threads.place().0
     }
 
-    /// Makes one with who has connected; `is_full` is whether others wait for its place. None where nothing came of it.
+    /// Makes a handshake; none if it failed or took too long. `is_full` is whether another client waits for a permit.
     pub async fn handshake(
         &self,
         stream: std::net::TcpStream,
@@ -96,8 +96,8 @@ async fn in_time<T>(shaking: impl Future<Output = T>, is_full: impl Fn() -> bool
     None
 }
 
-/// What a failed handshake means. A client says that it does not believe us by an alert, which openssl's sends in the clear
-/// where TLS 1.3 has it encrypted.
+/// Explains why a handshake failed. A client reports by an alert that it does not trust us, which openssl sends in the
+/// clear although TLS 1.3 requires it encrypted.
 fn why(error: &Error, certificate: &str) -> String {
     let of_tls = error.get_ref().and_then(|inner| inner.downcast_ref::<rustls::Error>());
     match of_tls {
@@ -118,7 +118,7 @@ mod tests {
     use crate::tls::tests::{certificate, folder, server, tls, Made};
     use std::process::{Command, Stdio};
 
-    /// Why a handshake with a client of openssl fails.
+    /// Why a handshake with an openssl client fails.
     async fn failed(at: &std::path::Path, words: &[&str]) -> String {
         let listener = tokio::net::TcpListener::bind("127.0.0.1:0").await.unwrap();
         let address = listener.local_addr().unwrap().to_string();
@@ -137,7 +137,7 @@ mod tests {
         why(&shaken.err().expect("it fails"), "--tls-cert")
     }
 
-    /// Else who operates looks for a fault of the service.
+    /// Otherwise the operator would look for a fault of the service.
     #[tokio::test]
     async fn a_client_that_does_not_trust_the_root_is_said_to() {
         let at = folder();

@@ -1,8 +1,13 @@
-//! TLS at the senders' addresses: 1.2 and 1.3, by files that are read anew when they change.
+//! TLS 1.2 and 1.3 at the addresses of senders, and between instances (`peers`), with files that are reloaded when they
+//! change.
 //!
-//! `pair` is our certificate with its key, `certificate` (by `der`) what one says of its owner, `handshake` is done on a
-//! thread of its own, from which the `socket` goes to the thread that serves it. `senders` believes those that they show, and
-//! `chain` says later whether it still does. `expiry` tells when ours ends. `peers` is the same between instances, where both sides show one.
+//! `identity` owns the `Tls` of the senders' addresses; `intake/connections` asks it for handshakes. A certificate
+//! counts only as long as it is trusted and has not expired, also after the handshake (`chain`).
+//!
+//! - `pair`: our certificate and its key; `expiry`: the metric of its expiry.
+//! - `certificate` (by `der`): the name and the expiry of a certificate.
+//! - `handshake`: makes handshakes on a thread of its own; `socket`: moves a connection to the thread that serves it.
+//! - `senders`: verifies the certificates of senders.
 
 mod certificate;
 mod chain;
@@ -30,7 +35,7 @@ use std::path::PathBuf;
 use std::sync::Arc;
 use std::time::SystemTime;
 
-/// By which options files are given: faults name them.
+/// The options by which the files are given, for messages.
 #[derive(Clone, Copy, Debug, PartialEq, Eq)]
 pub struct Named {
     pub certificate: &'static str,
@@ -42,32 +47,32 @@ impl Named {
     pub const OF_SENDERS: Named = Named { certificate: "--tls-cert", key: "--tls-key", roots: "--client-ca" };
 }
 
-/// Where certificates are, in PEM.
+/// The paths of the certificates, in PEM.
 #[derive(Clone, Debug)]
 pub struct Files {
     pub named: Named,
-    /// Ours, with what is between it and its root.
+    /// Our certificate, with the intermediate ones.
     pub certificate: PathBuf,
     pub key: PathBuf,
-    /// The roots of others' certificates, where these are shown.
+    /// The roots of clients' certificates, if clients show any.
     pub client_ca: Option<PathBuf>,
 }
 
-/// Whether who shows no certificate is let in: it is named otherwise then.
+/// Whether a client without a certificate is let in: then it proves its name in another way.
 #[derive(Clone, Copy, Debug, PartialEq, Eq)]
 pub enum WithoutCertificate {
     Refused,
     LetIn,
 }
 
-/// Where it is spoken.
+/// Between whom TLS is spoken.
 #[derive(Clone, Copy)]
 enum Place {
     Senders,
     Peers,
 }
 
-/// What is spoken over TLS, as the handshake names it.
+/// The protocol over TLS, by its name in ALPN.
 #[derive(Clone, Copy, Debug, PartialEq, Eq)]
 pub enum Protocol {
     Http,
@@ -83,19 +88,19 @@ impl Protocol {
     }
 }
 
-/// What the files had when they were last sound.
+/// The configurations from the last valid contents of the files.
 pub struct Contexts {
     http: Arc<ServerConfig>,
     grpc: Arc<ServerConfig>,
     senders: Option<Arc<Senders>>,
-    /// How other instances are asked.
+    /// The configuration for requests to other instances.
     client: Option<Arc<ClientConfig>>,
-    /// Seconds since 1970 at which our certificate ends.
+    /// When our certificate expires, in seconds since 1970.
     ends: i64,
 }
 
 impl Contexts {
-    /// `contents` are of the certificate, of its key, and of the roots of senders where there are some.
+    /// `contents` are those of the certificate, its key, and, if clients show certificates, their roots.
     fn read(named: Named, contents: &[Vec<u8>], without: WithoutCertificate) -> Result<Contexts, String> {
         let [chain, key, rest @ ..] = contents else {
             return Err(format!("{} and {} belong together", named.certificate, named.key));
@@ -122,12 +127,12 @@ impl Contexts {
         })
     }
 
-    /// How other instances are asked; none at the senders' addresses.
+    /// The configuration for requests to other instances; none at the senders' addresses.
     pub fn client(&self) -> Option<Arc<ClientConfig>> {
         self.client.clone()
     }
 
-    /// Why nobody gets in by a certificate though senders may show one, and what to do.
+    /// If senders may show a certificate but none is accepted: why, and what to do.
     fn shut(&self) -> Option<&'static str> {
         let is_empty = self.senders.as_ref().is_some_and(|senders| senders.is_empty());
         is_empty.then_some(
@@ -143,7 +148,7 @@ impl Contexts {
         }
     }
 
-    /// Whether a sender's chain is believed now.
+    /// Whether a sender's chain is trusted now.
     pub fn believes(&self, chain: &[rustls::Certificate]) -> bool {
         let (Some(senders), Some((first, between))) = (&self.senders, chain.split_first()) else {
             return false;
@@ -183,7 +188,7 @@ fn config(
     Ok(config)
 }
 
-/// What makes handshakes, on a thread of its own: one costs as much as many posts.
+/// Makes handshakes, on a thread of its own because one costs as much as many posts.
 pub struct Tls {
     contexts: Arc<Reloaded<Contexts>>,
     threads: Threads,
@@ -193,7 +198,7 @@ pub struct Tls {
 }
 
 impl Tls {
-    /// Reads the files. The error names what can't be used and says what to do.
+    /// Reads the files. An error names what can't be used and says what to do.
     pub fn open(files: &Files, without: WithoutCertificate, metrics: Arc<Metrics>) -> anyhow::Result<Tls> {
         let named = files.named;
         let mut paths = vec![(named.certificate, files.certificate.clone()), (named.key, files.key.clone())];
@@ -202,7 +207,7 @@ impl Tls {
         Tls::by(Place::Senders, named, paths, Box::new(read), metrics)
     }
 
-    /// Reads these files, and looks at them from now on.
+    /// Reads these files, and reloads them when they change.
     fn by(
         place: Place,
         named: Named,
@@ -220,7 +225,7 @@ impl Tls {
         Ok(Tls { contexts, threads, metrics, certificate: named.certificate })
     }
 
-    /// What is believed now.
+    /// The contexts of the current files.
     pub fn contexts(&self) -> Arc<Contexts> {
         self.contexts.now()
     }

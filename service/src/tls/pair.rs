@@ -1,4 +1,4 @@
-//! Our certificate and its key.
+//! Our certificate and its private key; `tls` and `peers` read them. The key has to belong to the certificate.
 
 use super::certificate::Certificate;
 use super::Named;
@@ -7,7 +7,7 @@ use rustls::{PrivateKey, SignatureScheme};
 use rustls_pemfile::Item;
 use webpki::{EndEntityCert, SignatureAlgorithm};
 
-/// What a key of each kind signs by, and how that is verified.
+/// The signature schemes of keys, and how each is verified.
 const ALGORITHMS: [(SignatureScheme, &SignatureAlgorithm); 4] = [
     (SignatureScheme::ECDSA_NISTP256_SHA256, &webpki::ECDSA_P256_SHA256),
     (SignatureScheme::ECDSA_NISTP384_SHA384, &webpki::ECDSA_P384_SHA384),
@@ -15,11 +15,11 @@ const ALGORITHMS: [(SignatureScheme, &SignatureAlgorithm); 4] = [
     (SignatureScheme::RSA_PKCS1_SHA256, &webpki::RSA_PKCS1_2048_8192_SHA256),
 ];
 
-/// A chain that begins with our certificate, and the key that it is for.
+/// The chain that begins with our certificate, and its key.
 pub struct Pair {
     pub chain: Vec<rustls::Certificate>,
     pub key: PrivateKey,
-    /// Seconds since 1970 at which the certificate ends.
+    /// When the certificate expires, in seconds since 1970.
     pub ends: i64,
 }
 
@@ -71,7 +71,8 @@ fn private_key(option: &str, mut pem: &[u8]) -> Result<PrivateKey, String> {
     })
 }
 
-/// Whether a key is that of a certificate: what it signs, the certificate verifies. None where that can't be read.
+/// Whether a key belongs to a certificate, that is, whether the certificate verifies its signature. None if the
+/// certificate can't be read.
 fn is_for(certificate: &[u8], key: &dyn SigningKey) -> Option<bool> {
     let certificate = EndEntityCert::try_from(certificate).ok()?;
     let signer = key.choose_scheme(&ALGORITHMS.map(|(scheme, _)| scheme))?;

@@ -1,5 +1,5 @@
-//! TLS between instances: each shows the others a certificate that a root of `--peer-ca` has signed, and that is for the host
-//! of its `--peer`. Nobody else is let in, and no other is asked.
+//! TLS between instances: each shows a certificate that a root of `--peer-ca` has signed for the host of its `--peer`.
+//! No other client is let in, and no other server is trusted.
 
 use super::pair::Pair;
 use super::{roots, Contexts, Files, Named, Place, Tls, WithoutCertificate};
@@ -11,7 +11,8 @@ use std::sync::Arc;
 use std::time::SystemTime;
 
 impl Tls {
-    /// Reads the files of an instance whose `--peer` has this host. The error names what can't be used and says what to do.
+    /// Reads the files of an instance whose `--peer` has this host. An error names what can't be used and says what to
+    /// do.
     pub fn of_peers(files: &Files, host: &str, metrics: Arc<Metrics>) -> anyhow::Result<Tls> {
         let Some(ca) = files.client_ca.clone() else {
             bail!("TLS between instances needs --peer-ca");
@@ -31,7 +32,7 @@ impl Tls {
     }
 }
 
-/// `contents` are of the roots, of our certificate, and of its key.
+/// `contents` are those of the roots, of our certificate, and of its key.
 fn read(named: Named, contents: &[Vec<u8>], name: &ServerName, host: &str) -> Result<Contexts, String> {
     let [ca, chain, key] = contents else {
         return Err("three files are read together".into());
@@ -71,7 +72,7 @@ fn client(named: Named, pair: &Pair, roots: RootCertStore) -> Result<ClientConfi
         .map_err(|error| format!("{} can't be used: {error}", named.certificate))
 }
 
-/// As another instance looks at what this one shows.
+/// Verifies our certificate as another instance would.
 fn would_be_asked(pair: &Pair, roots: RootCertStore, name: &ServerName) -> Result<(), rustls::Error> {
     let (first, between) = pair.chain.split_first().ok_or(rustls::Error::NoCertificatesPresented)?;
     let verifier = WebPkiVerifier::new(roots, None);
@@ -87,7 +88,7 @@ pub(crate) mod tests {
 
     pub const NAMED: Named = Named { certificate: "--peer-cert", key: "--peer-key", roots: "--peer-ca" };
 
-    /// The certificate NAME of a folder and its roots CA.
+    /// The certificate `name` of a folder and its roots `ca`.
     pub fn files(at: &Path, name: &str, ca: &str) -> Files {
         Files {
             named: NAMED,

@@ -1,7 +1,7 @@
-//! Whether a sender's certificate is believed.
+//! Verifies the certificates of senders: only short chains to one of the roots are trusted.
 //!
-//! The chain is looked at before its sender has proved anything. Debian's webpki tries all ways through it, without a bound
-//! of their number, so that thirty certificates of one name would hold the thread of handshakes for ever.
+//! A chain is checked before its sender has proved anything, and Debian's webpki tries all paths through it without a
+//! bound, so thirty certificates with one name would occupy the thread of handshakes for ever.
 
 use super::WithoutCertificate;
 use rustls::server::{AllowAnyAuthenticatedClient, ClientCertVerified, ClientCertVerifier};
@@ -9,15 +9,15 @@ use rustls::{Certificate, DistinguishedNames, Error, RootCertStore};
 use std::sync::Arc;
 use std::time::SystemTime;
 
-/// How many certificates may be between a sender's and its root.
+/// How many intermediate certificates a chain may have.
 const MOST_BETWEEN: usize = 4;
-/// How long all of a chain may be, in bytes. Five certificates by RSA of 4096 bits have 8 thousand.
+/// The longest chain in bytes. Five RSA certificates with keys of 4096 bits have about 8,000.
 const MOST_BYTES: usize = 16 << 10;
-/// The object `nameConstraints`, 2.5.29.30, in DER. Each is compared with each name, on all ways. Debian's webpki can't read
-/// them as RFC 5280 writes them, and believes no chain that has some.
+/// The object identifier of `nameConstraints`, 2.5.29.30, in DER. Each constraint is compared with each name, on all
+/// paths. Debian's webpki can't read them as RFC 5280 encodes them, and trusts no chain that has some.
 const NAME_CONSTRAINTS: &[u8] = &[0x06, 0x03, 0x55, 0x1d, 0x1e];
 
-/// Believes short chains to one of its roots.
+/// Verifies that a chain is short and ends at one of its roots.
 pub struct Senders {
     inner: Arc<dyn ClientCertVerifier>,
     without: WithoutCertificate,
@@ -28,7 +28,7 @@ impl Senders {
         Senders { inner: AllowAnyAuthenticatedClient::new(roots), without }
     }
 
-    /// Whether nobody can be believed, for want of roots.
+    /// Whether nobody can be trusted, for want of roots.
     pub fn is_empty(&self) -> bool {
         let roots = self.inner.client_auth_root_subjects();
         roots.is_none_or(|roots| roots.is_empty())

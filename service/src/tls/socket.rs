@@ -1,4 +1,4 @@
-//! A socket that goes from the thread of its handshake to the one that serves it.
+//! A socket that moves from the runtime of its handshake to the runtime that serves it.
 
 use std::io::{Error, ErrorKind, IoSlice, Result};
 use std::pin::Pin;
@@ -6,14 +6,14 @@ use std::task::{Context, Poll};
 use tokio::io::{AsyncRead, AsyncWrite, ReadBuf};
 use tokio::net::TcpStream;
 
-/// A runtime's own socket, or one of none, which is neither read nor written.
+/// A socket that belongs to a runtime, or one between two runtimes, which can neither be read nor written.
 pub enum Socket {
     Here(TcpStream),
     Away(Option<std::net::TcpStream>),
 }
 
 impl Socket {
-    /// Takes it from its runtime.
+    /// Detaches it from its runtime.
     pub fn leave(&mut self) -> Result<()> {
         if let Socket::Here(stream) = std::mem::replace(self, Socket::Away(None)) {
             *self = Socket::Away(Some(stream.into_std()?));
@@ -21,7 +21,7 @@ impl Socket {
         Ok(())
     }
 
-    /// Gives it to the runtime that this is called on.
+    /// Attaches it to the calling runtime.
     pub fn arrive(&mut self) -> Result<()> {
         if let Socket::Away(stream) = self {
             *self = Socket::Here(TcpStream::from_std(stream.take().ok_or_else(away)?)?);

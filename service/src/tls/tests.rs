@@ -1,4 +1,4 @@
-//! Certificates of `openssl`, for tests of all that reads them; and handshakes.
+//! Makes certificates by `openssl` for all tests that read some; tests handshakes.
 
 use super::*;
 use std::path::Path;
@@ -15,7 +15,7 @@ pub fn openssl(at: &Path, arguments: &str) {
     assert!(done.expect("openssl is there").success(), "openssl {arguments}");
 }
 
-/// A certificate that signs itself, or that another of the folder has signed.
+/// A certificate, self-signed or signed by another one of the folder.
 pub struct Made<'a> {
     pub name: &'a str,
     pub key: &'a str,
@@ -36,7 +36,7 @@ impl Default for Made<'_> {
     }
 }
 
-/// Makes one: its bytes in DER. NAME.pem and NAME.key are in the folder then.
+/// Makes a certificate and returns it in DER; NAME.pem and NAME.key are in the folder then.
 pub fn certificate(at: &Path, made: Made) -> Vec<u8> {
     let Made { name, key, .. } = made;
     let mut line = format!("req -x509 -newkey {key} -nodes -keyout {name}.key -out {name}.pem -days 20");
@@ -54,12 +54,12 @@ pub fn certificate(at: &Path, made: Made) -> Vec<u8> {
     std::fs::read(at.join(format!("{name}.der"))).unwrap()
 }
 
-/// Of `openssl ca`, which alone says to the second when a certificate ends.
+/// The configuration of `openssl ca`, the only command that sets the expiry of a certificate to the second.
 const TO_THE_SECOND: &str =
     "[ca]\ndefault_ca=d\n[d]\nnew_certs_dir=.\ndatabase=index\nrand_serial=yes\ndefault_md=sha256\n\
     policy=p\n[p]\ncommonName=optional\n";
 
-/// Makes NAME.pem and NAME.key for localhost, signed by `ca` of the folder, which end after so many seconds.
+/// Makes NAME.pem and NAME.key for localhost, signed by `ca` of the folder, which expire after so many seconds.
 pub fn certificate_for(at: &Path, name: &str, seconds: u64) -> Vec<u8> {
     std::fs::write(at.join("to-the-second"), TO_THE_SECOND).unwrap();
     std::fs::write(at.join("names"), "subjectAltName=DNS:localhost\nbasicConstraints=CA:FALSE\n").unwrap();
@@ -81,7 +81,7 @@ pub fn certificate_for(at: &Path, name: &str, seconds: u64) -> Vec<u8> {
     std::fs::read(at.join(format!("{name}.der"))).unwrap()
 }
 
-/// The same in PEM, and its key.
+/// The certificate and its key in PEM.
 pub fn pem(at: &Path, made: Made) -> (Vec<u8>, Vec<u8>) {
     let name = made.name;
     certificate(at, made);
@@ -89,7 +89,7 @@ pub fn pem(at: &Path, made: Made) -> (Vec<u8>, Vec<u8>) {
     (read("pem"), read("key"))
 }
 
-/// TLS with the certificate `server` of a folder, and the roots `ca` where clients show theirs.
+/// TLS with the certificate `server` of a folder; with the roots `ca` if clients show certificates.
 pub fn tls(at: &Path, client_ca: Option<WithoutCertificate>) -> Arc<Tls> {
     let metrics = Arc::new(Metrics::new().unwrap());
     let files = Files {
@@ -102,7 +102,7 @@ pub fn tls(at: &Path, client_ca: Option<WithoutCertificate>) -> Arc<Tls> {
     Arc::new(Tls::open(&files, without, metrics).unwrap())
 }
 
-/// `ca`, and `server` of it for localhost.
+/// Makes `ca`, and `server` for localhost, signed by it.
 pub fn server(at: &Path) {
     certificate(at, Made { name: "ca", subject: "/CN=ca", ..Made::default() });
     certificate(at, Made { name: "server", names: Some("DNS:localhost"), by: Some("ca"), ..Made::default() });
@@ -123,7 +123,7 @@ fn a_chain_is_believed_by_its_root_alone() {
     assert!(!tls(at.path(), None).contexts().believes(&[ours]));
 }
 
-/// Who signs for others is itself signed by the root, or by who is before it.
+/// Each intermediate certificate is signed by the root or by the one before it.
 #[test]
 fn a_chain_is_believed_up_to_four_between_it_and_its_root() {
     let at = folder();
@@ -153,13 +153,13 @@ fn der(tag: u8, body: &[u8]) -> Vec<u8> {
     [&[tag, 0x82, length[0], length[1]], body].concat()
 }
 
-/// As a value of openssl's options.
+/// In the form of openssl's options.
 fn shown(der: &[u8]) -> String {
     let bytes: Vec<String> = der.iter().map(|byte| format!("{byte:02x}")).collect();
     format!("DER:{}", bytes.join(":"))
 }
 
-/// Else names times constraints are compared, on each way: for seconds, on the one thread of handshakes.
+/// Otherwise names times constraints would be compared on each path, for seconds, on the one thread of handshakes.
 #[test]
 fn a_chain_with_many_constraints_of_names_is_refused_at_once() {
     let at = folder();

@@ -1,11 +1,11 @@
-//! What comes of frames that a client of gRPC sends one by one, and of a connection that is broken off between them.
+//! Single frames of a gRPC client, and connections that break off between frames.
 
 use super::*;
 use tokio::io::AsyncWriteExt;
 
 const PREFACE: &[u8] = b"PRI * HTTP/2.0\r\n\r\nSM\r\n\r\n";
 
-/// A frame of HTTP/2 on stream 1, but for settings.
+/// An HTTP/2 frame on stream 1, or on stream 0 for settings.
 fn h2_frame(kind: u8, flags: u8, payload: &[u8]) -> Vec<u8> {
     let stream = u8::from(kind != 4);
     [&(payload.len() as u32).to_be_bytes()[1..], &[kind, flags, 0, 0, 0, stream], payload].concat()
@@ -38,7 +38,7 @@ async fn a_call_that_is_broken_off_is_no_post() {
         [&opened[..], &half, &reset].concat(),
         [&opened[..], &half].concat(),
         opened[..opened.len() - 20].to_vec(),
-        [&opened[..], &half, &h2_frame(0, 9, &[200; 10])].concat(), // more padding than there is
+        [&opened[..], &half, &h2_frame(0, 9, &[200; 10])].concat(), // more padding than the frame has
     ];
     for beginning in beginnings {
         let mut stream = TcpStream::connect(served.address).await.unwrap();
@@ -60,7 +60,7 @@ async fn a_call_that_is_broken_off_is_no_post() {
     assert_eq!(served.export(&[], frame(0, b"")).await.code(), 0);
 }
 
-/// The library that is used here would give up a call that is under way, and panic at one that it has not begun with.
+/// h2 alone would cancel a call in flight, and panic at one that it has not begun.
 #[tokio::test]
 async fn calls_of_a_client_that_goes_away_are_answered() {
     let served = Served::start().await;
@@ -72,7 +72,7 @@ async fn calls_of_a_client_that_goes_away_are_answered() {
     let call = |id: u8| on(id, h2_frame(1, 4, &call_headers()));
     let opened = [PREFACE, &h2_frame(4, 0, b""), &call(1)].concat();
     stream.write_all(&opened).await.unwrap();
-    tokio::time::sleep(Duration::from_millis(50)).await; // it is begun with
+    tokio::time::sleep(Duration::from_millis(50)).await; // until the call has begun
     let going = on(0, h2_frame(7, 0, &[0, 0, 0, 1, 0, 0, 0, 0]));
     stream.write_all(&[call(3), going].concat()).await.unwrap();
     let message = |id: u8| on(id, h2_frame(0, 1, &frame(0, b"")));

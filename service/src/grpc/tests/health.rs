@@ -1,4 +1,4 @@
-//! What orchestrators ask at the address of gRPC.
+//! The health checks of orchestrators at the gRPC address.
 
 use super::super::health::{HealthCheckRequest, HealthCheckResponse, NOT_SERVING, SERVING};
 use super::*;
@@ -10,7 +10,7 @@ fn asked(service: &str) -> Vec<u8> {
     frame(0, &HealthCheckRequest { service: service.into() }.encode_to_vec())
 }
 
-/// As `grpc_health_probe` asks, without a name, and whatever it posts.
+/// As `grpc_health_probe` asks: without a sender's name, whatever is posted.
 #[tokio::test]
 async fn a_check_says_whether_posts_are_taken() {
     let served = Served::start().await;
@@ -34,7 +34,7 @@ async fn a_check_says_whether_posts_are_taken() {
     served.nothing_is_held().await;
 }
 
-/// Bytes of the standard's own messages: field 1 is the name, or the status.
+/// The bytes of the standard's own messages: field 1 is the name, or the status.
 #[tokio::test]
 async fn messages_are_those_of_the_standard() {
     assert_eq!(HealthCheckRequest { service: "ab".into() }.encode_to_vec(), b"\x0a\x02ab");

@@ -1,4 +1,4 @@
-//! Messages that come slowly, and whose memory others need.
+//! Messages that arrive slowly while other calls need the memory.
 
 use super::*;
 use hyper::body::Sender;
@@ -6,7 +6,7 @@ use std::time::Instant;
 
 const SENT: usize = 100 << 10;
 
-/// Calls on one connection, each with the first bytes of a longer message.
+/// Begins calls on one connection, each with the first bytes of a longer message.
 async fn begin_calls(served: &Served, count: usize) -> Vec<Sender> {
     let stream = TcpStream::connect(served.address).await.unwrap();
     let (mut calls, connection) =
@@ -24,7 +24,7 @@ async fn begin_calls(served: &Served, count: usize) -> Vec<Sender> {
     begun
 }
 
-/// Else a few would keep all others out, for as long as a call may take.
+/// Otherwise a few slow calls could keep all others out, for as long as a call may take.
 #[tokio::test]
 async fn messages_that_come_slowly_leave_the_memory_to_others() {
     let (most, quarter) = (4 << 20, 1 << 20);
