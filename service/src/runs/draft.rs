@@ -1,4 +1,5 @@
-//! The points that the book is asked to take of a post.
+//! Converts a post's cumulative points to the deltas that the book is asked to take. `slot/cumulative` makes a draft
+//! for each try.
 
 use super::{added_by, Kind, Locked, Names, Point, Points, Run, Runs};
 use crate::core;
@@ -8,32 +9,32 @@ use crate::otlp::Causes;
 use ahash::AHashMap;
 use std::collections::HashMap;
 
-/// Of a post. What it comes to is beside the runs until it is kept.
+/// The draft of a post. The runs do not change until it is kept.
 pub struct Draft<'r> {
     of: &'r Runs,
     runs: Locked<'r>,
-    /// By the numbers of their series: what the runs come to by this post.
+    /// By number, the runs as they are after this post.
     overlay: AHashMap<u64, Run>,
-    /// In their order: those that were made of cumulative ones, and delta points as they came.
+    /// The points for the book, in their order: deltas made of cumulative points, and delta points as they came.
     pub points: Points,
-    /// The places of the points that are not sound, ascending.
+    /// The indexes of the points that are not sound, ascending.
     unsound: Vec<u32>,
-    /// Sound points that are not taken.
+    /// Sound points that are not taken, by reason.
     pub turned: Causes,
-    /// First points from which alone their series count, what these have from before is left out: each by the number of its
-    /// series, and its first word.
+    /// Points from which their series begin to count, so that what these had before is left out: the number of the
+    /// series, and the first word.
     pub noted: Vec<(u64, u64)>,
-    /// Points that add nothing, since they are counted already: each by its place in the post, and its series.
+    /// Points that add nothing, since they are counted already: the index in the post, and the series.
     pub late: Vec<(u32, Digest)>,
-    /// By the place of a point that was made here, the number of its series.
+    /// For each point that was made here, its index in `points` and the number of its series.
     made: Vec<(u32, u64)>,
-    /// Of each point its place in the post.
+    /// The index in the post of each point in `points`.
     places: Vec<u32>,
-    /// Of the delta points so far: by the number of their series where the last one ends.
+    /// By number, the latest end of the delta points so far.
     deltas: HashMap<u64, u64>,
 }
 
-/// Points some of which are cumulative, by their places.
+/// Points of which some are cumulative; these are given by their indexes.
 #[derive(Clone, Copy)]
 pub struct Posted<'p> {
     pub points: &'p Points,
@@ -42,7 +43,7 @@ pub struct Posted<'p> {
 }
 
 impl Runs {
-    /// What the points of a post come to. `frontier` is where a series ends that has no run.
+    /// Makes the draft of a post. `frontier` returns the end of a series that has no run.
     pub fn draft(&self, posted: Posted<'_>, frontier: impl Fn(&Digest) -> u64) -> Draft<'_> {
         let mut runs = self.lock();
         runs.go_by(posted.names);
@@ -73,7 +74,8 @@ impl Runs {
 }
 
 impl Draft<'_> {
-    /// For what is made behind it. The book would refuse that, one series at a time, and as if it had this already.
+    /// Records a delta point for the cumulative points after it. The book would refuse those, one series at a time, as
+    /// if it had this point already.
     fn add_delta(&mut self, point: &[u64]) {
         self.points.push_words(point[0], &point[1..]);
         let end = self.deltas.entry(point[0]).or_default();
@@ -109,8 +111,9 @@ impl Draft<'_> {
         }
     }
 
-    /// The book has refused this point, since the series ends there in it: it has delta points too, which came before this post.
-    /// So that stays also where the post is refused. The series, where the point was made here.
+    /// The book has refused this point because the series ends at `frontier` there: it also has delta points, from
+    /// before this post. So that stays known even if the post is refused. Returns the series if the point was made
+    /// here.
     pub fn note_frontier(&mut self, at: u32, frontier: u64) -> Option<Digest> {
         let found = self.made.binary_search_by_key(&at, |made| made.0).ok()?;
         let series = self.runs.get_mut(self.made[found].1)?;
@@ -118,12 +121,12 @@ impl Draft<'_> {
         Some(series.digest)
     }
 
-    /// Where in the post is the point that has this place here.
+    /// The index in the post of the point with this index in `points`.
     pub fn place(&self, at: u32) -> Option<u32> {
         self.places.get(at as usize).copied()
     }
 
-    /// Whether this point was made here.
+    /// Whether this point was made of a cumulative one.
     pub fn has_made(&self, at: u32) -> bool {
         self.made.binary_search_by_key(&at, |made| made.0).is_ok()
     }
@@ -133,13 +136,13 @@ impl Draft<'_> {
         self.unsound.len() as u64
     }
 
-    /// The place of a point among those of the profile, by its place in the post; `among_all` says where that is in the request.
+    /// The index of a point among those of the profile; `among_all` maps its index in the post to that in the request.
     pub fn placed(&self, place: u32, among_all: impl Fn(u64) -> u64) -> u64 {
         let before = self.unsound.partition_point(|unsound| *unsound < place);
         among_all(place.into()) - before as u64
     }
 
-    /// A refusal that names a point, by its place there.
+    /// A refusal that names a point, with the point's index among those of the profile.
     pub fn refused(&self, refused: core::Refused, among_all: impl Fn(u64) -> u64) -> core::Refused {
         refused.placed(|point| match self.places.get(point as usize) {
             Some(place) => self.placed(*place, &among_all),
@@ -147,7 +150,7 @@ impl Draft<'_> {
         })
     }
 
-    /// The book has taken it.
+    /// Keeps the changed runs, since the book has taken the points.
     pub fn keep(self) {
         let Draft { of, mut runs, overlay, .. } = self;
         for (number, run) in overlay {
@@ -159,7 +162,7 @@ impl Draft<'_> {
 }
 
 impl Point {
-    /// Whether the book could take such a point, of whatever span.
+    /// Whether the book could take such a point, whatever its span.
     fn is_sound(&self, kind: Kind) -> bool {
         const LONGEST_SUM: u64 = 1 << 53;
         let is_spanned = self.start <= self.time && self.time > 1;

@@ -1,4 +1,5 @@
-//! Where series ended that were forgotten: what their runs say from before that may have been counted.
+//! The ends of forgotten series: what their runs report from before these ends may have been counted already. `law`
+//! asks for them.
 
 use super::Since;
 use crate::otlp::series::Digest;
@@ -6,19 +7,19 @@ use serde::{Deserialize, Serialize};
 use std::collections::BTreeMap;
 use std::sync::Arc;
 
-/// So many are remembered one by one, each in some 60 bytes.
+/// How many are remembered singly, each in about 60 bytes.
 const MOST: usize = if cfg!(test) { 100 } else { 1 << 16 };
 
-/// By the digests of their keys. Whoever has a copy shares it until one of the two changes.
+/// By the digest of the key. Copies share the map until one of them changes.
 #[derive(Clone, Debug, Default, PartialEq, Eq, Serialize, Deserialize)]
 #[serde(into = "Vec<Row>", from = "Vec<Row>")]
 pub struct Forgotten(Arc<BTreeMap<Digest, u64>>);
 
-/// As it is written: the digest in four numbers, its first bytes first, and the end.
+/// The written form: the digest as four numbers, its first bytes first, and the end.
 type Row = [u64; 5];
 
 impl Forgotten {
-    /// Where a series ended; 0 if it is not known to have been forgotten.
+    /// The end of a forgotten series; 0 if none is known.
     pub fn of(&self, series: &Digest) -> u64 {
         self.0.get(series).copied().unwrap_or(0)
     }
@@ -27,8 +28,8 @@ impl Forgotten {
         self.0.iter().map(|(series, end)| (series, *end))
     }
 
-    /// These ended here too. Of too many the half that ended first is remembered by its last end alone: as if each series had
-    /// been forgotten that ends before that.
+    /// Adds forgotten series with their ends. If there are too many, the half that ended first is represented by its
+    /// latest end alone, as if every series that ends before it had been forgotten.
     pub fn note(&mut self, ends: impl IntoIterator<Item = (Digest, u64)>, since: &mut Since) {
         let known = Arc::make_mut(&mut self.0);
         for (series, end) in ends {
@@ -93,7 +94,7 @@ mod tests {
         assert_eq!(Forgotten::from(rows), forgotten);
     }
 
-    /// Of each series its end, or a later one, is known.
+    /// For each series its end, or a later one, is known.
     #[test]
     fn of_too_many_those_that_ended_last_are_remembered() {
         let (mut forgotten, mut since) = (Forgotten::default(), Since { made: 3, forgotten: 2 });

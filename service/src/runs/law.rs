@@ -1,9 +1,10 @@
-//! What becomes of a cumulative point: the cases of the law of runs, one by one.
+//! The law of runs: decides, case by case, what a cumulative point adds. `draft` asks it for posts, and a start for the
+//! journal.
 //!
-//! A *run* is what a series counts from one start on. Of each series the last point that was taken is kept: so what its next
-//! point adds is the difference, or, of a run that began later, all of it. Points of other runs are refused by name, so that
-//! nothing is lost in silence, until the known one has ended by its silence: then another is noted, and goes on from there. So
-//! nothing counts twice, also if a sender says another start of the same run.
+//! A *run* is what a series counts from one start on. For each series the last point that was taken is kept, so the
+//! next point adds the difference, or, if its run began later, all of it. Points of other runs are refused by name, so
+//! that nothing is lost silently, until the known run has ended by its silence: then another run is noted and counts
+//! from there. So nothing counts twice, even if a sender reports another start for the same run.
 
 use crate::files::OfRun;
 use crate::otlp::Reason;
@@ -12,10 +13,10 @@ use serde::{Deserialize, Serialize};
 /// A cumulative point of a series.
 #[derive(Clone, Debug, Default, PartialEq, Eq)]
 pub struct Point {
-    /// Of its run; 0 if it is not known.
+    /// The start of its run; 0 if it is unknown.
     pub start: u64,
     pub time: u64,
-    /// A sum's value, or a histogram's count, whether it has a sum, the sum, and its buckets.
+    /// The value of a sum; or of a histogram the count, whether it has a sum, the sum, and the buckets.
     pub words: Vec<u64>,
 }
 
@@ -24,25 +25,25 @@ pub struct Point {
 pub struct Run {
     /// The last point that was taken.
     pub last: Point,
-    /// The time between its last two points, but at least half of what it was before; 0 if it is not known. So a post out of
-    /// turn makes no run look fast, and a long silence is soon forgotten.
+    /// The time between the last two points, but at least half of the previous interval; 0 if unknown. So one early
+    /// point does not make a run look fast, and a long pause is soon forgotten.
     pub interval: u64,
     pub before: EndedRun,
 }
 
-/// The run before, of which a repeat may still come. Zeros if there was none.
+/// The previous run, of which a repeat may still come; zeros if there was none.
 #[derive(Clone, Copy, Debug, Default, PartialEq, Eq)]
 pub struct EndedRun {
     pub start: u64,
-    /// Of its last point.
+    /// The time of its last point.
     pub time: u64,
 }
 
-/// A run that has been silent for so many of its intervals has ended.
+/// A run has ended if it was silent for so many of its intervals.
 const SILENT_INTERVALS: u64 = 3;
 
-/// What a point adds over (from, time], which the book gets, and what it says of its run: that goes on, with what it has more;
-/// or it began after the time before, or anew, with all of it; or only from here on it counts.
+/// What a point adds to the book over (from, time], and what it says about its run: the run continues with more, it
+/// began after the time before or anew, with all of it, or it counts only from here on.
 #[derive(Clone, Debug, PartialEq, Eq)]
 pub struct Entry {
     pub of_run: OfRun,
@@ -85,16 +86,16 @@ pub struct Options {
     pub reset: Reset,
 }
 
-/// When what a folder knows began, in nanoseconds since 1970.
+/// When the knowledge of a folder began, in nanoseconds since 1970.
 #[derive(Clone, Copy, Debug, Default, PartialEq, Eq, Serialize, Deserialize)]
 pub struct Since {
-    /// Runs from here on have been in no other folder: what is older may have been counted by another service.
+    /// Runs that began from here on were never in another folder; older ones may have been counted by another service.
     pub made: u64,
-    /// Nothing that ends behind it was forgotten: of all series, or of one where it is known by itself.
+    /// Nothing that ends after this was forgotten, of all series, or of one series if that is known.
     pub forgotten: u64,
 }
 
-/// A series as far as its points' words go.
+/// The kind of a series, as far as it decides about the words of its points.
 #[derive(Clone, Copy, Debug, PartialEq, Eq)]
 pub enum Kind {
     /// A sum that only goes up.
@@ -105,8 +106,8 @@ pub enum Kind {
 }
 
 impl Since {
-    /// Whether a first point of this start counts from it. Of a run whose start is not known nothing says what it has
-    /// from before.
+    /// Whether a first point with this start counts from there. If the start is unknown, nothing says what the run
+    /// counted before.
     fn counts(self, first: First, start: u64) -> bool {
         let is_new = start > 0 && start >= self.forgotten;
         match first {
@@ -118,7 +119,7 @@ impl Since {
 }
 
 impl Run {
-    /// Whether what the point says is counted already, as that of a repeat is.
+    /// Whether the point is counted already, as a repeat is.
     fn has_counted(&self, point: &Point) -> bool {
         let Run { last, before, .. } = self;
         let is_of_last = point.start == last.start
@@ -126,13 +127,13 @@ impl Run {
         is_of_last || point.start == before.start && point.time <= before.time
     }
 
-    /// Whether it has been silent for so long, at a later point of another run, that it has ended.
+    /// Whether the run had been silent for so long, when a later point of another run came, that it has ended.
     fn has_ended_at(&self, time: u64) -> bool {
         self.interval > 0 && (time - self.last.time) / SILENT_INTERVALS >= self.interval
     }
 }
 
-/// Of a histogram without its sum, which its run may have lost.
+/// Compares the words of two points; of histograms without the sum, which a run may have lost.
 fn counts_alike(one: &[u64], other: &[u64]) -> bool {
     match (one, other) {
         ([count, _, _, buckets @ ..], [other_count, _, _, others @ ..]) => {
@@ -142,7 +143,7 @@ fn counts_alike(one: &[u64], other: &[u64]) -> bool {
     }
 }
 
-/// What a sound point adds to a series of which this run is known: nothing if it is counted already. Or why it is not taken.
+/// What a sound point adds to a series with this run; none if it is counted already. An error says why it is not taken.
 pub fn entry(
     options: Options,
     since: Since,
@@ -166,7 +167,7 @@ pub fn entry(
     if point.start >= last.time {
         return Ok(Some(if is_instant(point) { noted(point) } else { counted(point, point.start) }));
     }
-    // Runs overlap, as those of a process and of the one in its place.
+    // The runs overlap, like those of a process and of its successor.
     match known.has_ended_at(point.time) {
         true => Ok(Some(noted(point))),
         false => Err(Reason::EarlierRun),
@@ -176,7 +177,7 @@ pub fn entry(
 /// The first point of a series.
 fn first(options: Options, since: Since, point: &Point) -> Result<Entry, Reason> {
     if point.time <= since.forgotten {
-        // From before the series was forgotten: it may have been counted.
+        // It is from before the series was forgotten, so it may have been counted.
         return Err(Reason::Forgotten);
     }
     Ok(match since.counts(options.first, point.start) && !is_instant(point) {
@@ -185,7 +186,7 @@ fn first(options: Options, since: Since, point: &Point) -> Result<Entry, Reason>
     })
 }
 
-/// A point that begins where it ends is the first of a run that began before at a time that nobody knows (OTLP's data model,
+/// A point whose start equals its time is the first of a run that began at an unknown earlier time (OTLP's data model,
 /// "unknown start time"). It says where the run is, and adds nothing.
 fn is_instant(point: &Point) -> bool {
     point.start == point.time
@@ -196,21 +197,21 @@ fn counted(point: &Point, from: u64) -> Entry {
     Entry { of_run, from, time: point.time, words }
 }
 
-/// The book gets a zero, by which the series is its sender's.
+/// The book gets a zero, which makes the series its sender's.
 fn noted(point: &Point) -> Entry {
     let mut zeros = vec![0; point.words.len()];
     if let [_, has_sum, _, ..] = &mut zeros[..] {
         *has_sum = point.words[1];
     }
     let of_run = OfRun::Noted { start: point.start, words: point.words.clone() };
-    let from = point.time - 1; // a sound point ends behind 1
+    let from = point.time - 1; // a sound point ends after 1
     Entry { of_run, from, time: point.time, words: zeros }
 }
 
 /// A later point of the same start.
 fn of_run(options: Options, kind: Kind, last: &Point, point: &Point) -> Result<Entry, Reason> {
     if kind != Kind::Sum && goes_down(&last.words, &point.words) {
-        // Without a start nothing else could say that a run began anew.
+        // Without a start, nothing else could say that a run began anew.
         return match options.reset == Reset::Count || point.start == 0 {
             true => Ok(counted(point, last.time)),
             false => Err(Reason::WentDown),
@@ -220,7 +221,7 @@ fn of_run(options: Options, kind: Kind, last: &Point, point: &Point) -> Result<E
     Ok(Entry { of_run: OfRun::More, from: last.time, time: point.time, words })
 }
 
-/// Of what only goes up. A histogram's sum counts where both have one.
+/// Whether a word that only goes up went down. The sums of histograms are compared if both have one.
 fn goes_down(before: &[u64], now: &[u64]) -> bool {
     match (before, now) {
         ([count, has, sum, buckets @ ..], [now_count, now_has, now_sum, now_buckets @ ..]) => {
@@ -233,7 +234,8 @@ fn goes_down(before: &[u64], now: &[u64]) -> bool {
     }
 }
 
-/// Word by word; a histogram has a sum more where both have one. None where a sum's is over 63 bits.
+/// The difference word by word; of histograms with a sum if both have one. None if the difference of a sum exceeds 63
+/// bits.
 fn difference(kind: Kind, before: &[u64], now: &[u64]) -> Option<Vec<u64>> {
     match (kind, before, now) {
         (
@@ -254,11 +256,11 @@ fn difference(kind: Kind, before: &[u64], now: &[u64]) -> Option<Vec<u64>> {
     }
 }
 
-/// Adds up what a run was and what came to it.
+/// Adds to a run what came to it.
 fn sum(kind: Kind, before: &[u64], added: &[u64]) -> Vec<u64> {
     let mut words: Vec<u64> = before.iter().zip(added).map(|(one, other)| one.wrapping_add(*other)).collect();
     if let (Kind::Histogram, [_, has, sum, ..]) = (kind, &mut words[..]) {
-        // One that was without a sum has none any more: what came before is not known.
+        // If one of them has no sum, the result has none: what came before is unknown.
         *has = u64::from(before[1] != 0 && added[1] != 0);
         *sum *= *has;
     }
@@ -266,7 +268,7 @@ fn sum(kind: Kind, before: &[u64], added: &[u64]) -> Vec<u64> {
 }
 
 impl Entry {
-    /// What is kept of a series after this. An entry that is in it already changes nothing, so that a start may find both.
+    /// The run after this entry. An entry that the run contains already changes nothing, since a start may find both.
     pub fn after(&self, kind: Kind, known: Option<&Run>) -> Option<Run> {
         if known.is_some_and(|known| known.last.time >= self.time) {
             return known.cloned();
@@ -282,7 +284,7 @@ impl Entry {
         Some(run)
     }
 
-    /// The same, in the place of a run, of the point that it was made of: without adding up what comes to that again.
+    /// Updates the run in place with the point that this entry was made of, which saves adding up.
     pub fn put_after(&self, kind: Kind, point: Point, run: &mut Run) {
         self.note_times(point.start, run);
         run.last = point;
@@ -294,7 +296,7 @@ impl Entry {
         }
     }
 
-    /// What a run knows of time, ahead of its last point.
+    /// Updates what the run knows of times, before its last point is replaced.
     fn note_times(&self, start: u64, run: &mut Run) {
         let span = self.time - self.from;
         run.interval = match self.of_run {

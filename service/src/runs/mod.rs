@@ -1,15 +1,17 @@
-//! Cumulative points become deltas before they reach the book: what a series' run has come to since its last point.
+//! Runs of cumulative series: converts cumulative points to deltas before they reach the book. `slot` owns a `Runs` for
+//! each shard.
 //!
-//! `law` is what becomes of a point, case by case; `draft` makes the points that the book is asked to take of a post; `forgotten`
-//! is where series ended that are not known any more. Of each series the last point that was taken is kept here, under a lock
-//! of its own: it is taken before the book's, and held until the journal has the post. So a refused post changes nothing, and
-//! posts that have no cumulative point never wait for it.
+//! For each series the last point that was taken is kept, under a lock of its own. That lock is taken before the book's
+//! and held until the journal has the post. So a refused post changes nothing, and posts without cumulative points
+//! never wait for it.
 //!
-//! `crates/service_law` has the same cases, but that a run may end by its silence.
+//! - `law`: the cases of the law; `crates/service_law` has the same ones, except that a run may end by its silence.
+//! - `draft`: makes the points of a post that the book is asked to take.
+//! - `forgotten`: the ends of forgotten series.
 //!
-//! It lasts as a frontier does. The journal has what was added, and what a run that is new or only noted is; a commit has the
-//! run of each series of its group as it was at the turn, and so has the snapshot. A start puts the journal's on top, each
-//! that is not in it yet.
+//! Runs last as frontiers do. The journal has what was added, and whether a run is new or only noted. A commit, and the
+//! snapshot, have the run of each series of the group as it was at the roll. A start applies to them the entries of the
+//! journal that they do not contain yet.
 
 mod draft;
 mod forgotten;
@@ -29,19 +31,19 @@ use std::collections::HashMap;
 use std::sync::atomic::{AtomicUsize, Ordering::Relaxed};
 use std::sync::{Arc, Mutex, MutexGuard, OnceLock};
 
-/// Of all series.
+/// The runs of all series of a shard.
 #[derive(Default)]
 pub struct Runs {
     options: OnceLock<Options>,
     state: Mutex<State>,
-    /// Who asks how many there are must not wait for the lock, which is held over a call of the disk.
+    /// Readable without the lock, which is held over a call of the disk.
     count: AtomicUsize,
 }
 
-/// For who has the lock.
+/// The state, for the holder of the lock.
 pub type Locked<'r> = MutexGuard<'r, State>;
 
-/// In the place of a place: not looked up yet.
+/// An index that was not looked up yet.
 const UNKNOWN: u32 = u32::MAX;
 
 #[derive(Default)]
@@ -50,17 +52,18 @@ pub struct State {
     forgotten: Forgotten,
     series: Vec<Series>,
     places: HashMap<Digest, u32>,
-    /// By the number of a series in the names that were used last.
+    /// The index of each number, in the names that were used last.
     by_number: Vec<u32>,
-    /// By the same numbers, series that have no run, since no point of theirs was taken yet. Their texts are long: who posts such
-    /// points again and again would have all others wait while they are read.
+    /// By the same numbers, series without a run, since no point of theirs was taken yet. They are kept because parsing
+    /// their long texts for each such post would make all other posts wait.
     untaken: HashMap<u64, Series>,
     generation: u64,
-    /// The places of series whose runs are in no commit as they are.
+    /// The indexes of series whose current runs are in no commit.
     changed: Vec<u32>,
 }
 
-/// By the digest of its key, as the outbox knows it: the text may have 48 KB, and a number has it for who shows it.
+/// A series by the digest of its key, as in the outbox: the text may have 48 KB, and is found by number if it has to be
+/// shown.
 struct Series {
     digest: Digest,
     terms: Terms,
@@ -68,17 +71,17 @@ struct Series {
     is_changed: bool,
 }
 
-/// What decides of a series' points beside its run.
+/// What decides about a series' points besides its run.
 #[derive(Clone, Copy)]
 struct Terms {
     kind: Kind,
     since: Since,
-    /// Where the book was found to be, where that is not the run's own last time: it has delta points too.
+    /// The end of the series in the book, if it was found to be later than its run: it also has delta points.
     frontier: u64,
 }
 
 impl Runs {
-    /// How points are taken from now on; only the first call counts.
+    /// Sets the options; only the first call counts.
     pub fn set(&self, options: Options) {
         self.options.get_or_init(|| options);
     }
@@ -87,12 +90,12 @@ impl Runs {
         self.options.get().copied().unwrap_or_default()
     }
 
-    /// Waits for the lock. It is taken before that of the book.
+    /// Waits for the lock, which is taken before that of the book.
     pub fn lock(&self) -> Locked<'_> {
-        locked(&self.state) // each change of it is whole
+        locked(&self.state) // each change of it is complete
     }
 
-    /// Puts what a start has found in the place of all.
+    /// Replaces everything by what a start has found.
     pub fn put(&self, locked: &mut Locked<'_>, state: State) {
         **locked = state;
         self.note_count(locked);
@@ -109,7 +112,7 @@ impl Runs {
 }
 
 impl State {
-    /// What an outbox knows.
+    /// The state that an outbox has.
     pub fn of(outbox: &Outbox) -> State {
         let mut state = State { since: outbox.since(), forgotten: outbox.forgotten(), ..State::default() };
         let series = |key: SeriesKey, known: files::Series| {
@@ -122,12 +125,12 @@ impl State {
         state
     }
 
-    /// What a post of the journal says of runs. What is known already stays.
+    /// Applies what a post of the journal says of runs. What is known already stays.
     pub fn replay(&mut self, names: &Names, points: &Points) {
         self.go_by(names);
         for ((_, of_run), point) in points.with_runs() {
             let Some(series) = self.find(names, point[0], |_| 0) else {
-                continue; // each name that was written is that of a series
+                continue; // each name in the journal is that of a series
             };
             let (of_run, words) = (of_run.clone(), point[3..].to_vec());
             let entry = Entry { of_run, from: point[1], time: point[2], words };
@@ -137,7 +140,7 @@ impl State {
         }
     }
 
-    /// Has a series' run come to this. Who has the run as it was keeps it so.
+    /// Sets the run of a series. Whoever shares the old run keeps it unchanged.
     fn come_to(&mut self, number: u64, run: Run) {
         let taken = |state: &mut State| {
             let series = state.untaken.remove(&number)?;
@@ -164,14 +167,14 @@ impl State {
         }
     }
 
-    /// The runs that are in no commit as they are.
+    /// The current runs that are in no commit.
     pub fn changed(&self) -> files::Runs {
         let changed = self.changed.iter().map(|place| &self.series[*place as usize]);
         let runs = changed.filter_map(|series| Some((series.digest, series.run.clone()?)));
         runs.collect()
     }
 
-    /// These are in a commit.
+    /// Records that these runs are in a commit.
     pub fn saved(&mut self, runs: &files::Runs) {
         for (digest, saved) in runs {
             let Some(place) = self.places.get(digest) else {
@@ -184,7 +187,7 @@ impl State {
         self.changed.retain(|place| series[*place as usize].is_changed);
     }
 
-    /// Numbers are of these names from now on.
+    /// Switches to the numbers of these names.
     fn go_by(&mut self, names: &Names) {
         let generation = files::Names::generation(names);
         if self.generation != generation {
@@ -194,8 +197,7 @@ impl State {
         }
     }
 
-    /// The series of a number, by whose names it goes; none where its name is that of none. `frontier` is asked of one that is
-    /// new here.
+    /// The series of a number; none if its name does not name one. `frontier` is asked for a series that is new here.
     fn find(&mut self, names: &Names, number: u64, frontier: impl Fn(&Digest) -> u64) -> Option<&Series> {
         if self.place(number).is_none() && !self.untaken.contains_key(&number) {
             let key = series::only(&files::Names::text(names, number))?;
@@ -211,7 +213,7 @@ impl State {
         self.get_mut(number).map(|series| &*series)
     }
 
-    /// One that was found.
+    /// A series that `find` has found.
     fn get_mut(&mut self, number: u64) -> Option<&mut Series> {
         match self.place(number) {
             Some(place) => self.series.get_mut(place as usize),
@@ -223,7 +225,7 @@ impl State {
         self.by_number.get(number as usize).copied().filter(|place| *place != UNKNOWN)
     }
 
-    /// One that is not here yet.
+    /// A new series without a run.
     fn series_of(
         &self,
         key: &SeriesKey,
@@ -256,8 +258,9 @@ impl State {
     }
 }
 
-/// What a point adds to a series that has this run. Where the book has more of it than its run, up to its frontier or to the end
-/// of delta points ahead in the post, that is of delta points: what begins before these end was counted by them.
+/// What a point adds to a series with this run. If the book has more of the series than its run, up to its frontier or
+/// to the end of delta points before it in the post, delta points have counted that, so a point that begins before this
+/// end is refused.
 fn added_by(
     options: Options,
     terms: Terms,

@@ -1,4 +1,4 @@
-//! Each case of the law, and any points of runs beside a plain count.
+//! Each case of the law, and random points of runs compared with a plain count.
 
 mod draft;
 
@@ -11,7 +11,7 @@ fn point(start: u64, time: u64, words: &[u64]) -> Point {
     Point { start, time, words }
 }
 
-/// One that had a point each ten.
+/// A run with a point every ten.
 fn run(start: u64, time: u64, words: &[u64]) -> Run {
     Run { last: point(start, time, words), interval: 10, before: EndedRun { start: 90, time: 105 } }
 }
@@ -45,7 +45,7 @@ fn a_first_point_counts_from_its_start_as_it_was_told() {
         (First::Auto, 100, counted(100, 100, 200, &[7])),
         (First::Auto, 99, noted(99, 200, &[7])),
         (First::Auto, 0, noted(0, 200, &[7])),
-        // Its start is not known.
+        // Its start is unknown.
         (First::Auto, 200, noted(200, 200, &[7])),
         (First::Count, 99, counted(99, 99, 200, &[7])),
         // It may have been counted before the series was forgotten.
@@ -73,16 +73,16 @@ fn a_later_point_adds_what_its_run_has_more_or_all_of_a_new_run() {
     assert_eq!(refuse(110, 210, 7), more(200, 210, &[0]));
     assert_eq!(refuse(200, 210, 3), counted(200, 200, 210, &[3]));
     assert_eq!(refuse(205, 210, 3), counted(205, 205, 210, &[3]));
-    // Also with less than it was: it is another run. Where this one began nobody knows.
+    // Even with less than before, since it is another run. Where this one began is unknown.
     assert_eq!(refuse(210, 210, 3), noted(210, 210, &[3]));
     for start in [0, 109, 111, 199] {
         assert_eq!(refuse(start, 210, 9), Err(Reason::EarlierRun), "{start}");
     }
-    // The same point again; an older one, also of the run before, whatever it says.
+    // The same point again; an older one, also of the run before, whatever its value.
     for (start, time, value) in [(110, 200, 7), (110, 199, 9), (90, 105, 9), (90, 95, 9)] {
         assert_eq!(refuse(start, time, value), Ok(None), "{start} {time}");
     }
-    // These say what nobody has counted.
+    // These report what nobody has counted.
     for (start, time, value) in [(110, 200, 9), (150, 200, 7), (0, 1, 9), (90, 106, 9)] {
         assert_eq!(refuse(start, time, value), Err(Reason::EarlierRun), "{start} {time}");
     }
@@ -118,7 +118,7 @@ fn a_histogram_has_a_sum_more_where_both_points_have_one() {
     assert_eq!(both, (more(200, 210, &[2, 1, 40, 1, 1]), Some(vec![5, 1, 70, 2, 3])));
     let lost = next(&[3, 1, 30, 1, 2], &[5, 0, 0, 2, 3]);
     assert_eq!(lost, (more(200, 210, &[2, 0, 0, 1, 1]), Some(vec![5, 0, 0, 2, 3])));
-    // What a start reads again is what was added: so the sum stays away until a new run.
+    // What a start reads is what was added: so the sum stays away until a new run begins.
     let came = next(&[3, 0, 0, 1, 2], &[5, 1, 70, 2, 3]);
     assert_eq!(came, (more(200, 210, &[2, 0, 0, 1, 1]), Some(vec![5, 0, 0, 2, 3])));
     for now in [[2, 1, 30, 0, 2], [4, 1, 29, 2, 2], [4, 1, 40, 0, 4]] {
@@ -126,7 +126,7 @@ fn a_histogram_has_a_sum_more_where_both_points_have_one() {
     }
 }
 
-/// Nothing says that what it has counted was not counted before.
+/// Nothing says whether what it has counted was counted before.
 #[test]
 fn a_run_is_noted_that_overlaps_one_which_was_silent_for_three_intervals() {
     let known = run(110, 200, &[7]);
@@ -140,14 +140,14 @@ fn a_run_is_noted_that_overlaps_one_which_was_silent_for_three_intervals() {
         }
         assert_eq!(next(first, &known, start, 230), noted(start, 230, &[9]));
     }
-    // One that begins behind it counts at once.
+    // A run that begins after it counts at once.
     assert_eq!(next(First::Auto, &known, 200, 201), counted(200, 200, 201, &[9]));
-    // Nobody knows how often it has a point.
+    // Its interval is unknown.
     let unknown = Run { interval: 0, ..known };
     assert_eq!(next(First::Auto, &unknown, 150, 9_000), Err(Reason::EarlierRun));
 }
 
-/// Also where a start reads it again.
+/// Also if a start reads it again.
 #[test]
 fn an_interval_is_at_least_half_of_the_one_before() {
     let intervals = |points: &[(u64, u64)]| -> Vec<u64> {
@@ -168,7 +168,7 @@ fn an_interval_is_at_least_half_of_the_one_before() {
         intervals(&[(100, 160), (100, 220), (100, 225), (100, 230), (100, 300)]),
         [60, 60, 30, 15, 70]
     );
-    // A new run has its own. Of one that is only noted it may be as long as that is old, or is not known.
+    // A new run has its own interval. A run that is only noted has its age as interval, or an unknown one.
     assert_eq!(intervals(&[(100, 900), (900, 910), (910, 925)]), [800, 10, 15]);
     assert_eq!(intervals(&[(60, 160), (60, 170), (60, 180)]), [100, 50, 25]);
     assert_eq!(intervals(&[(0, 160), (0, 170)]), [0, 10]);
@@ -176,13 +176,13 @@ fn an_interval_is_at_least_half_of_the_one_before() {
     assert_eq!(intervals(&[(100, 160), (150, 340), (150, 350)]), [60, 190, 95]);
 }
 
-/// What is counted of points, without a thought for deltas: of each run the last value.
+/// A plain count that knows nothing of deltas: the last value of each run.
 #[derive(Default)]
 struct Plain {
     last: Option<(u64, u64)>,
     interval: u64,
     runs: Vec<i128>,
-    /// What runs had that were only noted.
+    /// What noted runs had counted before.
     left_out: i128,
 }
 
@@ -207,7 +207,7 @@ impl Plain {
     }
 }
 
-/// Lost, repeated, reordered points, runs that begin anew, clocks that jump.
+/// Lost, repeated and reordered points, runs that begin anew, and clocks that jump.
 #[test]
 fn what_was_added_is_the_sum_of_the_last_values_of_the_runs() {
     let mut chance = TestRandom(1);
@@ -228,7 +228,7 @@ fn what_was_added_is_the_sum_of_the_last_values_of_the_runs() {
                 value += chance.below(9) as i64 - if kind == Kind::Sum { 4 } else { 0 };
                 sent.push((start, time, value));
                 let (start, time, value) = match chance.below(5) {
-                    0 => continue, // it is lost
+                    0 => continue, // the point is lost
                     1 => sent[chance.below(sent.len() as u64) as usize],
                     _ => (start, time, value),
                 };
@@ -240,7 +240,7 @@ fn what_was_added_is_the_sum_of_the_last_values_of_the_runs() {
                     kept.as_ref(),
                     &point,
                 ) else {
-                    // A clock that went back gives a time to two values.
+                    // A clock that went back gives two values the same time.
                     continue;
                 };
                 let Some(entry) = entry else { continue };
@@ -257,7 +257,7 @@ fn what_was_added_is_the_sum_of_the_last_values_of_the_runs() {
     }
 }
 
-/// A start finds entries that a commit has already, and others.
+/// A start finds some entries that a commit contains already, and others.
 #[test]
 fn entries_behind_any_commit_come_to_what_was_kept() {
     let mut chance = TestRandom(2);

@@ -1,37 +1,39 @@
-//! Points a second: a bucket for each sender, which holds a minute's, since senders as a rule post once a minute.
+//! Quotas of points a second: each sender has a token bucket of a minute's points, since senders usually post once a
+//! minute. `Shares` owns it.
 //!
-//! Of a bucket only the time is kept at which it is full again. What is posted puts it off, by as long as so many points
-//! take to come back.
+//! Of a bucket only the time at which it is full again is kept. A post moves that time by as long as its points take to
+//! come back.
 
 use std::collections::HashMap;
 use std::time::{Duration, Instant};
 
-/// How many seconds' points there are at once.
+/// How many seconds' worth of points a full bucket has.
 pub const BURST: u64 = 60;
 const ALL: Duration = Duration::from_secs(BURST);
 
-/// So many senders have one. Where another one comes those that are full are forgotten, which changes nothing; and of the others
-/// those that are full first, up to half of all: so there is a bound whatever names are made up, and it is seldom looked for them.
+/// The most senders with a bucket. If another one comes, full buckets are forgotten, which changes nothing; of the
+/// others, those that are full soonest, up to half of all. So made-up names can't exceed the bound, and this is done
+/// seldom.
 const MOST: usize = 100_000;
 
-/// When each sender's is full again.
+/// The time at which each sender's bucket is full again.
 #[derive(Default)]
 pub struct Buckets(HashMap<String, Instant>);
 
-/// How long so many points take to come back.
+/// How long these points take to come back.
 pub fn cost(points: u64, most: u64) -> Duration {
     let nanoseconds = u128::from(points) * 1_000_000_000 / u128::from(most.max(1));
     Duration::from_nanos(u64::try_from(nanoseconds).unwrap_or(u64::MAX))
 }
 
-/// The points that come back in so long.
+/// How many points come back in this time.
 pub fn points(debt: Duration, most: u64) -> u64 {
     (debt.as_nanos() * u128::from(most) / 1_000_000_000) as u64
 }
 
 impl Buckets {
-    /// Takes out of a sender's bucket, or says how long it has to wait. What is more than a bucket ever has is taken out of a
-    /// full one: else it would never be.
+    /// Takes points from the bucket of a sender, or returns how long it has to wait. More than a full bucket is taken
+    /// from a full one, since no bucket ever has as much.
     pub fn take(&mut self, sender: &str, cost: Duration, now: Instant) -> Result<(), Duration> {
         let full = self.0.get(sender).copied().unwrap_or(now).max(now);
         let debt = full - now;
@@ -49,7 +51,7 @@ impl Buckets {
         }
     }
 
-    /// What is taken out of each that is not full.
+    /// What is missing in each bucket that is not full.
     pub fn used(&self, now: Instant) -> HashMap<String, Duration> {
         let used = self.0.iter().filter(|(_, full)| **full > now);
         used.map(|(sender, full)| (sender.clone(), *full - now)).collect()
@@ -99,7 +101,7 @@ mod tests {
         assert_eq!(points(buckets.used(now)["A"], 1), 7);
     }
 
-    /// Else a post of more than a minute's points would come again for ever.
+    /// Otherwise a post with more than a minute's points would be retried for ever.
     #[test]
     fn a_post_of_more_than_all_is_taken_from_a_full_bucket() {
         let (mut buckets, begun) = (Buckets::default(), Instant::now());

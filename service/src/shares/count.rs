@@ -1,5 +1,5 @@
-//! How many series each sender has: by the owners that are known since the last flush, by what came since, and by what posts
-//! that are under way may bring.
+//! Counts the series of each sender: by the owners known from the last flush, by what came since, and by what posts in
+//! flight may bring. `Shares` owns it.
 
 use super::{Named, Owned};
 use crate::otlp::series::only;
@@ -9,39 +9,40 @@ use std::sync::atomic::{AtomicU64, Ordering::Relaxed};
 use std::sync::{Arc, Mutex, Weak};
 use std::time::{Duration, Instant};
 
-/// What came, and is in no flush so long after one was due, is not counted any more: its sender may be quarantined, or its slot
-/// another instance's.
+/// An unflushed series is no longer counted so long after its flush was due: its sender may be quarantined, or its
+/// shard may have moved to another instance.
 const LONGEST: Duration = Duration::from_secs(600);
 
 #[derive(Default)]
 pub struct Counted {
     all: AtomicU64,
-    /// How many more there may be by posts that are under way.
+    /// How many series posts in flight may add.
     claimed: AtomicU64,
     state: Mutex<State>,
 }
 
 #[derive(Default)]
 struct State {
-    /// What was counted.
+    /// The state of `Owned` that was counted, unless its owners were not all known.
     of: Option<(u64, usize)>,
     each: HashMap<String, Has>,
-    /// Series that are there: those that came since, and, as none, those that were looked for and are in a flush.
+    /// Known series by number: those that came since the last flush, and, without a value, those that were found to be
+    /// flushed.
     there: HashMap<Number, Option<Came>>,
 }
 
-/// The numbering of a series, and its number.
+/// The generation of a number, and the number.
 type Number = (u64, u64);
 
 /// How many series a sender has.
 #[derive(Clone, Copy, Debug, Default, PartialEq, Eq)]
 pub struct Has {
     pub series: u64,
-    /// How many more it may have by posts that are under way.
+    /// How many more it may get by posts in flight.
     pub claimed: u64,
 }
 
-/// A series that is in no flush yet. Who has its number may take much memory, and is not kept for it.
+/// An unflushed series. Its names are held weakly, since they may take much memory.
 struct Came {
     sender: Arc<str>,
     names: Weak<Named>,
@@ -49,15 +50,16 @@ struct Came {
 }
 
 impl Counted {
-    /// Counts anew if something has come or gone.
+    /// Counts anew if series have come or gone.
     pub fn count(&self, owned: &dyn Owned, flush_interval: Duration) {
         let found = owned.seen();
         if locked(&self.state).of == Some(found) {
             return;
         }
-        // A flush may have come whose owners become known from here on.
+        // The owners of a flush may become known between here and the second look.
         let known: u64 = owned.by_owner().values().sum();
-        // Before the owners: what comes into a flush meanwhile is counted twice until the next time, and nothing is left out.
+        // Before the owners are read: a series that is flushed meanwhile is counted twice until the next time, and none
+        // is left out.
         let gone = self.not_waited_for(owned, flush_interval.saturating_add(LONGEST));
         let by_owner = owned.by_owner();
         let of_owner = |(sender, series)| (sender, Has { series, claimed: 0 });
@@ -76,7 +78,7 @@ impl Counted {
         state.each = each;
     }
 
-    /// Of what came since it was counted last what is in a flush, or can't be looked for.
+    /// Of the unflushed series those that are flushed now, can't be looked up any more, or are older than `longest`.
     fn not_waited_for(&self, owned: &dyn Owned, longest: Duration) -> HashSet<Number> {
         let state = locked(&self.state);
         let came = |(number, came): (&Number, &Option<Came>)| {
@@ -92,7 +94,7 @@ impl Counted {
         came.into_iter().filter(is_gone).map(|(number, ..)| number).collect()
     }
 
-    /// Lets a post that is under way bring so many, unless all would be more than `most` with what others have claimed.
+    /// Claims room for `new` series, unless all series, with those claimed by others, would exceed `most`.
     pub fn claim_of_all(&self, new: u64, most: u64) -> bool {
         let has_room =
             |claimed: u64| new == 0 || self.all().saturating_add(claimed).saturating_add(new) <= most;
@@ -104,7 +106,7 @@ impl Counted {
         self.claimed.fetch_sub(claimed, Relaxed);
     }
 
-    /// Lets a sender have so many more by a post that is under way, unless it would have more than so many.
+    /// Claims room for `new` series of a sender, unless it would have more than `most`.
     pub fn claim(&self, sender: &str, new: u64, most: u64) -> Result<(), Has> {
         if new == 0 {
             return Ok(());
@@ -118,7 +120,7 @@ impl Counted {
         Ok(())
     }
 
-    /// A post is under way no more. Names are made up: nothing is kept of who has nothing.
+    /// Ends a claim. A sender without series is forgotten, since names can be made up.
     pub fn give_back(&self, sender: &str, claimed: u64) {
         let mut state = locked(&self.state);
         if let Some(has) = state.each.get_mut(sender) {
@@ -129,7 +131,7 @@ impl Counted {
         }
     }
 
-    /// So many came of a sender. They are among these numbers, where they have some, of which others were there already.
+    /// Adds `series` new series of a sender. `numbered` has the numbers of all series of its post, new and known.
     pub fn add(&self, sender: &str, series: u64, numbered: Option<(Arc<Named>, Vec<u64>)>) {
         let mut state = locked(&self.state);
         state.each.entry(sender.to_string()).or_default().series += series;
@@ -142,7 +144,7 @@ impl Counted {
         }
     }
 
-    /// How many of these series are not there, looked at until they are one more than `most`.
+    /// How many of these series are new; stops counting after `most`.
     pub fn new_of(&self, owned: &dyn Owned, names: &Named, mut numbers: Vec<u64>, most: u64) -> u64 {
         let generation = names.generation();
         let is_there = |state: &State, number: u64| state.there.contains_key(&(generation, number));

@@ -1,9 +1,10 @@
-//! What each sender may have of what all share: series, and points a second.
+//! Quotas of senders: how many series each may have, and how many points a second it may post. `slot` claims both for a
+//! post before it asks the book.
 //!
-//! A post asks for its points and its series once it is read, before the book is: over a sender's share it is answered 429, and
-//! nothing of it is anywhere; 413 where no repeat could be within it. Over the most series of all, which the books alone do not
-//! keep to, it is answered 503. `bucket` counts points, `count` series: by their owners at
-//! each flush, and by what posts have added since, or may add; `rules` says how many each may have.
+//! A post over its sender's quota is answered 429 and leaves nothing behind; 413 if no retry could be within it; 503 if
+//! all series would exceed the service's limit, which the books alone do not enforce. What a claim took is given back
+//! unless the post is taken. `bucket` counts points; `count` counts series, by their owners at each flush and by what
+//! posts have added since or may add; `rules` has the quotas.
 
 mod bucket;
 mod count;
@@ -23,34 +24,34 @@ use std::future::Future;
 use std::sync::{Arc, Mutex, OnceLock, PoisonError, Weak};
 use std::time::{Duration, Instant};
 
-/// How often it is looked whether series came or went.
+/// How often series are counted anew if they came or went.
 const LOOK: Duration = Duration::from_secs(1);
 
-/// When a sender is to come again that may have no more series: one that has no number and is in no flush yet counts as new until
-/// then.
+/// How long a sender that may have no more series is told to wait. Until then, an unflushed series without a number
+/// counts as new.
 const AGAIN: u64 = 10;
 
-/// How long it is waited for posts of the same sender that are under way, and how often at most.
+/// How long, and how often at most, a post waits for other posts of the same sender.
 const PAUSE: Duration = Duration::from_millis(20);
 const PAUSES: usize = 10;
 
-/// How often it is told that there are as many series as may be.
+/// How often the log says that the limit of series is reached.
 const BETWEEN_TELLING: Duration = Duration::from_secs(60);
 
 /// How many senders are shown.
 pub const SHOWN: usize = 10;
 
-/// Until there are rules each may have all.
+/// The quotas of all senders. Without rules there are none.
 #[derive(Default)]
 pub struct Shares {
     rules: OnceLock<Rules>,
     buckets: Mutex<Buckets>,
     counted: Counted,
-    /// When it was told last that there are as many series as may be.
+    /// When the log last said that the limit of series is reached.
     told: Mutex<Option<Instant>>,
 }
 
-/// Why a post has to wait.
+/// Why a post is refused.
 #[derive(Debug, PartialEq, Eq, thiserror::Error)]
 pub enum Over {
     #[error("over its share: {sender} may post {points} points a second, {} at once: again in {seconds} s", points * BURST)]
@@ -59,21 +60,21 @@ pub enum Over {
     Series { sender: String, series: u64, most: u64 },
     #[error("over its share: {sender} may have {most} series, and this post alone has more new ones: drop an attribute, or raise its series=")]
     Alone { sender: String, most: u64 },
-    /// All senders together.
+    /// All senders together have too many series.
     #[error("too many series: there are {all}, and at most {most}")]
     All { all: u64, most: u64 },
     #[error("too many series in a post: over {most}: post fewer series at a time")]
     AllAlone { most: u64 },
 }
 
-/// Says what numbers of series stand for.
+/// Names of series by number.
 pub type Named = dyn Names + Send + Sync;
 
 /// The series of a post.
 pub enum Series {
-    /// By their numbers, each once.
+    /// By number, each once.
     Numbered(Arc<Named>, Vec<u64>),
-    /// They have none, and are looked for in its text.
+    /// Without numbers: they are found by parsing the text.
     Text(Bytes),
 }
 
@@ -99,19 +100,19 @@ impl From<Over> for Outcome {
     }
 }
 
-/// What a sender has of its share.
+/// How much of its quota a sender has used.
 #[derive(Clone, Debug, PartialEq, Eq, Serialize, Deserialize)]
 pub struct Used {
     pub sender: String,
     pub series: u64,
     pub max_series: Option<u64>,
-    /// Points that it has posted of those that it may at once, which come back with time.
+    /// How many of the points in its bucket it has used; they come back with time.
     pub points: u64,
     pub most_points: Option<u64>,
 }
 
 impl Used {
-    /// The greater part of one of both, 1 where there is no more.
+    /// The larger of both fractions; 1 means that the quota is used up.
     pub fn part(&self) -> f64 {
         self.part_of_series().max(self.part_of_points())
     }
@@ -129,15 +130,15 @@ fn part(used: u64, most: Option<u64>) -> f64 {
     most.map_or(0.0, |most| used as f64 / most.max(1) as f64)
 }
 
-/// What a post has of its sender's share: its points are given back unless it is taken, and what it may bring of series once it is
-/// known how many these are.
+/// What a post has claimed of the quota of its sender. When it is dropped, the points are given back unless `keep` was
+/// called, and the claim on series ends, since by then it is known how many came.
 #[must_use = "the points of what is taken have to be kept"]
 pub struct Claim<'s> {
     shares: &'s Shares,
     sender: String,
     points: Duration,
     series: u64,
-    /// Of what all senders may have together.
+    /// Claimed from the limit of all senders.
     series_of_all: u64,
 }
 
@@ -150,15 +151,15 @@ impl Shares {
         }
     }
 
-    /// What each sender may have from now on that has no share of its own.
+    /// Sets the quota of senders without one of their own.
     pub fn set_of_each(&self, share: Share) {
         if let Some(rules) = self.rules.get() {
             *rules.of_each.write().unwrap_or_else(PoisonError::into_inner) = share;
         }
     }
 
-    /// Asks for a post's points, and for room for its series. `look` says how many of these are new: it is not asked where there is
-    /// room for as many as there are points.
+    /// Claims the points of a post, and room for its series. `look` counts the new series; it is called only if there
+    /// is no room for as many series as there are points.
     pub async fn claim<F: Future<Output = Result<u64, Over>>>(
         &self,
         sender: &str,
@@ -197,9 +198,9 @@ impl Shares {
         Ok(claim)
     }
 
-    /// Asks for room beside all other series: for as many as there are points or, if these may be too many, for those that are new.
-    /// Posts that are under way may have claimed more than they bring. So they are waited for, but not for long: what they claim is
-    /// no reason to refuse a post.
+    /// Claims room within the limit of all series: for as many as there are points, or, if these may be too many, for
+    /// those that are new. Posts in flight may have claimed more than they bring, so this waits for them, but not for
+    /// long: a post is never refused because of their claims.
     async fn claim_beside_all<F: Future<Output = Result<u64, Over>>>(
         &self,
         rules: &Rules,
@@ -235,7 +236,7 @@ impl Shares {
         }
     }
 
-    /// There is no room for a new series. Senders hear of it alone, and they may be deaf.
+    /// Logs that there is no room for new series. Otherwise only senders would see it, and they may ignore it.
     pub fn tell_full(&self) {
         let mut told = locked(&self.told);
         if told.is_some_and(|told| told.elapsed() < BETWEEN_TELLING) {
@@ -251,16 +252,16 @@ impl Shares {
         );
     }
 
-    /// How many series a sender may have, where it could come over that by a post of so many points. Of a service's a tenth is left
-    /// to others, once these have some.
+    /// How many series the sender may have, if a post of so many points might exceed that. Of the service's limit a
+    /// tenth is left to others, once these have some.
     fn max_series(&self, rules: &Rules, sender: &str, points: u64) -> Option<u64> {
         let (all, for_one) = (self.counted.all(), rules.kept_for_others());
         let is_near = || all.saturating_add(points) > for_one && all > self.counted.of(sender);
         rules.of(sender).series.or_else(|| is_near().then_some(for_one))
     }
 
-    /// Asks for room where there is none for as many series as there are points. Posts of the same sender that are under way have
-    /// claimed as many as they have points, or bring the same series: these are waited for.
+    /// Claims room for the new series if there is none for as many as there are points. Other posts of the same sender
+    /// may have claimed too many, or bring the same series, so this waits for them.
     async fn claim_new<F: Future<Output = Result<u64, Over>>>(
         &self,
         sender: &str,
@@ -283,8 +284,8 @@ impl Shares {
         Err(Over::Series { sender: sender.into(), series: has.series, most })
     }
 
-    /// How many new series a post has. Of those that have no numbers so many that are none may look so, since they are in no flush
-    /// yet.
+    /// Counts the new series of a post. `unflushed` more are allowed, since series without numbers look new until they
+    /// are flushed.
     pub fn look(&self, sender: &str, points: u64, series: Series, unflushed: u64) -> Result<u64, Over> {
         let Some(rules) = self.rules.get() else { return Ok(0) };
         let own = self.max_series(rules, sender, points);
@@ -300,7 +301,7 @@ impl Shares {
         }
     }
 
-    /// A post is in the book, with so many series that were not there.
+    /// Records that the book has taken a post with so many new series.
     pub fn came(&self, sender: &str, new_series: usize, series: impl FnOnce() -> Series) {
         if self.rules.get().is_none() || new_series == 0 {
             return;
@@ -312,7 +313,7 @@ impl Shares {
         self.counted.add(sender, new_series as u64, numbered);
     }
 
-    /// Those that are nearest to their share, the nearest first.
+    /// The senders that are nearest to their quota, the nearest first.
     pub fn nearest(&self) -> Vec<Used> {
         let Some(rules) = self.rules.get() else {
             return Vec::new();
@@ -343,7 +344,7 @@ impl Shares {
 }
 
 impl Claim<'_> {
-    /// Waits for what goes on also where nobody waits for it any more: so the points are kept then.
+    /// Waits for work that continues even if the post is cancelled; in that case the points are kept.
     pub async fn during<T>(&mut self, work: impl Future<Output = T>) -> T {
         let points = std::mem::take(&mut self.points);
         let done = work.await;
@@ -351,7 +352,7 @@ impl Claim<'_> {
         done
     }
 
-    /// So many of so many points are in the book: what the others took is given back.
+    /// Gives back the points that were not taken; `points` of `of` are in the book.
     pub fn keep(&mut self, points: u64, of: u64) {
         let left = of.saturating_sub(points) as f64 / of.max(1) as f64;
         self.points = self.points.mul_f64(left);

@@ -1,4 +1,4 @@
-//! How much each sender may have.
+//! The quotas: of each sender by the file of tokens, of all others by the options.
 
 use crate::identity::Tokens;
 use crate::otlp::series::{Profile, SeriesKey};
@@ -7,10 +7,10 @@ use std::collections::HashMap;
 use std::sync::{Arc, PoisonError, RwLock};
 use std::time::Duration;
 
-/// The most points a second that may be named.
+/// The largest quota of points a second.
 pub const MOST_POINTS: u64 = 1_000_000_000_000;
 
-/// What a sender may have; none of what it may have any number of.
+/// The quota of a sender; none means unlimited.
 #[derive(Clone, Copy, Debug, Default, PartialEq, Eq)]
 pub struct Share {
     pub series: Option<u64>,
@@ -19,15 +19,15 @@ pub struct Share {
 }
 
 impl Share {
-    /// With that of another for what this does not say.
+    /// Fills in from `other` what is not set.
     pub fn or(self, other: Share) -> Share {
         Share { series: self.series.or(other.series), points: self.points.or(other.points) }
     }
 }
 
-/// Who knows whose a series is, once it was flushed.
+/// Knows the owners of flushed series.
 pub trait Owned: Send + Sync + 'static {
-    /// Another where something may have come or gone: of flushes, and how many series there are.
+    /// Changes whenever series may have come or gone: a count of flushes, and the number of series.
     fn seen(&self) -> (u64, usize);
 
     fn by_owner(&self) -> HashMap<String, u64>;
@@ -36,16 +36,16 @@ pub trait Owned: Send + Sync + 'static {
 }
 
 pub struct Rules {
-    /// Of the service.
+    /// The limit of the service.
     pub max_series: u64,
-    /// Of each sender that has none of its own.
+    /// The quota of a sender without one of its own.
     pub of_each: RwLock<Share>,
-    /// Whose are its own.
+    /// The file with the senders' own quotas.
     pub tokens: Option<Arc<Reloaded<Tokens>>>,
     /// Which points have a series.
     pub profile: Profile,
     pub owned: Box<dyn Owned>,
-    /// A series is in a flush so long after it came, unless its sender is quarantined.
+    /// A series is flushed within this time, unless its sender is quarantined.
     pub flush_interval: Duration,
 }
 
@@ -55,7 +55,7 @@ impl Rules {
         own.unwrap_or_default().or(*self.of_each.read().unwrap_or_else(PoisonError::into_inner))
     }
 
-    /// How many series one sender may have where others have some too: a tenth is left to them.
+    /// How many series one sender may have if others have some: a tenth is left to them.
     pub fn kept_for_others(&self) -> u64 {
         self.max_series - self.max_series / 10
     }

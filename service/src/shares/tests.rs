@@ -1,16 +1,16 @@
-//! Shares of points and series: what uses them up, what gives back, and what is refused.
+//! Quotas of points and series: what uses them up, what is given back, and what is refused.
 
 use super::*;
 use crate::otlp::series::SeriesKey;
 use std::collections::HashMap;
 use std::sync::atomic::{AtomicU64, Ordering::Relaxed};
 
-/// Series that were flushed, each of its owner.
+/// Flushed series with their owners.
 #[derive(Clone, Default)]
 struct Flushed(Arc<Mutex<HashMap<SeriesKey, String>>>, Arc<AtomicU64>);
 
 impl Flushed {
-    /// As a flush makes known: so many series of a sender, of these names.
+    /// Makes series of a sender known, as a flush does.
     fn add(&self, sender: &str, names: &[String]) {
         let read = posted(names);
         self.0.lock().unwrap().extend(read.into_iter().map(|key| (key, sender.to_string())));
@@ -54,7 +54,7 @@ fn names(of: &str, count: usize) -> Vec<String> {
     (0..count).map(|number| format!("{of}.{number}")).collect()
 }
 
-/// Each series has a number, in the order in which they came.
+/// Numbers series in the order in which they come.
 #[derive(Default)]
 struct Numbers(Mutex<Vec<String>>);
 
@@ -110,7 +110,7 @@ fn of_series(series: u64) -> Service {
 }
 
 impl Service {
-    /// What a post of these has, which is let in; its series are found by their numbers.
+    /// The claim of a post with these series, which are found by number.
     async fn claim(&self, sender: &str, names: &[String]) -> Result<Claim<'_>, Over> {
         let numbers = self.numbers.of(names).into_iter();
         self.claim_by(sender, names, || Series::numbered(self.numbers.clone(), numbers.clone()), 0).await
@@ -128,7 +128,7 @@ impl Service {
         self.shares.claim(sender, points, look).await
     }
 
-    /// Whether a post of these is let in. It is taken then.
+    /// Posts these series; the post is taken if it is let in.
     async fn post(&self, sender: &str, names: &[String]) -> Result<(), Over> {
         self.take(sender, names, self.claim(sender, names).await?);
         Ok(())
@@ -144,7 +144,7 @@ impl Service {
         claim.keep(1, 1);
     }
 
-    /// All that the book has comes into a flush.
+    /// Flushes everything that the book has.
     fn flush(&self) {
         for (name, sender) in &*self.book.lock().unwrap() {
             self.flushed.add(sender, std::slice::from_ref(name));
@@ -179,7 +179,7 @@ async fn one_alone_may_have_all_series_and_leaves_a_tenth_once_others_have_some(
     assert_eq!(service.post("B", &names("b", 3)).await, Ok(()));
 }
 
-/// A book has room for many more, and the service's memory, pages and alerts are made for these.
+/// A book has room for many more, but the memory, pages and alerts of the service are made for this limit.
 #[tokio::test]
 async fn all_senders_together_have_no_more_series_than_the_service() {
     let service = service(Share::default());
@@ -216,7 +216,7 @@ async fn a_share_of_series_is_kept_to_between_two_flushes_too() {
     assert_eq!((told.status(), told.again_in()), (429, Some(AGAIN)));
 }
 
-/// Else who is just below its share comes to nearly twice that.
+/// Otherwise a sender just below its quota could reach nearly twice that.
 #[tokio::test]
 async fn no_post_brings_more_than_is_left_of_a_share() {
     let service = of_series(5);
@@ -230,7 +230,7 @@ async fn no_post_brings_more_than_is_left_of_a_share() {
     assert_eq!(service.post("A", &names("c", 1)).await, used_up(5, 5));
 }
 
-/// What came after a flush was taken is not in the owners' series once that is there.
+/// Series that came after a flush was taken are not among its owners.
 #[tokio::test]
 async fn what_came_while_a_flush_was_written_is_counted() {
     let service = of_series(5);
@@ -245,7 +245,7 @@ async fn what_came_while_a_flush_was_written_is_counted() {
     assert_eq!(service.shares.counted.of("A"), 5, "none counts twice");
 }
 
-/// A series in a flush, whose owner becomes known right after somebody asked for it.
+/// A flushed series whose owner becomes known right after it was asked for.
 struct OwnerBecomesKnown(Flushed, AtomicU64);
 
 impl Owned for OwnerBecomesKnown {
@@ -277,7 +277,7 @@ async fn a_series_whose_owner_becomes_known_while_it_is_counted_does_not_count_t
     assert_eq!((service.shares.counted.all(), service.shares.counted.of("A")), (1, 1));
 }
 
-/// Else each of many posts at once would find the room that is there for one.
+/// Otherwise many posts at once could each find the room that is there for one.
 #[tokio::test]
 async fn posts_that_are_under_way_share_what_is_left_to_all() {
     let service = service(Share::default());
@@ -295,7 +295,7 @@ async fn posts_that_are_under_way_share_what_is_left_to_all() {
     assert_eq!(service.claim("B", &names("c", 1)).await.err(), all(100));
 }
 
-/// A post that is under way for long claims room for all its points, of which few may be new.
+/// A long post claims room for all its points, of which few may be new series.
 #[tokio::test]
 async fn no_post_is_refused_for_what_others_may_bring() {
     let service = service(Share::default());
@@ -305,7 +305,7 @@ async fn no_post_is_refused_for_what_others_may_bring() {
     assert_eq!(service.post("B", &names("b", 100)).await, Ok(()));
 }
 
-/// Else many at once would each find the room that is there for one.
+/// Otherwise many posts at once could each find the room that is there for one.
 #[tokio::test]
 async fn posts_that_are_under_way_share_what_is_left() {
     let service = of_series(5);
@@ -323,8 +323,8 @@ async fn posts_that_are_under_way_share_what_is_left() {
     assert_eq!(service.shares.counted.each(), [("A".to_string(), 4)].into());
 }
 
-/// Else the first post of a sender that makes very many would take the room of all others. It would come again for ever, were it
-/// answered as one that may be taken later.
+/// Otherwise the first post of a sender with very many series would take the room of all others. If it were answered as
+/// retryable, it would be retried for ever.
 #[tokio::test]
 async fn no_post_has_more_new_series_than_a_share() {
     let service = of_series(5);
@@ -355,7 +355,7 @@ async fn series_without_numbers_are_known_once_they_were_flushed() {
     assert_eq!(post(&names("c", 6), 1).await, used_up(5, 5), "one may be taken, and in no flush yet");
 }
 
-/// Else a sender that is refused for another reason would use up what it has.
+/// Otherwise a sender that is refused for another reason would use up its quota.
 #[tokio::test]
 async fn points_of_what_is_not_taken_are_given_back() {
     let service = service(Share { series: None, points: Some(1) });

@@ -1,4 +1,4 @@
-//! What a post's points come to, and what it takes to know.
+//! The drafts of posts, and how many lookups they take.
 
 use super::*;
 
@@ -11,7 +11,7 @@ fn number(names: &Names, name: &str) -> u64 {
     names.learn(text.into()).unwrap()
 }
 
-/// Who reads the post for a place does not count what is not sound.
+/// The reader that looks up the point does not count points that are not sound.
 #[test]
 fn a_place_is_told_among_the_points_of_the_profile() {
     let names = Names::new().unwrap();
@@ -23,7 +23,7 @@ fn a_place_is_told_among_the_points_of_the_profile() {
     let posted = Posted { points: &points, cumulative: &[0, 1, 2, 3], names: &names };
     let draft = runs.draft(posted, |_| 0);
     assert_eq!((draft.foreign(), draft.points.count()), (2, 2));
-    // Of the request the first point is off by its clock.
+    // The first point of the request is off the clock.
     let among_all = |place| place + 1;
     for point in [0, 1] {
         let refused = draft.refused(crate::core::Refused::OtherWriter { point }, among_all);
@@ -31,17 +31,17 @@ fn a_place_is_told_among_the_points_of_the_profile() {
     }
 }
 
-/// Its text is long, and a post may have very many points of it that are not taken.
+/// The text of a series is long, and a post may have very many points of it that are not taken.
 #[test]
 fn a_series_is_looked_up_once_however_many_of_its_points_are_not_taken() {
     let names = Names::new().unwrap();
     let number = number(&names, "a");
     let mut points = Points::default();
     for _ in 0..50 {
-        points.push(number, 10, 20, [-5i64 as u64]); // it is not sound
+        points.push(number, 10, 20, [-5i64 as u64]); // not sound
     }
     for _ in 0..50 {
-        points.push(number, 10, 20, [5]); // delta points have its span
+        points.push(number, 10, 20, [5]); // delta points have this span
     }
     points.push(number, 60, 70, [5]);
     points.push(number, 60, 80, [7]);
@@ -60,7 +60,7 @@ fn a_series_is_looked_up_once_however_many_of_its_points_are_not_taken() {
     assert_eq!(draft.turned, [(Reason::Mixed, 50)].into_iter().collect());
     assert_eq!(asked.get(), 1);
     drop(draft);
-    // And for the posts after it not again.
+    // Nor for the posts after it.
     let untaken = Posted { points: &points_before(&points, 100), cumulative: &cumulative[..100], ..posted };
     for _ in 0..2 {
         let draft = drafted(untaken);
@@ -75,7 +75,7 @@ fn points_before(points: &Points, place: usize) -> Points {
     before
 }
 
-/// Else what one of two processes, or of two instruments of a name, has counted would be lost, and nobody told.
+/// Otherwise what one of two processes, or of two instruments with one name, has counted would be lost silently.
 #[test]
 fn of_two_points_over_one_time_in_a_post_the_second_is_refused_by_name() {
     let (names, runs) = (Names::new().unwrap(), Runs::default());
@@ -104,9 +104,9 @@ fn of_two_points_over_one_time_in_a_post_the_second_is_refused_by_name() {
     assert_eq!(taken(&[(70, 80, 1), (10, 70, 17), (10, 65, 16)]), (3, 0), "two of the run before");
 }
 
-/// Series of attributes that are as long as they may be, and so some 48 KB each.
+/// Series with the longest attributes, about 48 KB each.
 const LONG: u64 = 100;
-/// What a run may take of memory, with its words and its place by number.
+/// The most memory of a run, with its words and its index by number.
 const MOST_OF_A_RUN: usize = 400;
 
 fn long_request(number: u64) -> String {
@@ -120,7 +120,7 @@ fn long_request(number: u64) -> String {
     )
 }
 
-/// Run by the next test in a process of its own, in which nothing else takes memory.
+/// The next test runs this in a process of its own, where nothing else takes memory.
 #[test]
 #[ignore]
 fn takes_memory_for_runs_of_long_series() {
