@@ -1,9 +1,9 @@
-//! The log: what the service says on standard error, written by a thread of its own.
+//! The log: a thread writes the service's messages to standard error.
 //!
-//! Who reads a log may stand still, and whoever writes to it then does so too: that must be nobody who serves. So lines
-//! wait for the thread, up to a bound. Of those that find no room, and of those that can't be written, a line in their
-//! place says how many there were. A panic is said the same way, and ends the process. `form` is how a line is written,
-//! `shown` what is shown of others' texts.
+//! The reader of the log may stop reading, and whoever writes then blocks: so no thread that serves may write. Lines
+//! are queued for the log's thread up to a bound; lines that find no room or can't be written are counted, and a line
+//! in their place says how many are missing. A panic is written in the same way, and ends the process. `form` formats
+//! lines; `shown` makes foreign texts safe to show.
 
 mod form;
 mod once_an_hour;
@@ -27,18 +27,18 @@ use std::sync::{Arc, Condvar, Mutex, OnceLock, PoisonError};
 use std::time::{Duration, Instant};
 use tracing::Level;
 
-/// The most bytes of lines that wait; those that are being written are as many at most.
+/// The most bytes that are queued; as many at most are being written.
 const MOST_WAITING: usize = 1 << 20;
 /// How long the end of the process waits until its last lines are written.
 const LAST_LINES: Duration = Duration::from_secs(1);
 
-/// That of this process, where it serves. A command writes to standard error by itself.
+/// The log of a serving process. A command writes to standard error directly.
 static LOG: OnceLock<Arc<Log>> = OnceLock::new();
 
 pub struct Log {
     state: Mutex<State>,
     changed: Condvar,
-    /// Lines that the log has not.
+    /// Counts lines that were lost.
     lost: IntCounter,
     form: Form,
 }
@@ -49,14 +49,14 @@ struct State {
     is_writing: bool,
 }
 
-/// Whole lines, and how many are missing behind them.
+/// Complete lines, and how many are missing after them.
 #[derive(Default)]
 struct Lines {
     text: Vec<u8>,
     missing: u64,
 }
 
-/// Starts the thread. What the process says at its end goes the same way from then on.
+/// Starts the thread. From then on `complain` uses it too.
 pub fn start(lost: IntCounter, form: Form) -> io::Result<Arc<Log>> {
     let log = Arc::new(Log::new(lost, form));
     let writing = log.clone();
@@ -64,8 +64,8 @@ pub fn start(lost: IntCounter, form: Form) -> io::Result<Arc<Log>> {
     Ok(LOG.get_or_init(|| log).clone())
 }
 
-/// Says on standard error why the program ends or waits, or what it could not do. The status counts also where that
-/// can't be written: the log may be on the disk that failed.
+/// Writes to standard error why the program ends or waits, or what it could not do. Never fails, since the log may be
+/// on the disk that has failed; the exit status counts in any case.
 pub fn complain(what: Arguments) {
     let what = what.to_string();
     let Some(log) = LOG.get() else {
@@ -79,15 +79,15 @@ pub fn complain(what: Arguments) {
     log.wait_until_written(until);
 }
 
-/// Waits for the last lines, where they are read: the process ends.
+/// Waits until the last lines are written, since the process ends; not for long, in case nobody reads them.
 pub fn finish() {
     if let Some(log) = LOG.get() {
         log.wait_until_written(Instant::now() + LAST_LINES);
     }
 }
 
-/// From here on a panic of any thread ends the process, before anything unwinds: nobody finds what the thread has left half
-/// changed. So it is however the program is compiled: `panic = "abort"` of the release profile is not for tests.
+/// Makes a panic of any thread end the process before anything unwinds, so that no other thread sees what it left half
+/// changed. This works however the program is compiled: tests don't have the release profile's `panic = "abort"`.
 pub fn end_by_panics() {
     std::panic::set_hook(Box::new(end_by_panic));
 }
@@ -106,11 +106,11 @@ impl Log {
         Log { state: Mutex::default(), changed: Condvar::new(), lost, form }
     }
 
-    /// Waits for nobody.
+    /// Queues a line. Never waits.
     fn put(&self, line: &[u8]) {
         let mut state = locked(&self.state);
         let waiting = &mut state.waiting;
-        // Behind one that is missing all are, so that there is one place to say it.
+        // After a missing line all further ones are missing too, so that one place says how many.
         if waiting.missing > 0 || waiting.text.len() + line.len() > MOST_WAITING {
             waiting.missing += 1;
             self.lost.inc();
@@ -128,7 +128,7 @@ impl Log {
         }
     }
 
-    /// Waits for lines. Those that it returned before are written.
+    /// Waits for lines. Those that the previous call returned are written by now.
     fn next(&self) -> Lines {
         let mut state = locked(&self.state);
         state.is_writing = false;
@@ -142,7 +142,7 @@ impl Log {
     fn wait_until_written(&self, until: Instant) {
         let left = until.saturating_duration_since(Instant::now());
         let is_under_way = |state: &mut State| state.is_writing || !state.waiting.is_empty();
-        // Where nobody reads in time the lines are lost.
+        // If nobody reads in time, the lines are lost.
         drop(self.changed.wait_timeout_while(locked(&self.state), left, is_under_way));
     }
 }
@@ -153,16 +153,16 @@ impl Lines {
     }
 }
 
-/// Where lines go.
+/// The output of the log.
 struct Output<W> {
     out: W,
     form: Form,
-    /// Behind the last line that was written.
+    /// How many lines are missing since the last one that was written.
     missing: u64,
 }
 
 impl<W: Write> Output<W> {
-    /// How many could not be written.
+    /// Writes lines; returns how many could not be written.
     fn write(&mut self, lines: &Lines) -> u64 {
         let mut failed = 0;
         for line in lines.text.split_inclusive(|byte| *byte == b'\n') {
@@ -172,7 +172,7 @@ impl<W: Write> Output<W> {
             }
         }
         self.missing += lines.missing;
-        let _ = self.say_missing(); // it is said before the next line else
+        let _ = self.say_missing(); // otherwise it is said before the next line
         failed
     }
 

@@ -1,4 +1,4 @@
-//! How a line of the log is written: as people read it, or as one JSON object; under systemd with its priority.
+//! Formats a line of the log: for people, or as a JSON object; under systemd with its priority.
 
 use super::shown::all_shown;
 use super::time::now;
@@ -10,31 +10,31 @@ use tracing::field::{Field, Visit};
 use tracing::{Event, Level, Subscriber};
 use tracing_subscriber::layer::{Context, Layer};
 
-/// Where journald says that it reads standard error, by its device and its number.
+/// The environment variable by which journald names the device and the inode that it reads as standard error.
 const JOURNAL: &str = "JOURNAL_STREAM";
 
-/// Whose lines have their fields in their text already.
+/// Targets that begin like this have their fields in their text already.
 const OURS: &str = "totxegun";
 
-/// The field that is a line's text.
+/// The name that `tracing` gives to a line's text.
 const TEXT: &str = "message";
 
 #[derive(Clone, Copy, Debug, Default, PartialEq, Eq)]
 pub struct Form {
-    /// An object a line, with `time`, `level`, `text` and the line's fields.
+    /// One JSON object a line, with `time`, `level`, `text` and the line's fields.
     pub is_json: bool,
-    /// Each line begins with its priority, as journald takes it.
+    /// Each line begins with its priority, for journald.
     pub has_priority: bool,
 }
 
 impl Form {
-    /// That of this process.
+    /// The form for this process.
     pub fn new(is_json: bool) -> Form {
         let named = std::env::var(JOURNAL).unwrap_or_default();
         Form { is_json, has_priority: is_standard_error(&named) }
     }
 
-    /// A line of what has happened.
+    /// Formats an event.
     fn event(self, level: Level, said: &Said) -> String {
         match self.is_json {
             true => self.object(level, &said.text, &said.fields),
@@ -42,7 +42,7 @@ impl Form {
         }
     }
 
-    /// What the process says of itself: it may be several lines, as of a panic.
+    /// Formats a message of the process itself, which may have several lines, for example of a panic.
     pub fn note(self, level: Level, text: &str) -> String {
         match self.is_json {
             true => self.object(level, text, &[]),
@@ -68,7 +68,7 @@ impl Form {
     }
 }
 
-/// As syslog counts: 3 is an error, 4 a warning, 5 a notice.
+/// The priority as in syslog: 3 is an error, 4 a warning, 5 a notice.
 fn priority(level: Level) -> u8 {
     match level {
         Level::ERROR => 3,
@@ -79,14 +79,15 @@ fn priority(level: Level) -> u8 {
     }
 }
 
-/// A child of a service has the variable too: its standard error may be another.
+/// Whether the variable names this process' standard error. A child process inherits the variable, but its standard
+/// error may differ.
 fn is_standard_error(named: &str) -> bool {
     use std::os::fd::AsRawFd;
     let found = nix::sys::stat::fstat(std::io::stderr().as_raw_fd());
     found.is_ok_and(|found| format!("{}:{}", found.st_dev, found.st_ino) == named)
 }
 
-/// Takes what is told by `tracing`.
+/// Writes the events of `tracing` to the log.
 pub struct Events(pub Arc<Log>);
 
 impl<S: Subscriber> Layer<S> for Events {
@@ -101,7 +102,7 @@ impl<S: Subscriber> Layer<S> for Events {
     }
 }
 
-/// What a line says.
+/// The text and the fields of an event.
 #[derive(Default)]
 struct Said {
     text: String,
@@ -117,7 +118,7 @@ impl Said {
         }
     }
 
-    /// A library's text does not say what its fields are.
+    /// Appends the fields to the text of a library's event, which does not contain them.
     fn tell_fields(&mut self) {
         for (name, value) in &self.fields {
             self.text += &format!(" {name}={value}");
@@ -154,7 +155,7 @@ mod tests {
     use prometheus::IntCounter;
     use tracing_subscriber::prelude::*;
 
-    /// What is written of one warning.
+    /// The formatted line of one warning.
     fn written(is_json: bool, has_priority: bool) -> String {
         let form = Form { is_json, has_priority };
         let log = Arc::new(Log::new(IntCounter::new("lost", "lost").unwrap(), form));

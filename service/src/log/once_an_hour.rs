@@ -91,7 +91,7 @@ mod tests {
         assert_eq!([3604, 3605, 3606].map(|seconds| is_due(1, seconds)), [false, true, false]);
     }
 
-    /// Else a thousand made-up names would silence the log for good, or more of them fill the disk.
+    /// Otherwise a thousand made-up names could silence the log for good, or more of them could fill the disk.
     #[test]
     fn where_there_are_many_the_oldest_goes_and_one_a_second_is_told() {
         let (mut told, begun) = (OnceAnHour::<u32>::new(100), Instant::now());

@@ -1,17 +1,17 @@
-//! What may happen at any rate, and is told now and then.
+//! Limits how often something is logged that may happen at any rate.
 
 use crate::work::locked;
 use std::sync::Mutex;
 use std::time::{Duration, Instant};
 
-/// Once in so long at most.
+/// Allows one event in each interval.
 pub struct RateLimit {
     between: Duration,
     last: Mutex<Option<Instant>>,
 }
 
 impl RateLimit {
-    /// Once a second.
+    /// Allows one a second.
     pub const fn new() -> RateLimit {
         RateLimit::every(Duration::from_secs(1))
     }
@@ -20,7 +20,7 @@ impl RateLimit {
         RateLimit { between, last: Mutex::new(None) }
     }
 
-    /// Whether it may be told now.
+    /// Whether the caller may log now.
     pub fn is_due(&self) -> bool {
         self.is_due_at(Instant::now())
     }

@@ -1,11 +1,11 @@
-//! What is shown of a text that a sender, a sink or a server may have written: one line, and nothing that a terminal obeys.
+//! Makes a text of a sender, a sink or a server safe to show: one line, without characters that control a terminal.
 
-/// The first characters of it, without blanks around.
+/// The first characters of the trimmed text.
 pub fn shown(text: &str, most: usize) -> String {
     cut(text.trim(), most).chars().map(plain).collect()
 }
 
-/// All of it.
+/// The whole text.
 pub fn all_shown(text: &str) -> String {
     text.chars().map(plain).collect()
 }
@@ -15,7 +15,7 @@ pub fn cut(text: &str, most: usize) -> &str {
     text.char_indices().nth(most).map_or(text, |(end, _)| &text[..end])
 }
 
-/// A blank in the place of what ends a line, moves a cursor, or turns the direction of what follows.
+/// Replaces by a blank what ends a line, moves a cursor, or changes the direction of text.
 fn plain(one: char) -> char {
     match one {
         '\u{200b}'..='\u{200f}' | '\u{2028}'..='\u{202e}' | '\u{2060}'..='\u{206f}' | '\u{feff}' => ' ',

@@ -1,4 +1,4 @@
-//! Lines whose reader stands still, or can't be reached.
+//! Logs whose reader stops reading, or can't be reached.
 
 use super::*;
 use std::io::Read;
@@ -33,7 +33,7 @@ fn lines_without_room_are_counted_and_missed_in_their_place() {
     let (mut reader, writer) = io::pipe().unwrap();
     let log = log();
     write(&log, writer);
-    log.put(&[&[b'-'; MOST_WAITING / 2][..], b"\n"].concat()); // more than a pipe takes: the thread stands still
+    log.put(&[&[b'-'; MOST_WAITING / 2][..], b"\n"].concat()); // more than a pipe takes: the thread blocks
     while !locked(&log.state).waiting.is_empty() {
         std::thread::yield_now();
     }
@@ -63,7 +63,7 @@ fn lines_without_room_are_counted_and_missed_in_their_place() {
     assert_eq!(lines[kept + 1..], ["last"]);
 }
 
-/// Fails while it is told so.
+/// Fails while the flag is set.
 #[derive(Clone, Default)]
 struct Failing {
     fails: Arc<AtomicBool>,
@@ -113,7 +113,7 @@ fn an_end_waits_for_a_reader_no_longer_than_it_may() {
     assert!(begun.elapsed() < Duration::from_secs(10));
 }
 
-/// Run by the next test in a process of its own.
+/// The next test runs this in a process of its own.
 #[test]
 #[ignore]
 fn ends_by_a_panic() {

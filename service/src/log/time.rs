@@ -1,10 +1,10 @@
-//! When a line was written.
+//! Formats times in UTC, and converts dates; for the log and for everything else that shows a time.
 
 use std::time::{Duration, SystemTime};
 
 const DAY: u64 = 86_400;
 
-/// Now: no clock is set before 1970.
+/// The time since 1970; zero if the clock is set before that.
 pub fn since_1970() -> Duration {
     SystemTime::now().duration_since(SystemTime::UNIX_EPOCH).unwrap_or_default()
 }
@@ -14,7 +14,7 @@ pub fn seconds() -> u64 {
     since_1970().as_secs()
 }
 
-/// The same as RFC 3339 writes it, in UTC and microseconds.
+/// The current time by RFC 3339, in UTC with microseconds.
 pub fn now() -> String {
     written(since_1970())
 }
@@ -24,7 +24,7 @@ pub fn utc(seconds: u64) -> String {
     written(Duration::from_secs(seconds))[..19].replace('T', " ")
 }
 
-/// So many nanoseconds after 1970, as RFC 3339 writes it, to the microsecond before.
+/// So many nanoseconds after 1970 by RFC 3339, truncated to microseconds.
 pub fn of_nanoseconds(nanoseconds: u64) -> String {
     written(Duration::from_nanos(nanoseconds))
 }
@@ -36,8 +36,8 @@ fn written(since_1970: Duration) -> String {
     format!("{year:04}-{month:02}-{day:02}T{hour:02}:{minute:02}:{second:02}.{micros:06}Z")
 }
 
-/// The date so many days from 1970 on. Years are counted from March on: a leap day is the last one of its year, and
-/// each 400 years are 146,097 days.
+/// The date so many days after 1970-01-01. Years are counted from March, so that a leap day is the last day of its
+/// year; each 400 years have 146,097 days.
 pub fn date(days: u64) -> (u64, u64, u64) {
     let since_0 = days + 719_468;
     let (era, day) = (since_0 / 146_097, since_0 % 146_097);
@@ -52,7 +52,7 @@ pub fn date(days: u64) -> (u64, u64, u64) {
     (400 * era + year + is_next, month, of_month)
 }
 
-/// Days from 1970 to the first of a month: years begin with March here too.
+/// The days from 1970-01-01 to the first of a month; years are counted from March here too.
 pub fn days(year: i64, month: i64) -> i64 {
     let (year, month) = (year + (month - 3).div_euclid(12), (month - 3).rem_euclid(12));
     let of_years = 365 * year + year.div_euclid(4) - year.div_euclid(100) + year.div_euclid(400);

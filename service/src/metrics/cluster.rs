@@ -1,4 +1,5 @@
-//! What is shown of an instance that shares a store with others: of itself, and of what it sees.
+//! The metrics of an instance that shares a store with others: about itself, and about what it sees of the others.
+//! `operate` sets them when the page is made.
 
 use super::make::metrics;
 use crate::cluster::{Forwarded, Status};
@@ -10,7 +11,7 @@ use std::sync::atomic::Ordering::Relaxed;
 use std::sync::Mutex;
 
 metrics! {
-    /// Set where the page is made.
+    /// Set when the page is made.
     pub struct OfCluster(registry) {
         slots_owned: IntGauge = "slots_owned", "Slots that are here";
         slot_term: IntGaugeVec = "slot_term" ["slot"],
@@ -38,13 +39,13 @@ metrics! {
         lost: IntCounter = "slots_lost_total", "Slots that another has taken while they were here";
     }
     with {
-        // Counters are brought to where they are elsewhere by one at a time.
+        // One page at a time raises the counters to the values that are counted elsewhere.
         setting: Mutex<()> = Mutex::default();
     }
 }
 
 impl OfCluster {
-    /// `owned` slots are here.
+    /// `owned` shards are here.
     pub fn set(
         &self,
         owned: usize,
@@ -95,7 +96,7 @@ impl OfCluster {
     }
 }
 
-/// A counter to where it is elsewhere.
+/// Raises a counter to the value that is counted elsewhere.
 fn bring(counter: &IntCounter, to: u64) {
     counter.inc_by(to.saturating_sub(counter.get()));
 }

@@ -1,16 +1,16 @@
-//! How what is counted is made: a struct of metrics is a table, in which each has its field, its kind, its name, its labels and
-//! its help. A name ends in its unit, a counter's in `_total`.
+//! Defines groups of metrics: a struct of metrics is a table with the field, kind, name, labels and help of each. A
+//! name ends with its unit, a counter's with `_total`.
 
 use prometheus::core::{Atomic, Collector, GenericCounter, GenericCounterVec, GenericGauge, GenericGaugeVec};
 use prometheus::{Histogram, HistogramOpts, HistogramVec, Opts, Registry, Result};
 
 const SECONDS: [f64; 12] = [0.0001, 0.0003, 0.001, 0.003, 0.01, 0.03, 0.1, 0.3, 1.0, 3.0, 10.0, 30.0];
-/// From the post of one point to the longest body.
+/// From a post of one point to the longest body.
 const BYTES: [f64; 9] =
     [256.0, 1024.0, 4096.0, 16_384.0, 65_536.0, 262_144.0, 1_048_576.0, 4_194_304.0, 16_777_216.0];
 
-/// Some have their label's known values from the start, behind `of`, so that a rate over them is right. Behind `with` stands
-/// what else the struct has.
+/// Label values after `of` exist from the start, so that a rate over them is right. Other fields of the struct come
+/// after `with`.
 macro_rules! metrics {
     (
         $(#[$about:meta])*
@@ -40,7 +40,7 @@ macro_rules! metrics {
 
 pub(super) use metrics;
 
-/// Makes one, and registers it.
+/// Makes a metric and registers it.
 pub(super) fn made<K: Kind>(
     registry: &Registry,
     name: &str,
@@ -53,7 +53,7 @@ pub(super) fn made<K: Kind>(
     Ok(made)
 }
 
-/// A kind of metric, with the names of its labels where it has some.
+/// A kind of metric, with or without labels.
 pub(super) trait Kind: Collector + Clone + 'static {
     fn new(options: Opts, labels: &[&str], known: &[&str]) -> Result<Self>;
 }
@@ -98,7 +98,7 @@ impl Kind for HistogramVec {
     }
 }
 
-/// By the unit that the name ends in.
+/// Buckets by the unit at the end of the name.
 fn with_buckets(options: Opts) -> HistogramOpts {
     let buckets = match options.name.ends_with("_bytes") {
         true => BYTES.to_vec(),

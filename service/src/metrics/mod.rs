@@ -1,4 +1,5 @@
-//! Counters and gauges of the service, and the page that Prometheus scrapes.
+//! The metrics of the service, and the page that Prometheus scrapes. Everything counts here; the page is served by
+//! `operate`. Labels never take unbounded values from senders.
 
 mod cluster;
 mod make;
@@ -28,7 +29,7 @@ const SENDERS: usize = 64;
 const OTHER: &str = "other";
 
 metrics! {
-    /// One for the process. Counters begin with it.
+    /// The metrics of the process. Counters begin at 0 with it.
     pub struct Metrics(registry) {
         requests: IntCounterVec = "requests_total" ["code", "reason"],
             "Requests of senders by the status of their answer, and by the reason of a refusal";
@@ -37,7 +38,7 @@ metrics! {
         pub request_size: Histogram = "request_size_bytes", "Length of the bodies of requests, unpacked";
         pub refused_parts: IntCounterVec = "refused_parts_total" ["reason"],
             "Of requests that were taken, parts for other slots that were refused, by the reason";
-        // Both by `sender`, of which so many have a label.
+        // Both have the label `sender`, with at most `SENDERS` values and `other`.
         accepted_points: IntCounterVec = "accepted_points_total" ["sender"], "Points that were taken";
         rejected_points: IntCounterVec = "rejected_points_total" ["sender", "reason"],
             "Points that were not taken, of requests that were, but for those of --expect-rejected";
@@ -53,17 +54,17 @@ metrics! {
             "Values of posts that were taken that `--whole` has rounded, by its rule";
         pub rounding: CounterVec = "rounding_units_total" ["whole"],
             "What these values were rounded by together, in the finer unit, over all series";
-        // The greatest of `by_series`, set where the page is made.
+        // The maximum of `by_series`, set when the page is made.
         greatest_rounding: GaugeVec = "greatest_rounding_units" ["whole"],
             "What the values of one series were rounded by together, in the finer unit, of all series the most: no total is further from the truth";
-        // `of` is `series` or `points`. Set where the page is made.
+        // `of` is `series` or `points`. Set when the page is made.
         sender_share: GaugeVec = "sender_share_ratio" ["sender", "of"],
             "What a sender has of its share: of its series, or of a minute's points; of the ten that are nearest to it";
         pub checkpoints: IntCounterVec = "checkpoints_total" ["outcome"] of ["done", "failed"],
             "Checkpoints by how they ended";
         pub rounds_closed: IntCounter = "rounds_closed_total", "Rounds of a book that were closed";
         pub forwarded_requests: IntCounter = "forwarded_requests_total", "Requests put into the outbox";
-        // What is `denied` is sent again too.
+        // A request that is `denied` is retried, too.
         pub deliveries: IntCounterVec = "deliveries_total" ["outcome"] of ["taken", "partial", "again", "denied", "refused"],
             "Tries to deliver, by outcome";
         pub sink_ahead: IntGaugeVec = "sink_ahead_requests" ["slot"],
@@ -77,7 +78,7 @@ metrics! {
             "TLS handshakes of senders, by how they ended";
         pub stale_files: IntGaugeVec = "stale_files" ["option"],
             "1 while the file of an option has changed and is not used, since it can't be, or since a setting needs a restart";
-        // What must never be.
+        // These should never occur.
         pub faults: IntCounterVec = "faults_total" ["kind"] of ["owner", "replay", "points_rejected_by_sink"],
             "Points that the sink rejected, and faults of the program";
         pub checkpoint_pause_seconds: Histogram = "checkpoint_pause_seconds", "How long a checkpoint held the posts";
@@ -90,17 +91,17 @@ metrics! {
         pub levels: Levels = Levels::of(registry)?;
         pub registry: Registry = registry.clone();
         by_series: RoundingBySeries = RoundingBySeries::new();
-        // Most answers are 200: what counts them needs no look-up.
+        // Most answers are 200, so their counters are not looked up.
         taken_requests: IntCounter = requests.with_label_values(&["200", ""]);
         taken_json: Histogram = request_duration.with_label_values(&["json", "200"]);
         taken_protobuf: Histogram = request_duration.with_label_values(&["protobuf", "200"]);
-        // The senders that have a label, each with what counts its accepted points.
+        // The senders with a label, each with the counter of its accepted points.
         senders: Mutex<AHashMap<String, IntCounter>> = Mutex::default();
     }
 }
 
 metrics! {
-    /// Gauges of what is elsewhere: read when someone asks, and then only.
+    /// Gauges of values that are kept elsewhere; set only when somebody asks.
     pub struct Levels(registry) {
         pub ready: IntGauge = "ready", "1 while posts are taken, 0 while they are answered 503";
         pub post_bytes_in_flight: IntGauge = "post_bytes_in_flight", "Memory that posts hold until they are answered";
@@ -137,12 +138,12 @@ impl Metrics {
         Ok(metrics)
     }
 
-    /// So many series may be there.
+    /// Sets the limit of series.
     pub fn limit_series(&self, limit: u64) {
         self.by_series.has_room_for(limit as usize);
     }
 
-    /// Counts an answer to a sender. Its request began then.
+    /// Counts an answer to a sender; its request began at `began`.
     pub fn answered(&self, outcome: &Outcome, encoding: Encoding, began: Instant) {
         let took = began.elapsed().as_secs_f64();
         if let Some(reason) = outcome.reason() {
@@ -164,12 +165,12 @@ impl Metrics {
         }
     }
 
-    /// Counts points that were taken before.
+    /// Counts duplicates.
     pub fn duplicates(&self, sender: &str, points: u64) {
         self.duplicate_points.with_label_values(&[self.label(sender)]).inc_by(points);
     }
 
-    /// Counts points that were not taken, of a request that was.
+    /// Counts rejected points of a request that was taken.
     pub fn rejected(&self, sender: &str, causes: &Causes, expected: &[Reason]) {
         for (reason, points) in causes.iter() {
             let name = reason.label();
@@ -181,7 +182,7 @@ impl Metrics {
         }
     }
 
-    /// By sender and reason, how many points were rejected since the start.
+    /// How many points were rejected since the start, by sender and reason.
     pub fn all_rejected(&self) -> Vec<(String, Reason, u64)> {
         let families = self.rejected_points.collect();
         let rows = families.iter().flat_map(|family| family.get_metric());
@@ -241,7 +242,8 @@ impl Metrics {
         }
     }
 
-    /// Counts points of a sender: whether it has a label of its own. Names of senders come from outside: so many have one.
+    /// Counts points of a sender; returns whether it has a label of its own. Names can be made up, so only so many get
+    /// one.
     fn count_sender(&self, sender: &str, count: impl FnOnce(&IntCounter)) -> bool {
         let mut senders = locked(&self.senders);
         if let Some(accepted) = senders.get(sender) {
@@ -257,7 +259,7 @@ impl Metrics {
         is_new
     }
 
-    /// Shows these senders' shares and no others'.
+    /// Shows the quotas of these senders alone.
     pub fn shares(&self, nearest: &[Used]) {
         self.sender_share.reset();
         for used in nearest {
@@ -271,7 +273,7 @@ impl Metrics {
         }
     }
 
-    /// The page, in Prometheus' text form.
+    /// The page in Prometheus' text format.
     pub fn page(&self) -> Vec<u8> {
         for (rule, units) in self.by_series.greatest() {
             self.greatest_rounding.with_label_values(&[&*rule]).set(units);
@@ -375,7 +377,7 @@ mod tests {
         assert!(page.lines().find(is_of_build).unwrap().ends_with(version), "{page}");
     }
 
-    /// Also where `/proc/stat` is hidden, as by the unit.
+    /// Also if `/proc/stat` is hidden, as by the systemd unit.
     #[test]
     fn the_page_has_the_process() {
         let page = page(&Metrics::new().unwrap());

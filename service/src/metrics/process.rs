@@ -7,8 +7,8 @@ use prometheus::proto::{Gauge, MetricFamily};
 
 const STARTED: &str = "process_start_time_seconds";
 
-/// The library's, but for the time of the start: for this the library reads `/proc/stat`, which the unit hides
-/// (`ProcSubset=pid`), and would say 0.
+/// The library's metrics, except for the start time: for that the library reads `/proc/stat`, which the systemd unit
+/// hides (`ProcSubset=pid`), and would report 0.
 pub struct Process {
     library: ProcessCollector,
     started: u64,

@@ -1,7 +1,8 @@
-//! What `--whole` has rounded since the start, by series: which series' total may be off, and by how much at most.
+//! What `--whole` has rounded since the start, by series: which totals may be off, and by how much at most. `Metrics`
+//! owns it.
 //!
-//! It has as many series as there may be. Of more, those are left out that were rounded longest ago, as series that
-//! nobody posts to are forgotten.
+//! There are at most as many series as the service may have. If there are more, those that were rounded longest ago are
+//! left out, as series that nobody posts to are forgotten.
 
 use crate::otlp::{Rounded, Rounding, ShownSeries};
 use crate::work::locked;
@@ -10,17 +11,17 @@ use std::cmp::Ordering;
 use std::collections::{BTreeMap, HashMap};
 use std::sync::{Arc, Mutex};
 
-/// Until it is told how many there may be.
+/// How many series are kept until the limit is known.
 const SERIES: usize = 10_000;
 
-/// How many series of a rule are shown: those that were rounded by most.
+/// How many series of a rule are shown: those that were rounded most.
 pub const SHOWN: usize = 10;
 
-/// A series and its values that were not whole: its total is off by no more than they were rounded by together.
+/// A series with its rounded values: its total is off by at most the sum of what they were rounded by.
 #[derive(Debug, PartialEq, Serialize, Deserialize)]
 pub struct RoundedSeries {
     pub metric: String,
-    /// `key=value, ..`; what is long is cut.
+    /// `key=value, ..`; long texts are cut.
     pub attributes: String,
     pub resource: String,
     #[serde(flatten)]
@@ -31,7 +32,7 @@ pub struct RoundedSeries {
 #[derive(Debug, Default, PartialEq)]
 pub struct SeriesOfRule {
     pub count: usize,
-    /// The first of them, in the order of what they were rounded by.
+    /// The first of them, ordered by how much they were rounded.
     pub greatest: Vec<RoundedSeries>,
 }
 
@@ -39,17 +40,17 @@ pub struct SeriesOfRule {
 pub struct RoundingBySeries(Mutex<Table>);
 
 struct Table {
-    /// There is room for so many series.
+    /// How many series there is room for.
     most: usize,
     points: u64,
-    /// By the hash of a series' key.
+    /// By the hash of the series' key.
     rules: BTreeMap<Arc<str>, HashMap<u64, One>>,
 }
 
 struct One {
     of: Arc<ShownSeries>,
     rounding: Rounding,
-    /// The place of its last point among all that were rounded.
+    /// The number of its last rounded point, counted over all series.
     last: u64,
 }
 
@@ -58,7 +59,7 @@ impl RoundingBySeries {
         RoundingBySeries(Mutex::new(Table { most: SERIES, points: 0, rules: BTreeMap::new() }))
     }
 
-    /// There is room for so many series.
+    /// Sets how many series there is room for.
     pub fn has_room_for(&self, series: usize) {
         locked(&self.0).most = series;
     }
@@ -70,7 +71,7 @@ impl RoundingBySeries {
         }
     }
 
-    /// By how much one series was rounded at most, by rule.
+    /// The largest sum that one series was rounded by, for each rule.
     pub fn greatest(&self) -> Vec<(Arc<str>, f64)> {
         let table = locked(&self.0);
         let rules = table.rules.iter();
@@ -97,7 +98,7 @@ impl RoundingBySeries {
     }
 }
 
-/// The greatest first; of two the one that was rounded last.
+/// Orders by how much was rounded, the most first; among equals, the one that was rounded last comes first.
 fn by_greatest(one: &&One, other: &&One) -> Ordering {
     let (this, that) = (one.rounding.together, other.rounding.together);
     that.total_cmp(&this).then(other.last.cmp(&one.last))
@@ -134,7 +135,7 @@ impl Table {
         self.rules.values().map(HashMap::len).sum()
     }
 
-    /// Leaves out all series but so many, those that were rounded last. There are more.
+    /// Keeps only the series that were rounded last, `most` of them. There are more.
     fn keep(&mut self, most: usize) {
         let series = self.rules.values().flat_map(HashMap::values);
         let mut lasts: Vec<u64> = series.map(|one| one.last).collect();
@@ -151,7 +152,8 @@ mod tests {
     use super::*;
     use crate::otlp::{prepare, Encoding, FinerUnits, Reading};
 
-    /// A post of one point of each of these series: its name, and a value in seconds that whole milliseconds are made of.
+    /// A post with one point for each of these series: its name, and a value in seconds, which is rounded to
+    /// milliseconds.
     fn post(points: &[(String, &str)]) -> Rounded {
         let metrics: Vec<String> = points
             .iter()
@@ -221,7 +223,7 @@ mod tests {
         assert_eq!(table.of_rule("s=1000:ms").count, 10_000);
         table.add(&post(&points(10_000, 10_001)));
         let found = table.of_rule("s=1000:ms");
-        // The series that was rounded again is there still, with all that it was rounded by.
+        // The series that was rounded again is still there, with everything that it was rounded by.
         assert_eq!((found.count, names(&found)[0]), (10_000 - 625, ("n0", 2, 1.0)));
         let table = locked(&table.0);
         let of = |name: &str| table.rules["s=1000:ms"].values().any(|one| one.of.metric == name);

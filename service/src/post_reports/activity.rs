@@ -1,4 +1,5 @@
-//! Who has posted, when last, and what was refused of whom: what an operator is shown, since the start.
+//! Which senders have posted since the start, when last, and what was refused: for operators. `Reporter` notes each
+//! answer.
 
 use crate::log::{seconds, shown};
 use crate::otlp::{Outcome, Reason};
@@ -7,7 +8,7 @@ use ahash::AHashMap;
 use std::collections::BTreeMap;
 use std::sync::Mutex;
 
-/// So many senders are known. Where there is another one, those that posted last are kept, so many.
+/// The most senders that are known. If another one comes, only so many are kept: those that posted last.
 const MOST: usize = 1000;
 const KEPT: usize = 900;
 
@@ -18,31 +19,31 @@ const TEXT: usize = 300;
 #[derive(Default)]
 pub struct SenderActivity(Mutex<AHashMap<String, OfSender>>);
 
-/// Of one sender.
+/// The activity of one sender.
 #[derive(Clone, Debug, Default, PartialEq, Eq)]
 pub struct OfSender {
     /// Posts that were taken.
     pub taken: u64,
     /// When it posted last, in seconds since 1970.
     pub last: u64,
-    /// By reason.
+    /// Refused posts, by reason.
     pub refused: BTreeMap<Reason, OfReason>,
-    /// By the reason for which points of it were not taken, the metric of the first of them that the log had last.
+    /// By reason, the metric of the first rejected point that the log had last.
     pub rejected: BTreeMap<Reason, String>,
 }
 
-/// What was refused of a sender for one reason.
+/// Posts of a sender that were refused for one reason.
 #[derive(Clone, Debug, Default, PartialEq, Eq)]
 pub struct OfReason {
     pub posts: u64,
-    /// In seconds since 1970.
+    /// When the last one was, in seconds since 1970.
     pub last: u64,
-    /// The last answer's.
+    /// The text of the last answer.
     pub text: String,
 }
 
 impl SenderActivity {
-    /// Notes an answer: the reason of a refusal.
+    /// Notes an answer; returns the reason if it is a refusal.
     pub fn note(&self, sender: &str, outcome: &Outcome) -> Option<Reason> {
         self.note_at(sender, outcome, seconds())
     }
@@ -71,7 +72,7 @@ impl SenderActivity {
         Some(reason)
     }
 
-    /// Notes the metric of a point of a sender that was not taken, if it is known.
+    /// Notes that a point of a sender was rejected, with its metric if that is known.
     pub fn note_rejected(&self, sender: &str, reason: Reason, metric: Option<&str>) {
         let mut all = locked(&self.0);
         if !all.contains_key(sender) {
@@ -85,7 +86,7 @@ impl SenderActivity {
         }
     }
 
-    /// Those that posted last, the last one first.
+    /// The senders that posted last, the last one first.
     pub fn last(&self, most: usize) -> Vec<(String, OfSender)> {
         let all = locked(&self.0);
         let mut last: Vec<(&String, &OfSender)> = all.iter().collect();
@@ -105,7 +106,7 @@ impl SenderActivity {
     }
 }
 
-/// Names come from outside: who posted longest ago is forgotten where there are too many, several at a time.
+/// Forgets the senders that posted longest ago, several at a time, if there are too many: names can be made up.
 fn make_room(all: &mut AHashMap<String, OfSender>) {
     if all.len() < MOST {
         return;
@@ -149,7 +150,7 @@ mod tests {
         );
     }
 
-    /// Else names that somebody makes up would fill the memory, or push out who posts.
+    /// Otherwise made-up names could fill the memory, or displace real senders.
     #[test]
     fn who_posted_last_is_kept() {
         let activity = SenderActivity::default();
@@ -166,7 +167,7 @@ mod tests {
         let of_a = last.iter().find(|(name, _)| name == "A").map(|(_, of)| of.taken);
         assert_eq!((of_a, &*last[1].0), (Some(5000), "made-up-4999"));
         assert!(last[1].1.refused[&Reason::Unreadable].text.len() <= TEXT);
-        activity.note_at("B", &Outcome::taken(0), 0); // all at one time
+        activity.note_at("B", &Outcome::taken(0), 0); // all at the same time
         let alike = SenderActivity::default();
         for number in 0..5000 {
             alike.note_at(&number.to_string(), &Outcome::taken(0), 7);

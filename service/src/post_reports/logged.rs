@@ -1,4 +1,4 @@
-//! What the log has of posts that were not taken: each sender and reason once an hour.
+//! Log lines about posts and points that were not taken: one an hour for each sender and reason.
 
 use super::texts::{metric, not_taken, other_writer, reason, SERIES_SHOWN};
 use super::{Owner, Reporter};
@@ -10,24 +10,25 @@ use crate::work::locked;
 use bytes::Bytes;
 use std::collections::{BTreeMap, HashSet};
 
-/// How many senders, series and refusals are remembered as told.
+/// How many senders, series and refusals are remembered as logged.
 pub(super) const REMEMBERED: usize = 1000;
-/// How many addresses of strangers are named within an hour: further ones count as who names none, so that they hide no sender.
+/// How many addresses of strangers are named within an hour. Further ones count as one unnamed sender, so that they
+/// hide no real sender.
 pub(super) const STRANGERS: usize = 100;
 
-/// How much of an answer is in the log, in characters.
+/// How much of an answer the log has, in characters.
 pub(super) const ANSWER_SHOWN: usize = 600;
 
-/// How many posts of a sender are read for reasons that are new.
+/// How many posts of a sender are read for new reasons.
 pub(super) const MOST_READ: usize = 100;
 
-/// What the log has of each sender, so that it is told once an hour.
+/// What was logged within the last hour.
 pub(super) struct Logged {
     pub(super) foreign: OnceAnHour<String, LoggedOf>,
-    /// By sender and reason: points of requests that are taken.
+    /// By sender and reason: rejected points of requests that were taken.
     pub(super) rejected: OnceAnHour<(String, Reason)>,
     pub(super) series: OnceAnHour<SeriesKey>,
-    /// Addresses of who has no name.
+    /// Addresses of clients without a name.
     pub(super) strangers: OnceAnHour<String>,
     /// By sender and reason.
     pub(super) refusals: OnceAnHour<(String, Reason)>,
@@ -52,8 +53,8 @@ pub(super) struct LoggedOf {
 }
 
 impl Reporter {
-    /// Notes an answer. The first refusal of a sender for each reason within an hour is in the log; those that the service
-    /// itself is the reason of have a line of their own.
+    /// Notes an answer. The first refusal of a sender for each reason within an hour is logged, except for those that
+    /// the service itself causes, which are logged elsewhere.
     pub(super) fn note(&self, sender: &str, outcome: &Outcome) {
         let (Some(reason), Some(message)) = (self.activity.note(sender, outcome), outcome.refusal()) else {
             return;
@@ -65,7 +66,7 @@ impl Reporter {
         }
     }
 
-    /// For each reason, points of a sender that are not taken are in the log once an hour, with the first metric among them.
+    /// Logs rejected points of a sender once an hour for each reason, with the first metric among them.
     pub(super) async fn tell_rejected(&self, sender: &str, source: &Source, all: &Causes, off: OffClock) {
         let is_due = |reason: &Reason| {
             let is_expected = self.options.now().expected.contains(reason);
@@ -97,7 +98,7 @@ impl Reporter {
         }
     }
 
-    /// Points that their series refuse are in the log too, the first ones for each reason within an hour.
+    /// Logs points that their series refuse, the first ones for each reason within an hour.
     pub(super) fn note_refused_points(&self, sender: &str, outcome: &Outcome) {
         let Outcome::Taken { parts, .. } = outcome else {
             return;
@@ -115,7 +116,7 @@ impl Reporter {
         }
     }
 
-    /// Whether the address of who has no name is one of those that are remembered.
+    /// Whether the address of a client without a name is one of those that are remembered.
     pub(super) fn is_known_stranger(&self, address: &str) -> bool {
         let (mut logged, address) = (locked(&self.logged), address.to_string());
         let strangers = &mut logged.strangers;
@@ -132,7 +133,7 @@ impl Reporter {
         of.is_some_and(|of| of.reasons.len() < self.options.now().log_rejected && of.read < MOST_READ)
     }
 
-    /// Nobody who posts waits while a body is read: one at a time is.
+    /// Logs the reasons for which points of a body are foreign. One body is read at a time, and no sender waits for it.
     pub(super) fn tell_reasons(&self, sender: &str, body: &Bytes) {
         let sender = sender.to_string();
         let known = |logged: &mut Logged| logged.foreign.get_mut(&sender).map(|of| of.reasons.clone());

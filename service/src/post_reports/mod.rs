@@ -1,9 +1,9 @@
-//! What is reported of posts that were not taken, or not wholly: in their answers, in the log, and to operators.
+//! Reports posts that were not taken, or not completely: in their answers, in the log, and to operators.
 //!
-//! It stands before what takes a slot's posts, and changes nothing of them but the text of their answers. Of a post with
-//! points that were not taken it reads the body once more, for the answer (`texts`). What was told is of all slots: `activity` is
-//! who has posted, `logged` what the log has. For the log one post is read at a time and beside the runtime's threads;
-//! one that comes meanwhile is passed over, since its sender comes again.
+//! `Reported` wraps what takes the posts of a shard (`Taker`) and changes nothing but the text of the answers. Only a
+//! post with points that were not taken has its body read once more, for the answer (`texts`). The reports of all
+//! shards share `activity`, the senders that posted, and `logged`, what the log has. For the log one body at a time is
+//! read on a blocking thread; bodies that come meanwhile are skipped, since their senders post again.
 
 mod activity;
 mod logged;
@@ -30,14 +30,14 @@ use texts::{of_late, of_other_writer};
 /// How many long bodies are read at a time.
 const READERS: usize = 2;
 
-/// Of one slot's posts, which it hands on to what takes them.
+/// Reports the posts of one shard, and hands them on.
 pub struct Reported<T> {
     taker: Arc<T>,
     owner: Box<Owner>,
     reporter: Arc<Reporter>,
 }
 
-/// What reports all slots' posts.
+/// Reports the posts of all shards.
 pub struct Reporter {
     options: Changing,
     metrics: Arc<Metrics>,
@@ -48,13 +48,13 @@ pub struct Reporter {
     logged: Mutex<Logged>,
 }
 
-/// Says the owner of a series, which is known once that was forwarded.
+/// Returns the owner of a series; known once the series was forwarded.
 type Owner = dyn Fn(&SeriesKey) -> Option<String> + Send + Sync;
 
-/// What the log may be told of a post.
+/// What may be logged about a post.
 enum Report {
     Foreign,
-    /// The place of the point among those of the profile.
+    /// The index of the point among those of the profile.
     OtherWriter(u64),
 }
 
@@ -81,7 +81,7 @@ impl<T: Taker> Reported<T> {
 }
 
 impl Reporter {
-    /// `activity` is noted of each post. To `pass` points are handed on that are outside the profile.
+    /// `activity` is updated for each post. `pass` gets the points that are outside the profile.
     pub fn new(
         options: ReportOptions,
         metrics: Arc<Metrics>,
@@ -99,7 +99,7 @@ impl Reporter {
         })
     }
 
-    /// Reports by these from now on.
+    /// Reports with these options from now on.
     pub fn set_options(&self, options: ReportOptions) {
         self.options.set(options);
     }
@@ -126,7 +126,7 @@ impl Reporter {
         }
     }
 
-    /// The answer, with what its sender's owner needs to know. What is wholly taken is answered as it is.
+    /// The answer with what the sender's owner needs to know. An answer without rejected points stays as it is.
     async fn in_words(
         &self,
         sender: &str,
@@ -159,7 +159,7 @@ impl Reporter {
         }
     }
 
-    /// What a refusal for a point says beside its own words.
+    /// The text that is added to a refusal that names a point.
     async fn more(&self, source: &Source, point: RejectedPoint) -> Option<String> {
         let (profile, place) = (self.options.now().profile, point.place);
         let Some(frontier) = point.frontier else {
@@ -213,7 +213,7 @@ impl<T: Taker> Taker for Reported<T> {
         let source = request.source();
         let outcome = self.taker.post(sender, request, None).await;
         if let Outcome::Taken { rejected: 0, .. } = outcome {
-            return outcome; // as nearly all are: nothing is to be said
+            return outcome; // nearly all posts: there is nothing to report
         }
         reporter.note_refused_points(sender, &outcome);
         let report = reporter.report(sender, &outcome);

@@ -1,14 +1,14 @@
-//! How posts are reported, which may change while the service runs.
+//! The options of reports, which may change while the service runs.
 
 use crate::otlp::{Profile, Reason};
 use std::sync::{Arc, PoisonError, RwLock};
 
-/// What is told of foreign points.
+/// Which rejected points are reported.
 #[derive(Clone, Debug, Default)]
 pub struct ReportOptions {
-    /// How many reasons of each sender are in the log.
+    /// How many reasons of each sender are logged.
     pub log_rejected: usize,
-    /// What is meant to be left out: it is counted by itself, and not told.
+    /// Reasons that are expected: they are counted separately and not logged.
     pub expected: Vec<Reason>,
     /// Which points are not foreign.
     pub profile: Profile,
@@ -22,10 +22,10 @@ impl Changing {
     }
 
     pub fn now(&self) -> Arc<ReportOptions> {
-        self.0.read().unwrap_or_else(PoisonError::into_inner).clone() // any value of it is sound
+        self.0.read().unwrap_or_else(PoisonError::into_inner).clone() // any value of it is consistent
     }
 
-    /// Which points are foreign stays as it is.
+    /// Replaces the options, except for the profile.
     pub fn set(&self, new: ReportOptions) {
         let mut options = self.0.write().unwrap_or_else(PoisonError::into_inner);
         *options = ReportOptions { profile: options.profile, ..new }.into();

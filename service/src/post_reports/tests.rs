@@ -1,4 +1,4 @@
-//! What is told of foreign points and of owners.
+//! What is reported about foreign points and owners.
 
 use super::logged::*;
 use super::texts::*;
@@ -10,7 +10,7 @@ use bytes::Bytes;
 use std::collections::HashSet;
 use std::time::Duration;
 
-/// Answers as it was told.
+/// Answers what it was given.
 struct Answering(Outcome);
 
 impl Taker for Answering {
@@ -33,7 +33,7 @@ fn body(metrics: &str) -> Bytes {
     format!(r#"{{"resourceMetrics":[{{"scopeMetrics":[{{"metrics":[{metrics}]}}]}}]}}"#).into()
 }
 
-/// What is told after these posts of `a`, and how many posts of it were read.
+/// What is reported after these posts of `a`, and how many of its posts were read.
 async fn told(
     outcome: Outcome,
     owner: Option<&'static str>,
@@ -74,7 +74,7 @@ async fn the_first_reasons_of_a_sender_are_told() {
     assert_eq!(told(foreign, None, 9, &many).await.1, MOST_READ);
 }
 
-/// Else a sender could fill the memory, and write lines of the log.
+/// Otherwise a sender could fill the memory, and forge lines of the log.
 #[tokio::test]
 async fn what_is_told_of_a_point_is_one_short_line() {
     let name = "\\n2026-11-26 WARN a line of its own".to_string() + &"x".repeat(1 << 20);
@@ -83,7 +83,7 @@ async fn what_is_told_of_a_point_is_one_short_line() {
     assert!(reasons[0].len() < 300 && !reasons[0].contains('\n'), "{}", reasons[0]);
 }
 
-/// Else a sender could fill the disk, or have the terminal of who reads the log do something.
+/// Otherwise a sender could fill the disk, or send control characters to an operator's terminal.
 #[test]
 fn what_is_told_of_another_s_series_is_one_short_line() {
     let key = SeriesKey(format!("[[],\"\u{7f}\u{9b}2J{}\"]", "x".repeat(60_000)).into());
@@ -119,7 +119,7 @@ fn late(point: u64, frontier: u64) -> Outcome {
 
 const SPAN: &str = r#""startTimeUnixNano":"1","timeUnixNano":"2""#;
 
-/// What a post is answered whose points are not taken.
+/// The answer to a post whose points are not taken.
 async fn answered(reported: &Arc<Reported<Answering>>, metrics: &str) -> String {
     reported.post("a", body(metrics).into(), None).await.message().unwrap_or_default()
 }
@@ -152,7 +152,8 @@ async fn a_sender_is_told_what_is_not_taken() {
         assert!(page.lines().any(|found| found == line), "{line} in\n{page}");
     }
     assert!(!page.contains("totxegun_rejected_points_total{reason=\"gauge\""), "{page}");
-    // A long body is read beside, to the same answer; and the book alone says how many points it did not take.
+    // A long body is read on another thread, with the same answer; and only the book says how many points it did not
+    // take.
     let long = format!(r#"{{"name":"{}"}},{metrics}"#, "x".repeat(Readers::SHORT));
     let answer = answered(&all, &long).await;
     assert!(answer.contains(": 3 gauges, 2 UpDownCounters, 1 cumulative sum: "), "{answer}");
@@ -163,7 +164,7 @@ async fn a_sender_is_told_what_is_not_taken() {
     assert_eq!(all_taken.post("a", body(&metrics).into(), None).await, Outcome::taken(0));
 }
 
-/// Points by which clock is not in what the book says, nor in a body.
+/// How far points are off the clock is neither in the book's answer nor in the body.
 #[tokio::test]
 async fn a_sender_whose_clock_is_off_is_told_by_how_much() {
     let clock = Clock { max_ahead: Some(Duration::from_secs(600)), max_age: None };
@@ -202,7 +203,7 @@ async fn who_posts_to_another_s_series_is_told_which_it_is() {
     assert!(answer.len() < 700 && !answer.contains(char::is_control), "{answer}");
 }
 
-/// Else it is told that what nobody has was taken before.
+/// Otherwise the sender would be told that points were taken before which nobody has.
 #[tokio::test]
 async fn a_post_with_a_series_twice_over_one_time_is_told_so() {
     let point = |more: &str| format!(r#"{{{SPAN},"asInt":"1"{more}}}"#);
@@ -218,7 +219,7 @@ async fn a_post_with_a_series_twice_over_one_time_is_told_so() {
              1970-01-01T00:00:00.000000Z is not counted: give each process its own service.instance.id, each instrument its own name"
         )
     );
-    // The first one, or where another post has come further.
+    // The refused point is the first one, or another post has come further.
     for outcome in [late(1, 2), late(2, 3)] {
         let begin = format!("{}: `m` {{route=/}} begins before 1970-01-01T", outcome.message().unwrap());
         let said = answered(&reported(outcome, None, ReportOptions::default()), &metric).await;
@@ -236,7 +237,7 @@ async fn a_late_sender_is_told_the_time() {
     assert_eq!(answered(&refused(Reason::NotJson.into()), GAUGES).await, "not JSON");
 }
 
-/// What is expected is not told; and what is refused is noted, once for the log.
+/// Expected reasons are not logged, and a refusal is logged once.
 #[tokio::test]
 async fn refusals_are_noted() {
     let options =
@@ -260,7 +261,7 @@ async fn refusals_are_noted() {
     assert_eq!((of_a.taken, of_a.refused[&Reason::OutOfOrder].posts), (0, 2));
 }
 
-/// The lines of the log, as who reads it sees them.
+/// The lines of the log, as its reader sees them.
 #[derive(Clone, Default)]
 struct Lines(Arc<Mutex<Vec<String>>>);
 
@@ -278,7 +279,7 @@ impl<S: tracing::Subscriber> tracing_subscriber::Layer<S> for Lines {
     }
 }
 
-/// Else who makes up names would silence the log for all others, for good.
+/// Otherwise a client that makes up names could silence the log for all others.
 #[test]
 fn who_is_refused_behind_a_thousand_others_is_told_of() {
     use tracing_subscriber::prelude::*;
@@ -319,7 +320,7 @@ fn runtime() -> tokio::runtime::Runtime {
     tokio::runtime::Builder::new_current_thread().build().unwrap()
 }
 
-/// Also where nobody asked for it: else money that is counted in doubles is lost, and no line says so.
+/// Even if nobody asked for it: otherwise money that is counted in doubles could be lost without a line about it.
 #[test]
 fn each_reason_for_which_points_are_not_taken_is_told_of_once_with_a_metric() {
     use tracing_subscriber::prelude::*;
@@ -349,7 +350,7 @@ fn each_reason_for_which_points_are_not_taken_is_told_of_once_with_a_metric() {
     assert_eq!(metric(Reason::WentDown), None, "no body says which it is");
 }
 
-/// Else they would fill the log, and hide the refusals of senders.
+/// Otherwise they would fill the log and hide the refusals of senders.
 #[tokio::test]
 async fn so_many_strangers_are_told_of() {
     let reported = reported(Outcome::taken(0), None, ReportOptions::default());
@@ -366,7 +367,7 @@ async fn so_many_strangers_are_told_of() {
     assert_eq!(posts(NO_NAME), 4 * STRANGERS as u64);
 }
 
-/// Cumulative points that are refused by name count, beside foreign ones and alone.
+/// Cumulative points that are refused by name are counted, with and without foreign ones.
 #[tokio::test]
 async fn what_is_refused_of_runs_is_counted() {
     let turned: Causes = [(Reason::WentDown, 2)].into_iter().collect();

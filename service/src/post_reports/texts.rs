@@ -1,13 +1,13 @@
-//! What is said of points that are not taken, and of series that are another's.
+//! The texts about points that are not taken, and about series of other senders.
 
 use crate::log::{all_shown, cut, of_nanoseconds, shown};
 use crate::otlp::series::SeriesKey;
 use crate::otlp::{point_at, second_at, Causes, Explained, OffClock, Profile, Reason};
 
-/// How much of a metric's name is told, and of all that identifies a series, in characters.
+/// How much is shown of a metric's name, and of a series' key, in characters.
 const NAME_SHOWN: usize = 100;
 pub(crate) const SERIES_SHOWN: usize = 2000;
-/// The same of a point's attributes in an answer.
+/// How much is shown of a point's attributes in an answer, in characters.
 const ATTRIBUTES_SHOWN: usize = 300;
 
 /// The start and the end of a point, in nanoseconds since 1970.
@@ -20,7 +20,7 @@ pub(super) fn reason(point: &Explained) -> String {
     all_shown(&format!("{} `{name}`: {why}", point.kind))
 }
 
-/// That so many points are not taken for one reason: one short line too.
+/// That so many points are not taken for one reason, in one short line.
 pub(super) fn not_taken(reason: Reason, points: u64, first: Option<&Explained>, off: OffClock) -> String {
     let counted = Causes::from_iter([(reason, points)]);
     match (reason, first) {
@@ -35,7 +35,7 @@ pub(super) fn metric(point: &Explained) -> String {
     shown(&point.metric, NAME_SHOWN)
 }
 
-/// What the answer says beside the place of a late point: its series, when that was, and what to do.
+/// What the answer adds about a late point: its series, when that was, and what to do.
 pub(super) fn of_late(body: &[u8], profile: Profile, (place, frontier): (u64, u64)) -> String {
     let point = point_at(body, profile, place);
     let (named, interval) =
@@ -43,19 +43,19 @@ pub(super) fn of_late(body: &[u8], profile: Profile, (place, frontier): (u64, u6
     late(&named, interval, frontier)
 }
 
-/// The same if the post itself has its series up to there: nothing of it was taken, nor will be.
+/// The same if the post itself contains the series up to that time: then nothing of it was taken, nor ever will be.
 pub(crate) fn of_twice(body: &[u8], profile: Profile, (place, frontier): (u64, u64)) -> Option<String> {
     let second = second_at(body, profile, place, frontier)?;
     Some(twice(&named(&second), second.interval))
 }
 
-/// What the answer to a post to another's series says beside the place: that series and what to do.
+/// What the answer adds about a point of another sender's series: that series and what to do.
 pub(super) fn of_other_writer(body: &[u8], profile: Profile, place: u64) -> Option<String> {
     let (point, _) = point_at(body, profile, place)?;
     Some(of_another(&named(&point), point.interval))
 }
 
-/// Of a point of a series that is named so.
+/// About a late point of the series with this name.
 pub(crate) fn late(named: &str, interval: Interval, frontier: u64) -> String {
     let (time, not_counted) = (of_nanoseconds(frontier), not_counted(interval));
     format!(
@@ -77,7 +77,7 @@ pub(crate) fn of_another(named: &str, interval: Interval) -> String {
     format!(": {named} is another sender's{not_counted}: give each process its own service.instance.id")
 }
 
-/// From when to when a point was that is left out; nothing if that is not known.
+/// The interval that is not counted; empty if it is unknown.
 fn not_counted((start, end): Interval) -> String {
     match end {
         0 => String::new(),
@@ -85,14 +85,14 @@ fn not_counted((start, end): Interval) -> String {
     }
 }
 
-/// A point by its metric and its attributes.
+/// Names a point by its metric and its attributes.
 pub(crate) fn named(point: &Explained) -> String {
     let name = shown(&point.metric, NAME_SHOWN);
     let attributes = shown(&point.attributes, ATTRIBUTES_SHOWN);
     format!("`{name}` {{{attributes}}}")
 }
 
-/// That a sender posts to another's series: one line as well.
+/// That a sender posts to another sender's series, in one line.
 pub(super) fn other_writer(sender: &str, owner: &str, series: &SeriesKey) -> String {
     let series = shown(&series.0, SERIES_SHOWN);
     format!(
