@@ -1,7 +1,9 @@
-//! Hands points that are outside the profile to another OTLP receiver (`--forward-unsupported`): at most once, and nobody waits for it.
+//! Forwards points outside the profile to another OTLP receiver (`--forward-unsupported`), at most once. `post_reports`
+//! hands them over, and no post waits for it.
 //!
-//! What is handed on waits in memory, of which there is a bound; what finds no room there, and what the receiver does not
-//! take, is counted and gone. One request is under way at a time, so a series' points keep their order.
+//! The points are queued in bounded memory. Points that find no room there, and points that the receiver rejects or
+//! does not accept in time, are dropped and counted. One request is in flight at a time, so the points of a series keep
+//! their order.
 
 mod send;
 
@@ -19,12 +21,13 @@ use tokio::sync::Notify;
 
 pub use send::BadReceiver;
 
-/// How many bytes may wait, and how many points are sent at a time where many wait.
+/// The most bytes in the queue, and about how many are joined into one request.
 const MOST_WAITING: usize = 16 << 20;
 const MOST_OF_A_REQUEST: usize = 1 << 20;
-/// What waits takes beside its bytes.
+/// The memory of a queued entry besides its bytes.
 const ENTRY: usize = 128;
 
+/// The queue and the receiver of forwarded points.
 pub struct Pass {
     receiver: Receiver,
     waiting: Mutex<Waiting>,
@@ -39,15 +42,15 @@ struct Waiting {
     bytes: usize,
 }
 
-/// What became of points, as it is counted.
+/// What became of forwarded points, as it is counted.
 #[derive(Clone, Copy, Debug, PartialEq, Eq)]
 pub enum Passed {
     Taken,
-    /// The receiver said that it does not take them.
+    /// The receiver answered that it does not accept them.
     Refused,
-    /// It gave no answer, or none in time: it may have them.
+    /// The receiver gave no answer, or none in time: it may have them.
     Lost,
-    /// Too much waited already.
+    /// The queue was full.
     Dropped,
 }
 
@@ -63,7 +66,7 @@ impl Passed {
 }
 
 impl Pass {
-    /// To `http://HOST:PORT`, or a whole URL.
+    /// Forwards to `http://HOST:PORT` or to a whole URL.
     pub fn to(address: &str, access: Access, metrics: Arc<Metrics>) -> Result<Arc<Pass>, BadReceiver> {
         Ok(Arc::new(Pass {
             receiver: Receiver::at(address, access)?,
@@ -74,18 +77,18 @@ impl Pass {
         }))
     }
 
-    /// Whether it hands on to this address, HOST:PORT.
+    /// Whether it forwards to this address, HOST:PORT.
     pub fn is_to(&self, address: &str) -> bool {
         self.receiver.url.authority().is_some_and(|own| own.as_str() == address)
     }
 
-    /// Without what may be a password.
+    /// The URL without its query, which may contain a password.
     pub fn url(&self) -> String {
         let url = self.receiver.url.to_string();
         url.split('?').next().unwrap_or_default().to_string()
     }
 
-    /// Waits for nothing.
+    /// Queues points. Never waits.
     pub fn hand_on(&self, outside: Outside) {
         let points = outside.points;
         match locked(&self.waiting).put(outside) {
@@ -94,12 +97,12 @@ impl Pass {
         }
     }
 
-    /// Sends what waits, for ever.
+    /// Sends what is queued, for ever.
     pub async fn run(self: Arc<Self>) {
         loop {
             let next = locked(&self.waiting).take();
             let Some(next) = next else {
-                self.arrived.notified().await; // a call that came between is kept for this one
+                self.arrived.notified().await; // a notification that came in between is kept
                 continue;
             };
             let points = next.points;
@@ -130,7 +133,7 @@ impl Pass {
 }
 
 impl Waiting {
-    /// Whether there was room.
+    /// Queues points; returns whether there was room.
     fn put(&mut self, outside: Outside) -> bool {
         let takes = outside.body.len() + ENTRY;
         let has_room = self.bytes + takes <= MOST_WAITING;
@@ -141,7 +144,7 @@ impl Waiting {
         has_room
     }
 
-    /// The next request. To protobuf several behind one another are one.
+    /// Takes the next request. Consecutive protobuf bodies are joined, which is one valid request.
     fn take(&mut self) -> Option<Outside> {
         let mut next = self.take_one()?;
         let mut body = Vec::new();

@@ -1,7 +1,7 @@
-//! What is read of files, and read anew when they change.
+//! Files that are reloaded when they change: certificates, tokens, settings. Each group of files has a thread of its
+//! own that looks at them, so a file system that does not answer blocks nobody else.
 //!
-//! A thread of its own looks at them, so that a file system that does not answer holds nobody else up. Files that can't be
-//! used leave what was used before in its place.
+//! If changed files can't be used, their last valid contents stay in use.
 
 use crate::log::seconds;
 use crate::metrics::Metrics;
@@ -15,8 +15,8 @@ use std::path::{Path, PathBuf};
 use std::sync::{Arc, PoisonError, RwLock, Weak};
 use std::time::Duration;
 
-/// How often files are looked at. What has changed is used once two looks have found the same: so not while it is being
-/// written, nor a certificate whose key is not there yet.
+/// How often files are looked at. A change is used once two looks have found the same contents, so not while a file is
+/// being written, nor if a certificate is there and its key is not yet.
 const LOOK: Duration = Duration::from_millis(250);
 
 /// After this time the next change of a file gives it other times, also on a file system with coarse timestamps.
@@ -25,14 +25,14 @@ const STEADY: Duration = Duration::from_secs(2);
 /// The longest file, in bytes.
 const MOST: u64 = 4 << 20;
 
-/// What comes of the contents of files, or what is wrong with them and what to do.
+/// Converts the contents of files, or says what is wrong with them and what to do.
 pub type Reading<T> = Box<dyn Fn(&[Vec<u8>]) -> Result<T, String> + Send>;
 
-/// How the contents of files are read.
+/// How the contents of files are converted.
 pub struct Reader<T> {
     pub read: Reading<T>,
-    /// Why they let nobody in, and what to do. No start is made with such files. Those that become so are used: who took
-    /// the last one out wants it out.
+    /// Says why the contents let nobody in, and what to do. A start with such files fails. If files become so later
+    /// they are used: whoever removed the last entry wanted that.
     pub shut: fn(&T) -> Option<&'static str>,
 }
 
@@ -46,12 +46,12 @@ impl<T> Reader<T> {
     }
 }
 
-/// What the files had when they were last found to be sound.
+/// The last valid contents of the files, converted.
 pub struct Reloaded<T>(RwLock<Arc<T>>);
 
 impl<T: Send + Sync + 'static> Reloaded<T> {
-    /// Reads the files, each with its option, that are used together, and goes on looking at them until what is returned is
-    /// dropped. The first option stands for all.
+    /// Reads files that are used together, each with its option, and reloads them until the returned value is dropped.
+    /// The first option stands for all of them in metrics.
     pub fn open(
         files: Vec<(&'static str, PathBuf)>,
         reader: Reader<T>,
@@ -73,8 +73,9 @@ impl<T: Send + Sync + 'static> Reloaded<T> {
         Ok(reloaded)
     }
 
+    /// The current contents.
     pub fn now(&self) -> Arc<T> {
-        self.0.read().unwrap_or_else(PoisonError::into_inner).clone() // any value of it is sound
+        self.0.read().unwrap_or_else(PoisonError::into_inner).clone() // any value of it is consistent
     }
 
     fn set(&self, new: T) {
@@ -82,7 +83,7 @@ impl<T: Send + Sync + 'static> Reloaded<T> {
     }
 }
 
-/// Of each file, or why it can't be read.
+/// The contents of each file, or why it can't be read.
 type Contents = Vec<Result<Vec<u8>, String>>;
 type Digests = Vec<Result<[u8; 32], String>>;
 
@@ -90,18 +91,18 @@ type Digests = Vec<Result<[u8; 32], String>>;
 struct Files<T> {
     files: Vec<(&'static str, PathBuf)>,
     reader: Reader<T>,
-    /// What was last used, or refused.
+    /// The digests of what was last used or refused.
     judged: Digests,
-    /// What the last look found.
+    /// The digests of what the last look found.
     seen: Digests,
-    /// The files' times when they were last read, if a change since then is sure to show in them.
+    /// The times of the files when they were last read, if any later change is sure to show in them.
     read_at: Option<Vec<Stamp>>,
     stale: IntGauge,
     into: Weak<Reloaded<T>>,
 }
 
 impl<T: Send + Sync + 'static> Files<T> {
-    /// Whether somebody still wants what is in them.
+    /// Looks at the files once; false if nobody needs them any more.
     fn look(&mut self) -> bool {
         std::thread::sleep(LOOK);
         let Some(into) = self.into.upgrade() else {
@@ -109,7 +110,7 @@ impl<T: Send + Sync + 'static> Files<T> {
         };
         let now = stamps(&self.files);
         if now.is_some() && now == self.read_at {
-            return true; // they are unchanged, and were judged before
+            return true; // unchanged, and judged before
         }
         let contents = all_contents(&self.files);
         let found = digests(&contents);
@@ -124,7 +125,7 @@ impl<T: Send + Sync + 'static> Files<T> {
         true
     }
 
-    /// The options whose files are otherwise than when they were last used, or refused.
+    /// The options whose files differ from what was last used or refused.
     fn changed(&self) -> String {
         let found = self.files.iter().zip(self.seen.iter().zip(&self.judged));
         let changed = found.filter(|(_, (seen, judged))| seen != judged);
@@ -132,6 +133,7 @@ impl<T: Send + Sync + 'static> Files<T> {
         options.join(", ")
     }
 
+    /// Uses the changed contents if they are valid; logs the result.
     fn judge(&self, contents: Contents, option: &str, into: &Reloaded<T>) {
         match all(contents).and_then(|contents| (self.reader.read)(&contents)) {
             Ok(new) => {
@@ -156,7 +158,7 @@ impl<T: Send + Sync + 'static> Files<T> {
     }
 }
 
-/// What `stat` says of a file. `changed` differs after each change, also if `modified` was set back.
+/// The identity, size and times of a file. `changed` differs after each change, even if `modified` was set back.
 #[derive(PartialEq, Eq)]
 struct Stamp {
     device: u64,
@@ -178,7 +180,7 @@ impl Stamp {
         })
     }
 
-    /// Whether the next change will have another time than this one.
+    /// Whether any later change will have another time.
     fn is_steady(&self) -> bool {
         self.changed.0 + (STEADY.as_secs() as i64) < seconds() as i64
     }
@@ -193,7 +195,7 @@ fn all_contents(files: &[(&str, PathBuf)]) -> Contents {
     files.iter().map(|(_, path)| contents(path)).collect()
 }
 
-/// All of them, or why the first can't be read that can't.
+/// The contents of all files, or why the first unreadable one can't be read.
 fn all(contents: Contents) -> Result<Vec<Vec<u8>>, String> {
     contents.into_iter().collect()
 }
@@ -219,7 +221,7 @@ mod tests {
     use super::*;
     use std::time::Instant;
 
-    /// A file of a number.
+    /// A file with a number.
     fn number(path: &Path, metrics: &Metrics) -> anyhow::Result<Arc<Reloaded<u64>>> {
         let read = |contents: &[Vec<u8>]| {
             let text = String::from_utf8_lossy(&contents[0]);
@@ -232,7 +234,7 @@ mod tests {
         Reloaded::open(vec![("--number", path.into())], reader, metrics)
     }
 
-    /// Files of which nothing was looked at yet, whose contents are used as they are.
+    /// Files that were never looked at, whose contents are used as they are.
     fn files(paths: Vec<(&'static str, PathBuf)>) -> Files<Vec<u8>> {
         let metrics = Metrics::new().unwrap();
         Files {
@@ -314,21 +316,21 @@ mod tests {
         assert!(!files.look());
     }
 
-    /// How much this thread has read so far, by Linux' account of it.
+    /// How many bytes this thread has read so far, as Linux counts them.
     fn bytes_read() -> u64 {
         let account = std::fs::read_to_string("/proc/thread-self/io").unwrap();
         let all = account.lines().find_map(|line| line.strip_prefix("rchar: ")?.parse().ok());
         all.unwrap()
     }
 
-    /// Else all files are read and hashed four times a second.
+    /// Otherwise all files would be read and hashed four times a second.
     #[test]
     fn a_file_that_stays_as_it_is_is_not_read_again() {
         let at = tempfile::tempdir().unwrap();
         let path = at.path().join("number");
         let length = 1 << 20;
         std::fs::write(&path, vec![b'1'; length]).unwrap();
-        std::thread::sleep(STEADY + Duration::from_secs(1)); // what was written just now may be written again within its time
+        std::thread::sleep(STEADY + Duration::from_secs(1)); // a file that was just written may be written again without another time
         let mut files = files(vec![("--number", path.clone())]);
         let reloaded = Arc::new(Reloaded(RwLock::new(Arc::new(Vec::new()))));
         files.into = Arc::downgrade(&reloaded);
@@ -337,7 +339,7 @@ mod tests {
         let before = bytes_read();
         assert!(files.look() && files.look() && files.look());
         assert!(bytes_read() - before < length as u64, "{}", bytes_read() - before);
-        // Of the same length, and made to look as old.
+        // With the same length, and the old modification time.
         let old = std::fs::metadata(&path).unwrap().modified().unwrap();
         std::fs::write(&path, vec![b'2'; length]).unwrap();
         std::fs::File::options().write(true).open(&path).unwrap().set_modified(old).unwrap();
@@ -345,7 +347,7 @@ mod tests {
         assert_eq!(reloaded.now()[0], b'2');
     }
 
-    /// Else who renews a certificate is told that another file has changed.
+    /// Otherwise whoever renews a certificate would be told that another file has changed.
     #[test]
     fn the_file_that_has_changed_is_named() {
         let at = tempfile::tempdir().unwrap();

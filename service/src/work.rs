@@ -1,7 +1,8 @@
-//! Work of more than a moment, on a thread of its own, or on several (`in_order`); and what is seldom waited for.
+//! Work that takes long, on threads beside the runtime's, or on several in parallel (`in_order`); and rarely needed
+//! timeouts.
 //!
-//! A timer is on the heap here: else each future that may need one had room for it, at an address that the allocator has to
-//! look for.
+//! The timers here are boxed: otherwise each future that may need one would have room for it, which costs every post
+//! memory.
 
 mod in_order;
 pub mod own_call;
@@ -19,7 +20,7 @@ use std::time::Duration;
 use tokio::sync::Semaphore;
 use tokio::task::JoinSet;
 
-/// Does work that waits for the disk, or computes for long, without holding a thread of the runtime.
+/// Runs work that waits for the disk, or computes for long, without blocking a thread of the runtime.
 pub async fn blocking<T: Send + 'static>(work: impl FnOnce() -> T + Send + 'static) -> T {
     match tokio::task::spawn_blocking(work).await {
         Ok(done) => done,
@@ -31,8 +32,8 @@ pub async fn blocking<T: Send + 'static>(work: impl FnOnce() -> T + Send + 'stat
     }
 }
 
-/// What reads bodies: a short one in place, a longer one on a thread beside the runtime's, so that no short post waits after it. Of
-/// these there are so many at a time, since one takes several times its length of memory while it is read.
+/// Parses bodies: a short one on the calling thread, a long one on a blocking thread, so that no short post waits for
+/// it. Only so many long ones are parsed at a time, since one takes several times its length of memory.
 pub struct Readers(Semaphore);
 
 impl Readers {
@@ -43,7 +44,7 @@ impl Readers {
         Readers(Semaphore::new(most))
     }
 
-    /// Reads what is so long.
+    /// Parses something of this length.
     pub async fn read<T: Send + 'static>(
         &self,
         length: usize,
@@ -55,18 +56,19 @@ impl Readers {
         }
     }
 
+    /// Parses something long.
     pub async fn read_long<T: Send + 'static>(&self, read: impl FnOnce() -> T + Send + 'static) -> T {
         let _turn = self.turn().await;
         blocking(read).await
     }
 
-    /// For who reads by himself.
+    /// Takes the turn of one long body, for a caller that parses by itself.
     pub async fn turn(&self) -> impl Sized + '_ {
         self.0.acquire().await // it is never closed
     }
 }
 
-/// What comes of a future, if it comes in time. As a rule it comes at once, and then there is no timer.
+/// The result of a future if it is ready in time. Usually it is ready at once, and then no timer is made.
 pub async fn within<T>(time: Duration, future: impl Future<Output = T>) -> Option<T> {
     let mut future = pin!(future);
     match poll_fn(|context| Poll::Ready(future.as_mut().poll(context))).await {
@@ -75,7 +77,7 @@ pub async fn within<T>(time: Duration, future: impl Future<Output = T>) -> Optio
     }
 }
 
-/// What comes of all of these, side by side, in no order. Of one that fails nothing does.
+/// The results of all these futures, run in parallel, in no order. One that panics yields nothing.
 pub async fn side_by_side<T, F>(all: impl IntoIterator<Item = F>) -> Vec<T>
 where
     T: Send + 'static,
@@ -91,7 +93,7 @@ where
     done
 }
 
-/// All of a body; none if it is longer than this.
+/// The whole body; none if it is longer than `most`.
 pub async fn whole_body(mut body: Body, most: usize) -> Result<Option<Vec<u8>>, hyper::Error> {
     let mut bytes = Vec::new();
     while let Some(part) = body.data().await {
@@ -103,12 +105,13 @@ pub async fn whole_body(mut body: Body, most: usize) -> Result<Option<Vec<u8>>, 
     Ok(Some(bytes))
 }
 
-/// The lock. A panic ends the process, so nobody finds what another has left half changed; in a test what is left is sound.
+/// Locks a mutex. Poison is ignored: a panic ends the process, so nobody sees what it left half changed, and tests keep
+/// such state valid.
 pub fn locked<T>(mutex: &Mutex<T>) -> MutexGuard<'_, T> {
     mutex.lock().unwrap_or_else(PoisonError::into_inner)
 }
 
-/// Goes on once all that is ready on this thread has had its turn.
+/// Yields until all tasks that are ready on this thread have run.
 pub async fn others_first() {
     let mut had_theirs = false;
     poll_fn(|context| match std::mem::replace(&mut had_theirs, true) {
@@ -121,10 +124,10 @@ pub async fn others_first() {
     .await
 }
 
-/// So many threads at most: more wait for each other.
+/// The most threads of parallel work: more would wait for each other.
 const MOST_THREADS: usize = 8;
 
-/// How many there are of those that compute side by side.
+/// How many threads work in parallel.
 fn threads() -> usize {
     thread::available_parallelism().map_or(1, |most| most.get().min(MOST_THREADS))
 }

@@ -1,9 +1,10 @@
-//! Late data: points that their series refuse, kept by the names of their series in `late/` of the folder, so that a person can see
-//! them (`totxegun late`) and book them (`totxegun adjust`).
+//! Late data: points that their series refused, kept with the names of their series in `late/` of the folder, so that a
+//! person can look at them (`totxegun late`) and book them (`totxegun adjust`). `slot` hands them over after the post
+//! was answered.
 //!
-//! A post gives its refused points to a thread that writes them, and does not wait. If that thread has too much to do, or the disk is
-//! full or fails, the points are counted as not kept, and nothing else happens. Nothing here is synced: a loss of power may take the
-//! last ones. `point` is what is kept of one, `segments` the files.
+//! Posts never wait for it: a thread writes the points. If its queue is full, or the disk is full or fails, the points
+//! are counted as not kept and nothing else happens. Nothing is synced, so a loss of power may take the last ones.
+//! `point` is the form of a point, `segments` the files.
 
 mod point;
 mod segments;
@@ -20,16 +21,16 @@ use std::sync::mpsc::{sync_channel, Receiver, SyncSender};
 use std::sync::Arc;
 use std::time::Duration;
 
-/// The folder of late data, in that of the service.
+/// The name of the folder, within the folder of the service.
 pub const FOLDER: &str = "late";
 
-/// So many posts, and words of their points, may wait to be written: some 30 MB.
+/// How many posts, and words of their points, may be queued: about 30 MB.
 const MAX_POSTS: usize = 1 << 10;
 const MAX_WORDS: usize = 4 << 20;
-/// How long a line of the log about a write that failed stands for all.
+/// A failed write is logged at most this often.
 const WARN_EVERY: Duration = Duration::from_secs(3600);
 
-/// Of one process.
+/// The late data of a process.
 pub struct LateData {
     /// None if there is no folder, as in tests.
     queue: Option<SyncSender<Refusals>>,
@@ -40,14 +41,15 @@ pub struct LateData {
 
 #[derive(Default)]
 struct State {
-    /// Words of points that wait to be written.
+    /// The words of the queued points.
     waiting: AtomicUsize,
-    /// How long all files are together.
+    /// The total length of the files.
     bytes: AtomicU64,
 }
 
 impl LateData {
-    /// In this folder, which is made with the first point. A folder that can't be used is named in the log, and is tried again.
+    /// Keeps late data in this folder, which is created with the first point. A folder that can't be used is logged and
+    /// tried again.
     pub fn begin(folder: PathBuf, max_bytes: u64, metrics: Arc<Metrics>) -> io::Result<Arc<LateData>> {
         let (queue, queued) = sync_channel(MAX_POSTS);
         let (segments, state) = (Segments::new(folder.clone(), max_bytes), Arc::new(State::default()));
@@ -67,7 +69,7 @@ impl LateData {
         Arc::new(LateData { queue: None, folder: PathBuf::new(), metrics, state: Arc::default() })
     }
 
-    /// Has these points written, or counts them as not kept. It waits for nothing.
+    /// Queues these points for writing, or counts them as not kept. Never waits.
     pub fn keep(&self, refusals: Refusals) {
         let (points, words) = (refusals.count(), refusals.words());
         if points == 0 {
@@ -87,23 +89,23 @@ impl LateData {
         self.metrics.late_points.with_label_values(&["not_kept"]).inc_by(points);
     }
 
-    /// How long all files are together.
+    /// The total length of the files.
     pub fn bytes(&self) -> u64 {
         self.state.bytes.load(Relaxed)
     }
 
-    /// Points since the start: those that were kept, and the others.
+    /// How many points were kept since the start, and how many were not.
     pub fn points(&self) -> [u64; 2] {
         ["kept", "not_kept"].map(|outcome| self.metrics.late_points.with_label_values(&[outcome]).get())
     }
 
-    /// Shows each point that is kept, the oldest first. `may_be` is asked of a line first, so that few are parsed.
+    /// Calls `each` with all kept points, the oldest first. `may_be` filters the lines before they are parsed.
     pub fn read(&self, may_be: impl Fn(&[u8]) -> bool, each: impl FnMut(LatePoint)) -> io::Result<()> {
         segments::read(&self.folder, may_be, each)
     }
 }
 
-/// The thread that writes.
+/// The writing thread.
 struct Writer {
     segments: Segments,
     state: Arc<State>,

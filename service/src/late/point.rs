@@ -1,4 +1,4 @@
-//! A point that its series refused, as it is kept: a line of JSON.
+//! The form of a late point: a line of JSON.
 
 use crate::core::{Names, PointRefusal};
 use crate::files::{Names as _, Outbox, Points};
@@ -10,42 +10,42 @@ use serde_json::value::RawValue;
 use sha2::{Digest, Sha256};
 use std::sync::{Arc, Weak};
 
-/// How many bytes of a digest are in a key: two of a million points are alike once in some 10^7 folders.
+/// How many bytes of the digest a key has: two of a million points have the same key in one of about 10^7 folders.
 const KEY: usize = 8;
 
-/// Points that a post's series refused.
+/// The refused points of a post.
 pub struct Refusals {
     sender: String,
     names: Arc<Names>,
     points: Points,
-    /// Of each point why, and whether it is cumulative.
+    /// For each point why it was refused, and whether it is cumulative.
     why: Vec<(PointRefusal, bool)>,
-    /// It knows whose a series is.
+    /// Knows the owners of series.
     outbox: Weak<Outbox>,
 }
 
-/// What is kept of a point.
+/// A late point.
 #[derive(Clone, Debug, Serialize, Deserialize)]
 pub struct LatePoint {
-    /// The same for the same point of the same sender: a repeat of it is no other point.
+    /// The same point of the same sender always has the same key, so a repeat is recognised.
     pub key: String,
     /// When it was refused, in seconds since 1970.
     pub at: u64,
     pub sender: String,
     pub reason: Reason,
-    /// All that identifies its series, as it is in a snapshot (docs/FORMATS.md).
+    /// The key of its series, as in a snapshot (docs/FORMATS.md).
     pub series: Box<RawValue>,
     /// The point's interval, in nanoseconds since 1970.
     pub start_ns: u64,
     pub end_ns: u64,
-    /// Its value is of all since its start, and not what it adds.
+    /// Whether its value is the total since its start, rather than what it adds.
     #[serde(default, skip_serializing_if = "std::ops::Not::not")]
     pub cumulative: bool,
     pub value: LateValue,
-    /// Until when its series had points.
+    /// The end of its series when it was refused as out of order.
     #[serde(default, skip_serializing_if = "Option::is_none")]
     pub series_end_ns: Option<u64>,
-    /// Whose the series is, if it is another's and was flushed.
+    /// The owner of its series, if that is another sender and the series was flushed.
     #[serde(default, skip_serializing_if = "Option::is_none")]
     pub series_sender: Option<String>,
 }
@@ -77,11 +77,11 @@ impl Refusals {
         self.points.words().len()
     }
 
-    /// A line for each, in their order.
+    /// A line for each point, in their order.
     pub(super) fn lines(&self) -> impl Iterator<Item = Vec<u8>> + '_ {
         let (at, mut last) = (seconds(), None);
         self.points.each().zip(&self.why).filter_map(move |(point, why)| {
-            // Points of a series mostly stand together.
+            // Consecutive points mostly belong to one series.
             let series = match last.take() {
                 Some((number, series)) if number == point[0] => series,
                 _ => only(&self.names.text(point[0]))?,
@@ -124,7 +124,8 @@ impl Refusals {
 }
 
 impl LateValue {
-    /// Of the words behind a point's interval: a sum's value, or a histogram's count, whether it has a sum, the sum, and its buckets.
+    /// The value in the words after a point's interval: a sum's value; or a histogram's count, whether it has a sum,
+    /// the sum, and the buckets.
     fn of(words: &[u64]) -> Option<LateValue> {
         match words {
             [value] => Some(LateValue::Sum(value.cast_signed())),
@@ -144,7 +145,7 @@ impl LatePoint {
         Some(line)
     }
 
-    /// All that identifies its series.
+    /// The key of its series.
     pub fn series(&self) -> SeriesKey {
         SeriesKey(self.series.get().into())
     }

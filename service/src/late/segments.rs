@@ -1,5 +1,5 @@
-//! The files of late data: lines of JSON in segments, of which the oldest goes when all together are too long. One that ends within
-//! a line, as after a kill or on a full disk, gets an end of line before the next one.
+//! The files of late data: lines of JSON in segments. If all of them are too long, the oldest segment is deleted. A
+//! segment may end within a line, after a kill or on a full disk; then an end of line is written before the next one.
 
 use super::LatePoint;
 use std::collections::VecDeque;
@@ -8,16 +8,16 @@ use std::io::{BufRead, BufReader, ErrorKind, Read, Result, Seek, SeekFrom, Write
 use std::os::unix::fs::{DirBuilderExt, OpenOptionsExt};
 use std::path::{Path, PathBuf};
 
-/// So many segments have all that is kept: with the oldest so much of it goes.
+/// How many segments hold everything that is kept; deleting the oldest one deletes that fraction.
 const SEGMENTS: u64 = 8;
 const SUFFIX: &str = ".jsonl";
-/// So many bytes of lines are made before they are written: each has all of its series' text.
+/// About how many bytes of lines are made before they are written, since each line has the whole text of its series.
 const MAX_WRITE: u64 = 1 << 20;
 
-/// A segment, by its number, and how long it is.
+/// The number of a segment, and its length.
 type Segment = (u64, u64);
 
-/// Its folder is looked at before each write: what somebody has deleted there is not kept.
+/// The segments of a folder. It is listed before each write, so files that somebody deletes don't matter.
 pub(super) struct Segments {
     folder: PathBuf,
     max_bytes: u64,
@@ -32,13 +32,14 @@ impl Segments {
         &self.folder
     }
 
-    /// How long all are together, as far as they can be listed.
+    /// The total length, as far as the folder can be listed.
     pub fn bytes(&self) -> u64 {
         bytes(&listed(&self.folder).unwrap_or_default())
     }
 
-    /// Puts these lines behind the others, each with its end of line: how many, and why it was not all. A line that no segment has room
-    /// for is passed over, and so is what follows once they are together as long as a segment: one post does not take the others' room.
+    /// Appends these lines, which end with an end of line. Returns how many were written, and an error if that stopped
+    /// it. Lines longer than a segment are skipped, and the rest is dropped once a post has written as much as a
+    /// segment: no post may displace all others.
     pub fn append(&self, lines: impl Iterator<Item = Vec<u8>>) -> (u64, Result<()>) {
         let of_one = self.max_bytes / SEGMENTS;
         let (mut written, mut bytes) = (0, 0);
@@ -73,7 +74,7 @@ impl Segments {
         open(&self.folder, self.with_room(part.len() as u64)?)?.write_all(part)
     }
 
-    /// The last segment, or a new one if that does not take so many bytes.
+    /// The last segment, or a new one if it has no room for so many bytes.
     fn with_room(&self, part: u64) -> Result<u64> {
         let of_one = self.max_bytes / SEGMENTS;
         let mut all = listed(&self.folder)?;
@@ -96,7 +97,7 @@ fn bytes(all: &VecDeque<Segment>) -> u64 {
     all.iter().map(|(_, bytes)| bytes).sum()
 }
 
-/// Opens a segment, whose last line has its end.
+/// Opens a segment, and ends its last line if that is torn.
 fn open(folder: &Path, number: u64) -> Result<File> {
     let mut options = OpenOptions::new();
     let mut file = options.read(true).append(true).create(true).mode(0o600).open(path(folder, number))?;
@@ -130,7 +131,8 @@ fn listed(folder: &Path) -> Result<VecDeque<Segment>> {
     Ok(all.into())
 }
 
-/// Shows each point, the oldest first. What is no such line is passed over, and a segment that has gone meanwhile.
+/// Calls `each` with all points, the oldest first. Skips lines that can't be parsed, and segments that were deleted
+/// meanwhile.
 pub(super) fn read(
     folder: &Path,
     may_be: impl Fn(&[u8]) -> bool,

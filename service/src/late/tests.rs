@@ -1,4 +1,4 @@
-//! What is kept of late points: by whom, in which files, and what happens if it can't be.
+//! What is kept of late points, in which files, and what happens if that fails.
 
 use super::*;
 use crate::core::PointRefusal;
@@ -38,7 +38,7 @@ fn read(folder: &Path) -> Vec<u64> {
     found
 }
 
-/// The form that docs/FORMATS.md has.
+/// The form given in docs/FORMATS.md.
 #[test]
 fn a_point_is_a_line_of_json() {
     let text = String::from_utf8(line(3)).unwrap();
@@ -51,7 +51,7 @@ fn a_point_is_a_line_of_json() {
     assert_eq!(read.value, LateValue::Histogram { count: 3, sum: None, buckets: vec![1, 2] });
 }
 
-/// Whatever is written, no more bytes are kept than were asked for, and these are the last ones: at least half of them.
+/// Whatever is written, no more bytes are kept than were asked for, and at least half as many of the latest ones.
 #[test]
 fn the_oldest_goes_first() {
     let (place, mut random) = (tempfile::tempdir().unwrap(), TestRandom(5));
@@ -80,7 +80,7 @@ fn the_oldest_goes_first() {
     assert_eq!((rights(&folder), rights(&file)), (0o700, 0o600), "senders' names and values are in it");
 }
 
-/// As a kill leaves it: what is whole is read, also what comes after it.
+/// As after a kill: complete lines are read, including those after a torn one.
 #[test]
 fn a_line_that_was_cut_costs_no_other() {
     let place = tempfile::tempdir().unwrap();
@@ -93,7 +93,7 @@ fn a_line_that_was_cut_costs_no_other() {
     assert_eq!(read(&folder), [1, 3]);
 }
 
-/// One that can't be written is counted, and nothing else happens: also while the folder is gone, or a file.
+/// Points that can't be written are counted and nothing else happens, even while the folder is missing or is a file.
 #[test]
 fn what_can_t_be_written_is_counted() {
     let place = tempfile::tempdir().unwrap();
@@ -114,7 +114,8 @@ fn what_can_t_be_written_is_counted() {
     assert!(read(&folder).is_empty());
 }
 
-/// By an operator, who wants room or has copied it: what comes later is kept, and no more than is there is said to be.
+/// An operator may delete files for room, or after copying them: later points are kept, and only existing bytes are
+/// reported.
 #[test]
 fn what_comes_after_files_were_deleted_is_kept() {
     let place = tempfile::tempdir().unwrap();
@@ -135,7 +136,7 @@ fn append(segments: &mut Segments, lines: impl IntoIterator<Item = Vec<u8>>) -> 
     written
 }
 
-/// One that no segment has room for costs no other.
+/// A line longer than a segment displaces no other.
 #[test]
 fn a_line_that_is_too_long_is_passed_over() {
     let place = tempfile::tempdir().unwrap();
@@ -145,7 +146,8 @@ fn a_line_that_is_too_long_is_passed_over() {
     assert_eq!(read(&folder), [1, 2]);
 }
 
-/// Lines are made as they are written: else a post of many points of a series with a long text would take gigabytes.
+/// Lines are made as they are written: otherwise a post with many points of a series with a long text could take
+/// gigabytes.
 #[test]
 fn of_one_post_no_more_is_made_than_a_segment_has_room_for() {
     let place = tempfile::tempdir().unwrap();
@@ -163,7 +165,7 @@ fn of_one_post_no_more_is_made_than_a_segment_has_room_for() {
     assert_eq!(read(&folder)[0], 1, "what others have is there still");
 }
 
-/// A thread that stands still holds nobody up: what it has no room for is counted as not kept.
+/// If the thread stalls no post waits: points that find no room are counted as not kept.
 #[test]
 fn nobody_waits_for_the_thread_that_writes() {
     use crate::core::Names;
@@ -195,7 +197,7 @@ fn nobody_waits_for_the_thread_that_writes() {
     assert_eq!(late.points()[1], 9 + MAX_WORDS as u64 / 4 + 2, "the thread has ended");
 }
 
-/// A repeat has the key of the first one, and no other point has.
+/// A repeat has the key of the first point, and no other point has it.
 #[test]
 fn a_key_says_which_point_it_is() {
     let series = crate::otlp::series::SeriesKey(SERIES.into());

@@ -1,4 +1,4 @@
-//! One request to the receiver, over a connection that is kept.
+//! Sends one request to the receiver, over a kept connection, and reads the answer.
 
 use super::Passed;
 use crate::log::shown;
@@ -12,23 +12,25 @@ use prost::Message;
 use std::time::Duration;
 use tokio::time::timeout;
 
-/// How long the receiver may take for a connection and an answer.
+/// How long connecting and the answer may take together.
 const PATIENCE: Duration = Duration::from_secs(10);
-/// What of an answer is read, and of its text shown.
+/// How much of an answer is read, and how much of its text is shown.
 const LONGEST_ANSWER: usize = 64 << 10;
 const SHOWN: usize = 300;
 
+/// The address of the receiver can't be used.
 #[derive(Debug, thiserror::Error)]
 #[error("--forward-unsupported takes http://HOST:PORT or https://HOST: {0}")]
 pub struct BadReceiver(String);
 
+/// The receiver of forwarded points.
 pub(super) struct Receiver {
     pub url: Uri,
     client: Client,
     access: Access,
 }
 
-/// How many points it refused, what became of the others, and why.
+/// How many points were refused, what became of the others, and why.
 type Said = (u64, Passed, String);
 
 impl Receiver {
@@ -74,7 +76,7 @@ impl Receiver {
     }
 }
 
-/// What an answer says, once it is read: so its connection can be used again.
+/// Interprets an answer. The body is read first, so that its connection can be used again.
 async fn said(response: Response<Body>, encoding: Encoding) -> Result<Said, hyper::Error> {
     let (head, mut body) = response.into_parts();
     let mut text = Vec::new();

@@ -1,4 +1,4 @@
-//! What waits, and what becomes of it where the receiver is away, slow, or refuses.
+//! The queue, and receivers that are away, slow, or refuse.
 
 use super::*;
 use std::io::{Read, Write};
@@ -39,7 +39,7 @@ fn several_of_protobuf_are_one_request() {
     assert_eq!(waiting.bytes, 0);
 }
 
-/// Answers one request after the other with these heads and bodies.
+/// Answers requests, one after another, with these heads and bodies.
 fn answering(answers: &'static [(&'static str, &'static [u8])]) -> String {
     let listener = TcpListener::bind("127.0.0.1:0").unwrap();
     let address = format!("http://{}", listener.local_addr().unwrap());
@@ -82,7 +82,7 @@ async fn what_becomes_of_points_is_counted() {
         }
         before += 10;
     }
-    // The last one finds nobody.
+    // The last request finds no receiver.
     assert_eq!(counted(&metrics), [17, 13, 10, 0]);
 }
 
@@ -100,7 +100,7 @@ fn an_address_is_one_of_otlp_over_http() {
     }
 }
 
-/// A token that is renewed is used from the next request on.
+/// A renewed token is used from the next request on.
 #[tokio::test]
 async fn headers_of_a_file_go_with_each_request() {
     let listener = TcpListener::bind("127.0.0.1:0").unwrap();

@@ -1,4 +1,4 @@
-//! Where a server is, and as whom to come to it.
+//! The address of a PostgreSQL server: its hosts, the user, and the options that libpq has in a URL.
 
 use super::passfile;
 use crate::sinks::roots::{self, ClientFiles, NoRoots};
@@ -9,23 +9,23 @@ use std::time::Duration;
 use tokio_postgres::config::{ChannelBinding, Host, SslMode, TargetSessionAttrs};
 use tokio_postgres::Config;
 
-/// How long a connection may take to be made.
+/// How long connecting may take.
 const CONNECT: Duration = Duration::from_secs(5);
 const PORT: u16 = 5432;
-/// How long a connection is silent before it is asked whether it is there.
+/// After this silence of a connection, TCP probes whether the other end is there.
 const KEEPALIVE: Duration = Duration::from_secs(30);
 
-/// Its `Debug` shows no password.
+/// A server's address. Its `Debug` shows no password.
 #[derive(Clone, Debug, PartialEq, Eq)]
 pub struct Server {
     config: Config,
     tls: ClientFiles,
-    /// The file of passwords, if it is not that of the environment.
+    /// The file of passwords, if the address names one.
     passfile: Option<PathBuf>,
 }
 
 impl Server {
-    /// Reads what follows `postgres:`. What it says of a faulty one has no part of it, since that may be a password.
+    /// Parses what follows `postgres:`. An error quotes nothing of the address, which may contain a password.
     pub(crate) fn read(rest: &str) -> Result<Server, String> {
         let server = Server::read_hosts(rest)?;
         match server.config.get_hosts() {
@@ -34,7 +34,7 @@ impl Server {
         }
     }
 
-    /// The same, of one or more hosts that share what they have, of which one writes.
+    /// The same for one or more hosts that replicate each other, of which one accepts writes.
     pub(crate) fn read_hosts(rest: &str) -> Result<Server, String> {
         if !rest.starts_with("//") {
             return Err("`//` is missing".into());
@@ -69,7 +69,7 @@ impl Server {
         Ok(Server { config, tls, passfile })
     }
 
-    /// Where it is, whoever comes to it.
+    /// Hosts and database, without the user.
     pub(crate) fn place(&self) -> String {
         let ports = self.config.get_ports();
         let place = |(number, host): (usize, &Host)| {
@@ -92,12 +92,12 @@ impl Server {
         self.tls.client_config()
     }
 
-    /// With the password of the environment, or of the file of passwords, where the address has none.
+    /// The configuration, with the password of the environment or of the file of passwords if the address has none.
     pub(crate) fn config(&self) -> Config {
         self.with_password(self.config.clone())
     }
 
-    /// Of one host.
+    /// Adds the password to the configuration of one host.
     fn with_password(&self, mut config: Config) -> Config {
         if config.get_password().is_some() {
             return config;
@@ -110,7 +110,8 @@ impl Server {
         config
     }
 
-    /// The same for each host alone, where only one that writes counts: so each can be given its time.
+    /// The configuration for each host alone, which connects only if that host accepts writes. So each host has a
+    /// timeout of its own.
     pub(crate) fn each_host(&self) -> Vec<Config> {
         let all = &self.config;
         let ports = all.get_ports();
@@ -139,14 +140,15 @@ impl Server {
     }
 }
 
-/// An address without what is read here alone, for a library that knows `require`: the files of its TLS, and that of passwords.
+/// Takes the options out of the address that only this code handles: the files of TLS, and that of passwords. The
+/// library knows `require` alone.
 fn without_files(rest: &str) -> Result<(String, ClientFiles, Option<PathBuf>), String> {
     let (place, query) = rest.split_once('?').unwrap_or((rest, ""));
     let (mut tls, mut passfile, mut others) = (ClientFiles::default(), None, Vec::new());
     for pair in query.split('&') {
         let (name, value) = pair.split_once('=').unwrap_or((pair, ""));
         match (name, value) {
-            // Its certificate is looked at in either case.
+            // The certificate is verified in either case.
             ("sslmode", "verify-full") => others.push("sslmode=require"),
             ("sslmode", "prefer" | "allow") => {
                 return Err("`sslmode=prefer` and `allow` go without TLS where a server has none: write `sslmode=require`, or `disable`".into())
@@ -171,7 +173,7 @@ fn path(written: &str) -> Result<PathBuf, String> {
     text.map(|text| PathBuf::from(&*text)).ok_or_else(|| "a file that it names has no name in UTF-8".into())
 }
 
-/// Hosts to each of which there can be the TLS that is asked for.
+/// Checks that each host can have the TLS that is asked for.
 fn check_hosts(config: &Config) -> Result<(), &'static str> {
     let wants_tls = config.get_ssl_mode() == SslMode::Require;
     let check = |host: &Host| match host {

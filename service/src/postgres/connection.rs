@@ -1,4 +1,4 @@
-//! A connection, and the task that moves its bytes.
+//! A connection to PostgreSQL with the task that drives it. The sink and the store use it.
 
 use super::tls::Tls;
 use super::Server;
@@ -25,7 +25,7 @@ pub(crate) enum NotConnected {
 }
 
 impl NotConnected {
-    /// Whether the server is there, and does not let us in (class 28, invalid authorization).
+    /// Whether the server is reachable and rejects us (class 28, invalid authorization).
     pub(crate) fn is_denied(&self) -> bool {
         let NotConnected::Server(error) = self else {
             return false;
@@ -34,8 +34,8 @@ impl NotConnected {
     }
 }
 
-/// Connects to a server of an address, of which `config` is the whole or one host, and sets what the session is to have.
-/// What takes a connection and then is silent, as a proxy whose server is away, would be waited for without end.
+/// Connects to a server by `config`, which has all of its hosts or one, and applies the settings of the session.
+/// `limit` bounds both: a proxy whose server is away accepts connections and is silent.
 pub(crate) async fn connect(
     server: &Server,
     config: &Config,
@@ -61,7 +61,7 @@ async fn connect_to(server: &Server, config: &Config) -> Result<(Client, Driver)
     }
 }
 
-/// The task that moves a connection's bytes: it ends with this, so no statement goes on unseen.
+/// The task that drives a connection. It is aborted when this is dropped, so no statement continues unnoticed.
 pub(crate) struct Driver {
     task: JoinHandle<()>,
     pub warnings: Warnings,
@@ -76,7 +76,7 @@ impl Driver {
         let warnings = Warnings::default();
         let heard = warnings.clone();
         let task = tokio::spawn(async move {
-            // Whoever waits for an answer is told of its fault.
+            // An error goes to whoever waits for the answer.
             while let Some(Ok(message)) = poll_fn(|context| connection.poll_message(context)).await {
                 heard.note(&message);
             }
@@ -84,7 +84,7 @@ impl Driver {
         Driver { task, warnings }
     }
 
-    /// Returns once the server is told that the client, which is gone, has ended.
+    /// Waits until the server has been told that the client, which was dropped before, has ended.
     pub(crate) async fn ended(&mut self) {
         let _ = (&mut self.task).await;
     }
@@ -96,16 +96,16 @@ impl Drop for Driver {
     }
 }
 
-/// Warnings that say nothing of a commit: each transaction that writes gets these once the server's numbers of transactions are
-/// short, and is done all the same. By the server's function, since the text is in its language.
+/// Warnings that say nothing about a commit: when transaction numbers run short, each writing transaction gets them and
+/// commits anyway. They are recognised by the server's function, since their texts are translated.
 const OF_NUMBERS: [&str; 2] = ["GetNewTransactionId", "GetNewMultiXactId"];
 
 fn is_doubt(code: &SqlState, routine: Option<&str>) -> bool {
     *code == SqlState::WARNING && !routine.is_some_and(|routine| OF_NUMBERS.contains(&routine))
 }
 
-/// The last warning (01000) that the server gave on this connection, until it is taken. The server gives it before it
-/// ends a statement, so it is here before who waits for the statement goes on.
+/// The last warning (01000) of the server on this connection, until it is taken. The server sends it before it ends a
+/// statement, so it is here before the caller of the statement continues.
 #[derive(Clone, Default)]
 pub(crate) struct Warnings(Arc<Mutex<Option<String>>>);
 
@@ -127,7 +127,7 @@ impl Warnings {
 mod tests {
     use super::*;
 
-    /// Else nothing is made ahead or deleted any more, and nobody is told.
+    /// Otherwise periods would no longer be created or deleted, and nobody would notice.
     #[tokio::test]
     async fn a_server_that_is_silent_is_not_waited_for_without_end() {
         let listener = tokio::net::TcpListener::bind("127.0.0.1:0").await.expect("a port");
@@ -139,7 +139,7 @@ mod tests {
         assert_eq!(fault.expect("no connection").to_string(), "no answer within 0.05 s");
     }
 
-    /// Else nothing is taken any more long before the server takes nothing.
+    /// Otherwise no post would be taken long before the server refuses writes.
     #[test]
     fn a_server_that_is_short_of_numbers_is_believed() {
         for (routine, doubt) in [

@@ -1,7 +1,7 @@
-//! The file of passwords, as libpq has it: what the address says by `passfile`, or else PGPASSFILE, or `~/.pgpass`.
+//! libpq's file of passwords: the one that `passfile` in the address names, else PGPASSFILE, else `~/.pgpass`.
 //!
-//! A line is `HOST:PORT:DATABASE:USER:PASSWORD`, of which each of the first four may be `*`; a backslash is before a colon or
-//! backslash that belongs to a field. The first line that fits counts. Who is no longer alone to read it is not believed.
+//! A line is `HOST:PORT:DATABASE:USER:PASSWORD`; each of the first four may be `*`, and a backslash escapes a colon or
+//! a backslash. The first matching line counts. A file that others than its owner may read is not used.
 
 use std::os::unix::fs::MetadataExt;
 use std::path::{Path, PathBuf};
@@ -9,14 +9,14 @@ use std::sync::Once;
 use tokio_postgres::config::Host;
 use tokio_postgres::Config;
 
-/// Where a server is by a socket in its own folder.
+/// How the file names the server of a socket in the default folders.
 const LOCAL: &str = "localhost";
 const FOLDERS: [&str; 2] = ["/var/run/postgresql", "/tmp"];
 
-/// It was said that others may read the file.
+/// Whether it was logged that others may read the file.
 static TOLD: Once = Once::new();
 
-/// For the first host of a connection, of the file that its address names, or else of the environment's.
+/// The password for the first host of a connection, from the file that its address names or from the environment's.
 pub(super) fn password(config: &Config, named: Option<&Path>) -> Option<String> {
     let file = named.map(Path::to_path_buf).or_else(file)?;
     let about = std::fs::metadata(&file).ok().filter(std::fs::Metadata::is_file)?;
@@ -35,6 +35,7 @@ fn file() -> Option<PathBuf> {
     named.map(PathBuf::from).or_else(|| Some(Path::new(&std::env::var_os("HOME")?).join(".pgpass")))
 }
 
+/// The password of the first line that matches.
 fn found(text: &str, config: &Config) -> Option<String> {
     let host = match config.get_hosts().first()? {
         Host::Tcp(host) => host.clone(),
@@ -52,7 +53,7 @@ fn found(text: &str, config: &Config) -> Option<String> {
     })
 }
 
-/// What is behind a fifth field is left out.
+/// The fields of a line; anything after the fifth is dropped.
 fn fields(line: &str) -> Vec<String> {
     let (mut all, mut last) = (Vec::new(), String::new());
     let mut letters = line.chars();

@@ -1,10 +1,10 @@
-//! What a server says is wrong, and what to do about it.
+//! Shows an error of the server with what to do about it.
 
 use crate::log;
 use tokio_postgres::error::DbError;
 use tokio_postgres::Error;
 
-/// The most characters of what a server says: it may quote what a sender wrote.
+/// The most characters of a server's message, which may quote what a sender wrote.
 const LONGEST: usize = 1000;
 
 /// An error with what to do about it.
@@ -21,6 +21,7 @@ pub(crate) fn shown(error: &Error) -> String {
     }
 }
 
+/// What to do about an error, by its SQLSTATE.
 fn what_to_do(said: &DbError) -> Option<&'static str> {
     Some(match said.code().code() {
         "28P01" => "the password is wrong, correct it in the address or in PGPASSWORD",

@@ -1,4 +1,4 @@
-//! TLS to a server whose certificate is for the host of its address, and by a root that the machine believes.
+//! TLS to PostgreSQL. The server's certificate has to be for the host of its address, and signed by a trusted root.
 
 use rustls::ClientConfig;
 use std::future::Future;
@@ -10,6 +10,7 @@ use tokio::io::{AsyncRead, AsyncWrite, ReadBuf};
 use tokio_postgres::tls::{ChannelBinding, MakeTlsConnect, TlsConnect, TlsStream};
 use tokio_rustls::{client, TlsConnector};
 
+/// Makes TLS connections for `tokio-postgres`.
 #[derive(Clone)]
 pub(super) struct Tls(Arc<ClientConfig>);
 
@@ -19,12 +20,13 @@ impl Tls {
     }
 }
 
-/// For a host.
+/// Connects to one host.
 pub(super) struct To {
     connector: TlsConnector,
     host: rustls::ServerName,
 }
 
+/// A TLS stream to a server.
 pub(super) struct Stream<S>(client::TlsStream<S>);
 
 impl<S> MakeTlsConnect<S> for Tls
@@ -59,7 +61,7 @@ where
     }
 }
 
-/// The password is told to a server whose certificate is believed, so it is not bound to the channel too.
+/// No channel binding: the password is sent only after the server's certificate was verified.
 impl<S: AsyncRead + AsyncWrite + Unpin> TlsStream for Stream<S> {
     fn channel_binding(&self) -> ChannelBinding {
         ChannelBinding::none()

@@ -1,7 +1,7 @@
-//! Things that are worked at side by side, and put somewhere one after the other, in the order in which they came.
+//! Processes items in parallel and puts the results in the order in which the items came.
 //!
-//! Each thread works at the next one that waits. One thread more gets what is done in that order, and puts it: so no thread
-//! that works waits for another's work, and few are under way at a time.
+//! Each worker takes the next item that waits. One more thread collects the results in order and puts them, so no
+//! worker waits for another's result, and few items are in flight at a time.
 
 use super::{locked, threads};
 use std::convert::Infallible;
@@ -9,27 +9,28 @@ use std::sync::mpsc::{channel, sync_channel, Receiver, Sender, SyncSender};
 use std::sync::Mutex;
 use std::thread;
 
-/// So many wait, or are under way, for each thread.
+/// How many items may wait or be in flight for each thread.
 const FOR_A_THREAD: usize = 8;
 
+/// The queue that `give` fills.
 pub struct WorkQueue<T> {
     to_work: Sender<Waiting<T>>,
     to_put: SyncSender<Next<T>>,
 }
 
-/// One that nobody works at yet, and where it goes once that is done.
+/// An item that no worker has taken, and the channel for its result.
 type Waiting<T> = (T, SyncSender<T>);
 
-/// What comes next, in the order in which it was given.
+/// What is put next, in the order of the items.
 enum Next<T> {
-    /// From whoever works at it; nothing comes of one who panics.
+    /// The result of a worker; if the worker panics, there is none.
     One(Receiver<T>),
-    /// Dropped once all before it is put: whoever gives waits for that.
+    /// Dropped when everything before it has been put; `wait_until_empty` waits for that.
     Mark(Sender<()>),
 }
 
-/// Gives `work` each that `give` puts into the queue, side by side, and then `put`, in order, until that fails. Returns once all
-/// is done, with the first fault of `put`, or else that of `give`.
+/// Has workers process the items that `give` queues, and `put` take them in order, until it fails. Returns after the
+/// last item, with the first error of `put`, or else that of `give`.
 pub fn in_order<T: Send, E: Send>(
     work: impl Fn(&mut T) + Sync,
     put: impl FnMut(T) -> Result<(), E> + Send,
@@ -56,7 +57,7 @@ fn work_at<T>(waiting: &Mutex<Receiver<Waiting<T>>>, work: &impl Fn(&mut T)) {
         };
         work(&mut one);
         if done.send(one).is_err() {
-            return; // no more is put
+            return; // nothing more is put
         }
     }
 }
@@ -74,7 +75,7 @@ fn put_all<T, E>(next: Receiver<Next<T>>, mut put: impl FnMut(T) -> Result<(), E
     Ok(())
 }
 
-/// What is made of each, side by side, is put in their order.
+/// Makes something of each piece in parallel, and puts the results in the order of the pieces.
 pub fn made_in_order<P: Send, M: Send>(
     pieces: impl Iterator<Item = P>,
     make: impl Fn(P) -> M + Sync,
@@ -95,17 +96,17 @@ pub fn made_in_order<P: Send, M: Send>(
 }
 
 impl<T> WorkQueue<T> {
-    /// Puts one behind the others, once there is room; false where no more is wanted.
+    /// Queues an item once there is room; false if no more is wanted.
     pub fn push(&self, one: T) -> bool {
         let (done, next) = sync_channel(1);
         self.to_put.send(Next::One(next)).is_ok() && self.to_work.send((one, done)).is_ok()
     }
 
-    /// Returns once all that came is put.
+    /// Waits until everything queued so far has been put.
     pub fn wait_until_empty(&self) {
         let (mark, reached) = channel();
-        let _ = self.to_put.send(Next::Mark(mark)); // where no more is put it is dropped
-        let _ = reached.recv(); // it ends, and nothing comes
+        let _ = self.to_put.send(Next::Mark(mark)); // dropped if nothing more is put
+        let _ = reached.recv(); // fails when the mark is dropped
     }
 }
 
@@ -115,7 +116,7 @@ mod tests {
     use std::sync::atomic::{AtomicUsize, Ordering::SeqCst};
     use std::time::Duration;
 
-    /// Some take long, so that others are done before them.
+    /// Some items take long, so that later ones are done before them.
     fn work(one: &mut (usize, bool)) {
         if one.0.is_multiple_of(7) {
             thread::sleep(Duration::from_micros(200));

@@ -1,8 +1,8 @@
 //! Calls that may block, made by a serving thread itself.
 //!
-//! If another thread made them, each post would wait for two threads to be woken, which takes more processor time than the post. So
-//! a serving thread leaves its runtime, makes the call for all tasks that asked, and goes back. `intake/threads` has another thread
-//! run the runtime while a call takes long.
+//! If another thread made them, each post would have to wake two threads, which takes more processor time than the post
+//! itself. So a serving thread leaves its runtime, makes the call for all tasks that asked, and returns. While a call
+//! takes long, `intake/threads` has another thread run the runtime.
 
 use std::cell::RefCell;
 use std::sync::Arc;
@@ -29,7 +29,8 @@ thread_local! {
     static ASKED: RefCell<Option<Asked>> = const { RefCell::new(None) };
 }
 
-/// Has this thread make the call after all tasks that are ready have had their turn. False if it serves nobody: then it makes none.
+/// Asks this thread to make the call once all ready tasks have run. False if it is no serving thread: then the call is
+/// not made.
 pub fn ask<C: OwnCall + 'static>(call: &Arc<C>) -> bool {
     ASKED.with_borrow_mut(|asked| {
         let Some(Asked { calls, waker }) = asked else {
@@ -53,13 +54,13 @@ pub struct OwnCalls {
 }
 
 impl OwnCalls {
-    /// Makes this thread one that serves.
+    /// Makes this thread a serving one.
     pub fn of_this_thread() -> OwnCalls {
         ASKED.set(Some(Asked::default()));
         OwnCalls::default()
     }
 
-    /// Tells what the last calls have reached. Ready once tasks have asked for others.
+    /// Reports what the last calls have reached. Ready when tasks have asked for others.
     pub fn poll_asked(&mut self, context: &mut Context) -> Poll<()> {
         for (call, reached) in self.under_way.drain(..).zip(self.reached.drain(..)) {
             call.tell(reached);
