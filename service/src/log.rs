@@ -35,6 +35,7 @@ const LAST_LINES: Duration = Duration::from_secs(1);
 /// The log of a serving process. A command writes to standard error directly.
 static LOG: OnceLock<Arc<Log>> = OnceLock::new();
 
+/// The queue between the threads that log and the one that writes.
 pub struct Log {
     state: Mutex<State>,
     changed: Condvar,

@@ -183,21 +183,25 @@ impl Desk {
         forwarded(|answer| unsafe { desk_take_book(&mut self.0, &mut flushes.0, book, most, answer) })
     }
 
+    /// Ends flushes whose requests were serialised: the books forget their points.
     pub fn settle(&mut self, flushes: &mut Flushes) -> Answer {
         // SAFETY: both handles are live and borrowed for this call alone.
         forwarded(|answer| answer.status = unsafe { desk_settle(&mut self.0, &mut flushes.0) })
     }
 
+    /// Ends flushes by making their points pending again.
     pub fn give_back(&mut self, flushes: &mut Flushes) -> Answer {
         // SAFETY: both handles are live and borrowed for this call alone.
         forwarded(|answer| answer.status = unsafe { desk_give_back(&mut self.0, &mut flushes.0) })
     }
 
+    /// Quarantines a sender in all books or in none.
     pub fn quarantine(&mut self, sender: &[u8]) -> Answer {
         // SAFETY: the handle is live and borrowed for this call alone; the slice outlives it.
         asked(|answer| answer.status = unsafe { desk_quarantine(&mut self.0, sender.as_ptr(), sender.len()) })
     }
 
+    /// Releases a sender in each book in which it is quarantined.
     pub fn lift(&mut self, sender: &[u8]) -> Answer {
         // SAFETY: the handle is live and borrowed for this call alone; the slice outlives it.
         forwarded(|answer| answer.status = unsafe { desk_lift(&mut self.0, sender.as_ptr(), sender.len()) })
@@ -216,11 +220,13 @@ impl Desk {
         unsafe { desk_entries(&mut self.0) }
     }
 
+    /// How many series all books have.
     pub fn series(&mut self) -> usize {
         // SAFETY: the handle is live and borrowed for this call alone.
         unsafe { desk_series(&mut self.0) }
     }
 
+    /// Writes the report of one book, which `Flushes::copy` returns.
     pub fn report(&mut self, flushes: &mut Flushes, book: usize) -> Answer {
         // SAFETY: both handles are live and borrowed for this call alone.
         asked(|answer| unsafe { desk_report(&mut self.0, &mut flushes.0, book, answer) })

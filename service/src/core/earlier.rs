@@ -50,8 +50,8 @@ impl Book {
         self.earlier.bytes
     }
 
-    /// Flushes each book in which a series has pending points of an earlier window than its next point. If these are in
-    /// flight, answers `InFlight` and changes nothing: the caller retries after that flush has ended.
+    /// Flushes each book in which a series has pending points of an earlier window than one of its points in `reader`.
+    /// If these are in flight, answers `InFlight` and changes nothing: the caller retries after that flush has ended.
     pub(super) fn cross(&mut self, reader: &mut Reader, last: u64) -> Result<(), Refused> {
         if self.earlier.first.is_none_or(|first| first >= last) {
             return Ok(());

@@ -48,6 +48,7 @@ impl Flushed {
     }
 }
 
+/// Copies the text that was written last.
 pub(super) fn copied(flushes: &mut Flushes, length: u64) -> Result<Vec<u8>, Refused> {
     let mut out = vec![0; usize::try_from(length).map_err(|_| Refused::NoMemory)?];
     match flushes.copy(&mut out) {

@@ -26,6 +26,7 @@ const TEXTS: u64 = 3;
 /// enough to forward everything in small parts. New series leave more, by this fraction of that part.
 const PART_OF_KNOWN: u64 = 4;
 
+/// The bytes of all threads but for their drifts, and the bounds by purpose.
 static USED: AtomicI64 = AtomicI64::new(0);
 static MOST: AtomicI64 = AtomicI64::new(i64::MAX);
 static MOST_OF_POSTS: AtomicI64 = AtomicI64::new(i64::MAX);
@@ -260,6 +261,7 @@ pub(super) struct Tried {
     at: *mut u8,
 }
 
+/// The valid address that stands for no block.
 static NO_BLOCK: u8 = 0;
 
 impl Tried {

@@ -331,6 +331,7 @@ impl Book {
         self.rounds.count(0);
     }
 
+    /// Quarantines a sender: its posts are refused, and its pending points are not flushed.
     pub fn quarantine(&mut self, sender: &str) -> Result<(), Refused> {
         let sender = sender.as_bytes();
         self.count_entries();
@@ -342,6 +343,7 @@ impl Book {
         done.map(drop)
     }
 
+    /// Releases a sender: its pending points are flushed again.
     pub fn lift(&mut self, sender: &str) -> Result<(), Refused> {
         self.earlier.note(0); // its pending points may be of any window
         self.count_entries();

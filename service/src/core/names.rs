@@ -1,5 +1,5 @@
-//! The numbers of series: the library's table of names, with a request for each number that names its series. Owned by
-//! `slot`; the journal refers to series by these numbers.
+//! The numbers of series: the library's table of names, with a request for each number that names its series.
+//! `slot/numbers` makes a table for posts, `keeper/numbers` one for a start; the journal refers to series by number.
 
 use super::book::{self, Answer, Reader};
 use super::memory;
@@ -13,6 +13,7 @@ use bytes::Bytes;
 use std::sync::atomic::{AtomicBool, AtomicU64, AtomicUsize, Ordering::Relaxed};
 use std::sync::{Arc, Mutex, MutexGuard, OnceLock, PoisonError, RwLock, RwLockReadGuard};
 
+/// Counts the tables of names of this process.
 static GENERATIONS: AtomicU64 = AtomicU64::new(1);
 
 /// The library wants a sender for each request; for naming any will do.
@@ -231,6 +232,7 @@ impl Names {
         named.push(text);
     }
 
+    /// Gives a reader points by number.
     pub(super) fn put(&self, reader: &mut Reader, sender: &[u8], words: &[u64], books: usize) -> Answer {
         reader.put(&mut self.handle(), sender, words, books)
     }

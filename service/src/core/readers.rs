@@ -17,6 +17,7 @@ const MOST_SPARE: usize = 160;
 /// Nobody waits long: the lock is held only to take or to return a reader.
 type Pool = Mutex<Vec<Kept>>;
 
+/// A reader in a pool.
 struct Kept {
     reader: Reader,
     /// The value of `TURN` when the reader was returned.
@@ -58,6 +59,7 @@ pub(super) fn with_reader<T>(work: impl FnOnce(&mut Reader) -> Result<T, Refused
     done
 }
 
+/// Returns a reader to the pool.
 pub(super) fn keep(reader: Reader) {
     let turn = TURN.load(Relaxed);
     let mut kept = Some(Kept { reader, turn });

@@ -3,9 +3,9 @@
 
 use super::Refused;
 
-/// A round is closed after so many posts, and after more if there are many series, since closing takes some
-/// microseconds for each series; but after at most a quarter of what a book has room for. It is also closed after so
-/// many points, since a round keeps them.
+/// A round is closed after so many posts, and after more if there are many series, since closing takes some microseconds
+/// for each series; but after at most about half of the posts that a book has room for. It is also closed after so many
+/// points, since a round keeps them.
 const LEAST_POSTS: usize = 4_000;
 const MOST_POSTS: usize = 16_000;
 const SERIES_FOR_A_POST: usize = 5;

@@ -269,8 +269,8 @@ fn posts_are_read_alike_on_both_sides() {
     }
 }
 
-/// How long a checkpoint holds the lock. Run it alone: cargo test --lib how_long_the_lock_is_held -- --ignored
-/// --nocapture
+/// How long a checkpoint holds the lock. Run it alone:
+/// `cargo test --lib how_long_the_lock_is_held -- --ignored --nocapture`
 #[test]
 #[ignore]
 fn how_long_the_lock_is_held() {

@@ -9,6 +9,7 @@ const TOGETHER: usize = 4;
 /// A text refers to a longer chain only if that saves so many bytes.
 const WORTH: usize = 16;
 
+/// All texts by number. A text is never changed or removed.
 #[derive(Default)]
 pub(super) struct Texts {
     pieces: Vec<Piece>,

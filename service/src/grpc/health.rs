@@ -36,6 +36,7 @@ pub fn is_asked(parts: &Parts) -> bool {
     parts.uri.path() == CHECK && is_grpc(&parts.headers)
 }
 
+/// Answers a health check. An error says what to send instead.
 pub async fn answer<T: Taker>(intake: &Intake<T>, parts: &Parts, body: &mut Body) -> Response<Body> {
     let mut hold = intake.budget.hold();
     let received = tokio::time::timeout(timeout::of(&parts.headers), message::receive(body, &mut hold)).await;

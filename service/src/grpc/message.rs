@@ -8,6 +8,7 @@ use hyper::body::{Body, HttpBody};
 /// The length of the prefix before a message.
 const PREFIX: usize = 5;
 
+/// The message of a call, still compressed if `is_packed`.
 #[derive(Debug, PartialEq, Eq)]
 pub struct Message {
     pub is_packed: bool,

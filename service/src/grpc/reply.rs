@@ -24,6 +24,7 @@ pub(super) struct Duration {
     pub seconds: i64,
 }
 
+/// The response to a post with this outcome.
 pub async fn response(outcome: &Outcome) -> Response<Body> {
     match outcome {
         Outcome::Taken { .. } => message(&outcome.body(Encoding::Protobuf)).await,

@@ -1,4 +1,5 @@
-//! Bounds the memory and the time of bodies that are still arriving. `body` asks it before each wait for more bytes.
+//! Bounds the memory and the time of bodies that are still arriving. `body` and `grpc/message` ask it before each wait for
+//! more bytes.
 //!
 //! A sender may pause at any byte while its bytes occupy memory. So all arriving bodies together may use at most half
 //! of the budget, and long ones less; the rest is for bodies that have arrived. Above a quarter of the budget, no

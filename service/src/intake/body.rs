@@ -1,5 +1,5 @@
 //! Receives the body of a post within its time, and unpacks it within its length and the memory budget. `Intake` calls
-//! it for HTTP; bodies from gRPC or from another instance are only unpacked here.
+//! it for HTTP; bodies from gRPC are only unpacked here.
 
 use super::arrival::Arrival;
 use super::head::Packing;

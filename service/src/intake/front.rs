@@ -201,8 +201,8 @@ impl Waiting {
         self.ending
     }
 
-    /// Waits until an answer is sent; whether it was. A sender that does not read gets as long as an idle one, or about
-    /// one period while another client waits for a permit.
+    /// Waits until an answer is sent, and returns whether it was. A sender that does not read gets as long as an idle
+    /// one, or two periods while another client waits for a permit.
     async fn is_sent(&mut self, sending: impl Future<Output = std::io::Result<()>>) -> bool {
         let mut sending = pin!(sending);
         let mut looks = 0;

@@ -13,6 +13,7 @@ use tokio::io::{AsyncRead, AsyncWrite, ReadBuf};
 /// How long a connection may be idle while another client waits for a permit.
 const SHORT: Duration = Duration::from_secs(1);
 
+/// What the connection is waiting for.
 #[derive(Clone, Copy, Debug, PartialEq, Eq)]
 enum Phase {
     /// No byte has come yet.

@@ -100,8 +100,7 @@ impl ConnectionPermits {
         self.has_waiter.load(Relaxed)
     }
 
-    /// Whether the calling connection has to close for a waiting client. Only one connection gets true for each waiting
-    /// client.
+    /// Whether the calling connection has to close for a waiting client. Each time that is wanted, one connection gets true.
     pub fn has_to_close(&self) -> bool {
         self.wants_close.load(Relaxed) && self.wants_close.swap(false, Relaxed)
     }

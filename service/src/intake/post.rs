@@ -17,6 +17,7 @@ use std::sync::Arc;
 pub(super) const WHILE_READ_JSON: usize = 8;
 const WHILE_READ_PROTOBUF: usize = 24;
 
+/// A request that was read, for its shards.
 pub(super) struct Post<T> {
     pub sender: String,
     pub asked: Asked<T>,
@@ -24,6 +25,7 @@ pub(super) struct Post<T> {
     pub hold: Hold,
 }
 
+/// How a request is divided among shards.
 pub(super) enum Asked<T> {
     /// One shard takes all of it.
     Whole(Ask<T>),
@@ -58,6 +60,7 @@ pub(super) struct Here<T> {
 }
 
 impl<T: Taker> Ask<T> {
+    /// Asks the shard and returns its outcome.
     pub async fn answered(self, sender: &str, slots: &Slots<T>, metrics: &Metrics) -> Outcome {
         match self {
             Ask::Here(here) => {

@@ -7,6 +7,7 @@ use crate::core;
 use crate::identity::Stranger;
 use crate::otlp::{Outcome, Reason, Refused};
 
+/// Why a request is refused; the text is the message of the answer.
 #[derive(Debug, thiserror::Error)]
 pub enum Refusal {
     #[error("no such path: metrics are posted to /v1/metrics, without a slash behind it")]

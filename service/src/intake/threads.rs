@@ -31,6 +31,7 @@ const PATIENCE: Duration = Duration::from_millis(100);
 /// All serving threads. They end when this is dropped, and abandon what they do.
 pub struct Threads(Arc<[Thread]>);
 
+/// A serving thread, as its owner sees it.
 struct Thread {
     name: String,
     runtime: Handle,

@@ -110,6 +110,7 @@ fn replay(
 /// How a post is put in again.
 type Admit = fn(&mut Book, &mut Read) -> Result<(), Refused>;
 
+/// A replay of the journal into a fresh book.
 struct Filling<'a, S> {
     numbers: Numbers,
     fresh: Fresh<'a>,

@@ -34,6 +34,7 @@ use tokio::sync::{mpsc, oneshot};
 /// How many orders may wait for their turn; further callers wait to queue theirs.
 const WAITING_ORDERS: usize = 16;
 
+/// The settings of a keeper.
 #[derive(Clone, Debug)]
 pub struct Settings {
     /// The time between two checkpoints.

@@ -8,6 +8,7 @@ use crate::slot::{is_sender, Slot};
 use crate::work::blocking;
 
 impl Keeper {
+    /// Carries out an order, durably.
     pub(super) async fn carry_out(&mut self, order: Order) -> Result<Done, Trouble> {
         match order {
             Order::Checkpoint => Ok(match self.checkpoint().await? {

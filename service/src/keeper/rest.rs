@@ -23,6 +23,7 @@ impl Rest {
 }
 
 impl Keeper {
+    /// Gives back memory if nothing was posted since the last look, and a look is due.
     pub(super) async fn rest(&mut self) {
         if Instant::now() < self.rest.next {
             return;

@@ -19,6 +19,7 @@ const OURS: &str = "totxegun";
 /// The name that `tracing` gives to a line's text.
 const TEXT: &str = "message";
 
+/// The form of a log line.
 #[derive(Clone, Copy, Debug, Default, PartialEq, Eq)]
 pub struct Form {
     /// One JSON object a line, with `time`, `level`, `text` and the line's fields.

@@ -1,5 +1,5 @@
-//! The metrics of the service, and the page that Prometheus scrapes. Everything counts here; the page is served by
-//! `operate`. Labels never take unbounded values from senders.
+//! The metrics of the service, and the page that Prometheus scrapes. All parts of the service count here, and `operate`
+//! serves the page. No label takes an unbounded number of values from senders.
 
 mod cluster;
 mod make;

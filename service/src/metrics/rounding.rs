@@ -39,6 +39,7 @@ pub struct SeriesOfRule {
 /// By rule and series.
 pub struct RoundingBySeries(Mutex<Table>);
 
+/// The table behind the lock.
 struct Table {
     /// How many series there is room for.
     most: usize,
@@ -47,6 +48,7 @@ struct Table {
     rules: BTreeMap<Arc<str>, HashMap<u64, One>>,
 }
 
+/// A rounded series.
 struct One {
     of: Arc<ShownSeries>,
     rounding: Rounding,

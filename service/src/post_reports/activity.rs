@@ -28,7 +28,7 @@ pub struct OfSender {
     pub last: u64,
     /// Refused posts, by reason.
     pub refused: BTreeMap<Reason, OfReason>,
-    /// By reason, the metric of the first rejected point that the log had last.
+    /// By reason, the metric that the log named last for rejected points.
     pub rejected: BTreeMap<Reason, String>,
 }
 

@@ -46,6 +46,7 @@ impl Default for Logged {
     }
 }
 
+/// How many posts of a sender were read for reasons, and which reasons the log has.
 #[derive(Default)]
 pub(super) struct LoggedOf {
     pub(super) read: usize,
@@ -123,6 +124,7 @@ impl Reporter {
         strangers.get_mut(&address).is_some() || (!strangers.is_full() && strangers.is_due(&address))
     }
 
+    /// Whether a post of the sender is to be read for reasons that the log does not have.
     pub(super) fn may_tell_more(&self, sender: &str) -> bool {
         if self.options.now().log_rejected == 0 {
             return false;
@@ -155,6 +157,7 @@ impl Reporter {
         }
     }
 
+    /// Logs that a sender posts to another sender's series, once an hour for each series.
     pub(super) fn tell_owner(&self, sender: &str, series: SeriesKey, owner: &Owner) {
         if locked(&self.logged).series.get_mut(&series).is_some() {
             return;

@@ -14,6 +14,7 @@ pub struct ReportOptions {
     pub profile: Profile,
 }
 
+/// The current options.
 pub(super) struct Changing(RwLock<Arc<ReportOptions>>);
 
 impl Changing {

@@ -64,6 +64,7 @@ pub(crate) fn late(named: &str, interval: Interval, frontier: u64) -> String {
     )
 }
 
+/// About a series with this name that a post contains twice over one time.
 pub(crate) fn twice(named: &str, interval: Interval) -> String {
     let not_counted = not_counted(interval);
     format!(
@@ -72,6 +73,7 @@ pub(crate) fn twice(named: &str, interval: Interval) -> String {
     )
 }
 
+/// About a point of another sender's series with this name.
 pub(crate) fn of_another(named: &str, interval: Interval) -> String {
     let not_counted = not_counted(interval);
     format!(": {named} is another sender's{not_counted}: give each process its own service.instance.id")

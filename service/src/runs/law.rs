@@ -1,5 +1,5 @@
-//! The law of runs: decides, case by case, what a cumulative point adds. `draft` asks it for posts, and a start for the
-//! journal.
+//! The law of runs: decides, case by case, what a cumulative point adds. `draft` asks it for each post; a start applies
+//! the entries of the journal again (`Entry::after`).
 //!
 //! A *run* is what a series counts from one start on. For each series the last point that was taken is kept, so the
 //! next point adds the difference, or, if its run began later, all of it. Points of other runs are refused by name, so
@@ -64,7 +64,7 @@ pub enum First {
     Drop,
 }
 
-/// What a word that goes down is.
+/// How a word that went down is treated.
 #[derive(Clone, Copy, Debug, Default, PartialEq, Eq, clap::ValueEnum)]
 pub enum Reset {
     /// A fault of the sender, refused by name

@@ -46,6 +46,7 @@ pub type Locked<'r> = MutexGuard<'r, State>;
 /// An index that was not looked up yet.
 const UNKNOWN: u32 = u32::MAX;
 
+/// What is known of all runs.
 #[derive(Default)]
 pub struct State {
     since: Since,

@@ -45,6 +45,7 @@ impl Buckets {
         Ok(())
     }
 
+    /// Returns points to a sender's bucket.
     pub fn give_back(&mut self, sender: &str, cost: Duration) {
         if let Some(full) = self.0.get_mut(sender) {
             *full = full.checked_sub(cost).unwrap_or(*full);

@@ -13,6 +13,7 @@ use std::time::{Duration, Instant};
 /// shard may have moved to another instance.
 const LONGEST: Duration = Duration::from_secs(600);
 
+/// The counts of series, of all senders and of each.
 #[derive(Default)]
 pub struct Counted {
     all: AtomicU64,
@@ -102,6 +103,7 @@ impl Counted {
         self.claimed.fetch_update(Relaxed, Relaxed, claim).is_ok()
     }
 
+    /// Ends a claim of `claim_of_all`.
     pub fn give_back_of_all(&self, claimed: u64) {
         self.claimed.fetch_sub(claimed, Relaxed);
     }
@@ -168,6 +170,7 @@ impl Counted {
         new
     }
 
+    /// How many series there are.
     pub fn all(&self) -> u64 {
         self.all.load(Relaxed)
     }

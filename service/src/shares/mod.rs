@@ -31,7 +31,7 @@ const LOOK: Duration = Duration::from_secs(1);
 /// counts as new.
 const AGAIN: u64 = 10;
 
-/// How long, and how often at most, a post waits for other posts of the same sender.
+/// How long, and how often at most, a post waits for other posts in flight.
 const PAUSE: Duration = Duration::from_millis(20);
 const PAUSES: usize = 10;
 

@@ -35,6 +35,7 @@ pub trait Owned: Send + Sync + 'static {
     fn has(&self, series: &SeriesKey) -> bool;
 }
 
+/// The quotas of a service.
 pub struct Rules {
     /// The limit of the service.
     pub max_series: u64,

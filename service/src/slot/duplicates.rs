@@ -26,6 +26,7 @@ struct Late {
     places: Vec<u32>,
 }
 
+/// Sorts the points of a post into fates, as far as their order decides them.
 #[derive(Default)]
 struct Sorting {
     fates: Vec<Fate>,

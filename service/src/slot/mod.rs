@@ -284,6 +284,7 @@ impl Slot {
         self.ungrouped.fetch_sub(posts, Ordering::Relaxed);
     }
 
+    /// How many posts are in the journal and in no group.
     pub(crate) fn ungrouped(&self) -> u64 {
         self.ungrouped.load(Ordering::Relaxed)
     }

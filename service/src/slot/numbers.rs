@@ -27,8 +27,8 @@ struct Limits {
 const LIMITS: Limits = Limits { bytes: 1 << 10, kept: Duration::from_secs(60) };
 /// All series use at most this fraction of the book's memory; the library uses about as much for them.
 const PART_OF_ALL: u64 = 8;
-/// The bound for the numbers of a single post: in a small point of some bytes each series has all attributes that the
-/// points share, some kilobytes.
+/// The bound for the numbers of a single post: each of its series repeats the attributes that its points share, some
+/// kilobytes for a point of a few bytes.
 const MOST_OF_ONE: usize = 256 << 20;
 
 /// A request as it goes to the book. Large parts are boxed, because each future on the way of a post contains it.
@@ -66,6 +66,7 @@ struct Generation {
     began: Instant,
 }
 
+/// The current generation of numbers, shared by all shards of a process.
 pub(super) struct Numbers {
     /// None until the first request comes, or if there is no memory for them.
     now: RwLock<Option<Arc<Generation>>>,

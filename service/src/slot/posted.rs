@@ -32,6 +32,7 @@ pub struct LeftOut {
 }
 
 impl Posted {
+    /// A post of which nothing is left out.
     pub fn whole(read: Read) -> Posted {
         Posted { read, left_out: LeftOut::default(), source: None, late: None }
     }
@@ -82,6 +83,7 @@ pub struct RequestReader<'a> {
 }
 
 impl RequestReader<'_> {
+    /// Parses a request in either form.
     pub fn read(&self, sender: String, request: Request) -> Result<Posted, Refused> {
         match request {
             Request::Text(body) => self.read_text(sender, body),

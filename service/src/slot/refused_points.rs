@@ -11,6 +11,7 @@ use crate::post_reports::{late, named, of_another, twice, Interval};
 use std::mem::{discriminant, take};
 use std::sync::Arc;
 
+/// Collects the refused points of one post.
 #[derive(Default)]
 pub(super) struct RefusedPoints {
     by_reason: Vec<OfReason>,

@@ -238,6 +238,7 @@ impl Slot {
         }
     }
 
+    /// Puts a post into the locked book and appends it to the journal before the lock is released.
     pub(super) fn put_locked(&self, mut book: Locked<'_>, posted: &mut Posted) -> Result<Put, Refused> {
         let before = book.series();
         let admitted = book.admit(&mut posted.read);

@@ -55,6 +55,7 @@ impl<T> Slots<T> {
         Arc::new(Slots { resources: Some(resources), here, elsewhere })
     }
 
+    /// Where a request goes: to a shard here, or by the resources in it.
     pub fn way(&self, encoding: Encoding, body: &Bytes) -> Way<T> {
         let split = match &self.resources {
             None => Split::Whole(0),

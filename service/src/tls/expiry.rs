@@ -8,6 +8,7 @@ use prometheus::proto::MetricFamily;
 use prometheus::IntGauge;
 use std::sync::Arc;
 
+/// The metric and the contexts that it is read from.
 struct Expiry {
     not_after: IntGauge,
     contexts: Arc<Reloaded<Contexts>>,

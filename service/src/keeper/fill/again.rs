@@ -30,6 +30,7 @@ pub struct Groups<'c> {
     last: AHashMap<String, usize>,
 }
 
+/// Posts of one sender that go in together.
 #[derive(Default)]
 struct Group {
     posts: Vec<Post>,

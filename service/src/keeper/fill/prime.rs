@@ -25,6 +25,7 @@ pub struct Priming {
     stop: Stop,
 }
 
+/// Tells the thread to stop when it is dropped.
 struct Stop(Arc<AtomicBool>);
 
 impl Drop for Stop {

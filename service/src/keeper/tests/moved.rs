@@ -1,5 +1,5 @@
-//! A shard whose files are in a store: another instance takes it over at each call of its drive, one after another, and
-//! has exactly what was answered. Senders retry what got no answer.
+//! A shard whose files are in a store: another instance takes it over at each call of the shard store, one after
+//! another, and has exactly what was answered. Senders retry what got no answer.
 
 use super::cumulative::{self, text, BEGIN};
 use super::*;
@@ -234,7 +234,7 @@ fn losing(store: &Arc<Store>, next: &Next, call: u64, more: Option<u64>, how: Ho
     })
 }
 
-/// Does all steps with a drive that loses the shard at its call of this number; returns how often the shard moved.
+/// Does all steps with a shard store that loses the shard at its call of this number; returns how often the shard moved.
 async fn lose_at(call: u64, more: Option<u64>, how: How) -> u64 {
     let (store, next) = (Arc::new(Store::default()), Next::default());
     let run = began(losing(&store, &next, call, more, how)).await;

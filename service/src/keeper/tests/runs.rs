@@ -344,7 +344,7 @@ async fn delta_and_cumulative_points_of_a_series_never_count_one_span_twice() {
 /// once.
 #[tokio::test(flavor = "multi_thread")]
 async fn a_journal_that_is_cut_anywhere_goes_on_with_what_is_posted_again() {
-    const HEADER: usize = 64; // and the mark before it
+    const HEADER: usize = 64; // and the durable watermark before it
     let place = tempfile::tempdir().unwrap();
     let path = place.path().join("data0");
     let options = Options { first: First::Count, reset: Reset::Refuse };

@@ -265,7 +265,7 @@ fn numbers_of_one_post_alone_have_a_bound_too() {
 /// Otherwise many such posts at once could use up the room that the disk keeps back.
 #[test]
 fn a_post_asks_for_the_room_that_it_takes_in_the_journal() {
-    const HEAD: u64 = 80; // of its record, and of the mark before it
+    const HEAD: u64 = 80; // of its record, and of the durable watermark before it
     const NAME: u64 = 16; // the record of a name, without its text
     let place = tempfile::tempdir().unwrap();
     let folder = Folder::open(place.path(), Durability::Process).unwrap();
