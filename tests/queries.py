@@ -537,7 +537,7 @@ class Bill:
     def acts(self) -> None:
         with open(f"{self.folder}/bill/acts.jsonl", encoding="utf-8") as file:
             acts = [json.loads(line) for line in file]
-        done = [act["act"] for act in acts if act.get("outcome", "").startswith("done: ")]
+        done = [act["action"] for act in acts if act.get("outcome", "").startswith("done: ")]
         self.checks.same(f"{self.what}: acts", ["adjust", "adjust", "close", "adjust"], done)
         whos = {act["who"] for act in acts}
         self.checks.true(f"{self.what}: who did them", len(whos) == 1 and "" not in whos, whos)

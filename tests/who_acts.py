@@ -48,7 +48,7 @@ def work(totxegun: str, checks: Checks, stack: contextlib.ExitStack) -> None:
     with open(f"{at}/data/acts.jsonl", encoding="utf-8") as file:
         acts = [json.loads(line) for line in file]
     names = {("A", "root"), ("B", f"uid {USER}"), ("C", "ann (as root)")}
-    checks.same("each act has who gave it", names, {(act["of"], act["who"]) for act in acts})
+    checks.same("each act has who gave it", names, {(act["target"], act["who"]) for act in acts})
     checks.same("SIGTERM ends it", 0, service.end()[0])
 
 

@@ -111,7 +111,7 @@ pub struct Options {
     /// What the log has: `debug` also what is only for a fault of the service
     #[arg(long, env = "TOTXEGUN_LOG_LEVEL", value_name = "LEVEL", default_value = "info", value_parser = levels())]
     log_level: LevelFilter,
-    /// Writes each line of the log as a JSON object, with `time`, `level`, `text` and what it is about
+    /// Writes each line of the log as a JSON object, with `ts`, `level`, `msg` and what it is about
     #[arg(long, env = "TOTXEGUN_LOG_JSON")]
     log_json: bool,
     /// The most memory that all posts may take until they are answered

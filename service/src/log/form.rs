@@ -22,7 +22,7 @@ const TEXT: &str = "message";
 /// The form of a log line.
 #[derive(Clone, Copy, Debug, Default, PartialEq, Eq)]
 pub struct Form {
-    /// One JSON object a line, with `time`, `level`, `text` and the line's fields.
+    /// One JSON object a line, with `ts`, `level`, `msg` and the line's fields.
     pub is_json: bool,
     /// Each line begins with its priority, for journald.
     pub has_priority: bool,
@@ -52,7 +52,7 @@ impl Form {
     }
 
     fn object(self, level: Level, text: &str, fields: &[(&str, Value)]) -> String {
-        let own = [("time", now()), ("level", level.to_string()), ("text", all_shown(text))];
+        let own = [("ts", now()), ("level", level.to_string()), ("msg", all_shown(text))];
         let own = own.map(|(name, value)| (name, Value::from(value)));
         let members = own.iter().chain(fields);
         let members = members.map(|(name, value)| format!("{}:{value}", Value::from(*name)));
@@ -184,9 +184,9 @@ mod tests {
         let text = written(true, false);
         let read = |line: &str| serde_json::from_str::<Value>(line).unwrap();
         let [warning, error] = text.lines().map(read).collect::<Vec<Value>>().try_into().unwrap();
-        assert!(text.starts_with("{\"time\":\"20"), "{text}");
+        assert!(text.starts_with("{\"ts\":\"20"), "{text}");
         assert_eq!(warning["level"], "WARN");
-        assert_eq!(warning["text"], "points of a <3>are not taken: x [2J \"y\"");
+        assert_eq!(warning["msg"], "points of a <3>are not taken: x [2J \"y\"");
         assert_eq!(warning["sender"], "a");
         assert_eq!(warning["reason"], "x [2J \"y\"");
         assert_eq!(warning["points"], 7);

@@ -89,12 +89,12 @@ pub struct Act {
 
 #[derive(Serialize)]
 struct Written<'a> {
-    time: String,
+    ts: String,
     who: &'a str,
-    act: &'static str,
-    of: &'a str,
+    action: &'static str,
+    target: &'a str,
     #[serde(skip_serializing_if = "<[_]>::is_empty")]
-    given: &'a [&'static str],
+    args: &'a [&'static str],
     /// None before it is carried out.
     #[serde(skip_serializing_if = "Option::is_none")]
     outcome: Option<&'a str>,
@@ -158,9 +158,9 @@ impl Acts {
         let beside = if given.is_empty() { "" } else { " " };
         tracing::info!(
             who,
-            act = what,
-            of,
-            given,
+            action = what,
+            target = of,
+            args = given,
             outcome,
             "{what} {of}{beside}{given}, by {who}: {outcome}"
         );
@@ -169,7 +169,7 @@ impl Acts {
 
     fn put(&self, act: &Act, outcome: Option<&str>) {
         let Act { who, asked: Asked { what, of, given } } = act;
-        let line = Written { time: crate::log::now(), who, act: what, of, given, outcome };
+        let line = Written { ts: crate::log::now(), who, action: what, target: of, args: given, outcome };
         let _one = locked(&self.file);
         if let Err(error) = self.append(&line, outcome.is_none()) {
             let (file, reason) = (self.folder.join(NAME).display().to_string(), error.to_string());
@@ -229,14 +229,14 @@ mod tests {
         let act = Act::new(Actor::User(None), Asked::new("dead-letters drop", "0-a-1\n{\"who\":\"root\"}"));
         acts.begins(&act);
         let first = lines(folder.path(), NAME);
-        assert_eq!((&first[0]["who"], &first[0]["act"]), (&"operator".into(), &"dead-letters drop".into()));
+        assert_eq!((&first[0]["who"], &first[0]["action"]), (&"operator".into(), &"dead-letters drop".into()));
         assert!(first[0].get("outcome").is_none() && first.len() == 1, "{first:?}");
         let mode = std::fs::metadata(folder.path().join(NAME)).unwrap().permissions().mode();
         assert_eq!(mode & 0o077, 0, "{mode:o}: others may read it");
         acts.ended(&act, "no such\u{1b}request");
         let both = lines(folder.path(), NAME);
         assert_eq!((both.len(), &both[1]["outcome"]), (2, &"no such request".into()));
-        assert_eq!(both[1]["of"], "0-a-1 {\"who\":\"root\"}");
+        assert_eq!(both[1]["target"], "0-a-1 {\"who\":\"root\"}");
     }
 
     /// Nobody else is believed.
@@ -263,7 +263,7 @@ mod tests {
             let asked = Asked::new("forget", "a".repeat(2 * SHOWN)).with("--all", all).with("--force", force);
             acts.begins(&Act::new(Actor::User(None), asked));
         }
-        let given = |line: &serde_json::Value| line.get("given").map(ToString::to_string);
+        let given = |line: &serde_json::Value| line.get("args").map(ToString::to_string);
         let found: Vec<_> = lines(folder.path(), NAME).iter().map(given).collect();
         assert_eq!(found, [None, Some(r#"["--all"]"#.into()), Some(r#"["--all","--force"]"#.into())]);
     }
@@ -288,7 +288,7 @@ mod tests {
     #[test]
     fn an_act_behind_a_line_that_was_cut_has_its_own() {
         let folder = tempfile::tempdir().unwrap();
-        let cut = "{\"time\":\"2026-11-27T1";
+        let cut = "{\"ts\":\"2026-11-27T1";
         std::fs::write(folder.path().join(NAME), cut).unwrap();
         let acts = Acts::in_folder(folder.path());
         let act = Act::new(Actor::User(None), Asked::new("release", "A"));

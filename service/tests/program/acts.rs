@@ -30,7 +30,7 @@ fn who_did_what_and_what_came_of_it() {
     let text = std::fs::read_to_string(place.data().join("acts.jsonl")).unwrap();
     let who = own_name();
     let acts: Vec<serde_json::Value> = text.lines().map(|line| serde_json::from_str(line).unwrap()).collect();
-    let found: Vec<_> = acts.iter().map(|act| (&act["act"], &act["of"], act.get("outcome"))).collect();
+    let found: Vec<_> = acts.iter().map(|act| (&act["action"], &act["target"], act.get("outcome"))).collect();
     let mut wanted = Vec::new();
     let no_such =
         "404: no such request: it was never put aside, or is gone, taken by the sink or thrown away";
@@ -62,7 +62,7 @@ fn a_close_is_recorded_with_the_option_that_was_given() {
     }
     let text = std::fs::read_to_string(place.data().join("acts.jsonl")).unwrap();
     let acts = text.lines().map(|line| serde_json::from_str::<serde_json::Value>(line).unwrap());
-    let given: Vec<_> = acts.map(|act| format!("{} {}", act["of"], act["given"])).collect();
+    let given: Vec<_> = acts.map(|act| format!("{} {}", act["target"], act["args"])).collect();
     let both = [r#""1970-01" ["--flush"]"#, r#""1970-02" ["--force"]"#];
     assert_eq!(given, both.map(|one| [one; 2]).concat());
 }

@@ -23,7 +23,7 @@ fn acts(place: &Place) -> Vec<String> {
     ended
         .map(|line| {
             let act: serde_json::Value = serde_json::from_str(line).unwrap();
-            format!("{} {}", act["act"].as_str().unwrap(), act["of"].as_str().unwrap())
+            format!("{} {}", act["action"].as_str().unwrap(), act["target"].as_str().unwrap())
         })
         .collect()
 }

@@ -139,7 +139,7 @@ fn late_data_is_booked_once() {
     assert_eq!(rows.lines().collect::<Vec<_>>(), wanted);
     let acts = std::fs::read_to_string(place.data().join("acts.jsonl")).unwrap();
     assert!(
-        acts.contains(&format!("\"act\":\"adjust\",\"of\":\"--late {key}\"")) && !acts.contains("dry"),
+        acts.contains(&format!("\"action\":\"adjust\",\"target\":\"--late {key}\"")) && !acts.contains("dry"),
         "{acts}"
     );
     service.has_no_fault();

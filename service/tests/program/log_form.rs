@@ -21,7 +21,7 @@ fn a_log_in_json_has_an_object_a_line_with_its_fields() {
     let read = |line: &str| serde_json::from_str::<serde_json::Value>(line).map_err(|_| line.to_string());
     let lines: Vec<_> = log.lines().map(read).collect::<Result<_, _>>().unwrap();
     for line in &lines {
-        for field in ["time", "level", "text"] {
+        for field in ["ts", "level", "msg"] {
             assert!(line[field].is_string(), "{line}");
         }
     }
@@ -31,7 +31,7 @@ fn a_log_in_json_has_an_object_a_line_with_its_fields() {
     assert_eq!(field("level"), "WARN");
     assert_eq!(sink, format!("otlp {NO_SINK}"));
     assert!(key.starts_with("0-") && reason.starts_with("no answer"), "{told}");
-    assert_eq!(field("text"), format!("{sink} has not taken request {key}: {reason}; it is sent again"));
+    assert_eq!(field("msg"), format!("{sink} has not taken request {key}: {reason}; it is sent again"));
 }
 
 #[test]

@@ -136,7 +136,7 @@ fn a_token_is_taken_over_tcp() {
     let by_token = |words: &[&str]| text(&told(&[words, &both].concat(), ""));
     assert!(by_token(&["quarantine", "A"]).starts_with("done: nothing of A is known yet"));
     let acts = || std::fs::read_to_string(place.data().join("acts.jsonl")).unwrap();
-    assert!(acts().contains("\"who\":\"ann\",\"act\":\"quarantine\""), "{}", acts());
+    assert!(acts().contains("\"who\":\"ann\",\"action\":\"quarantine\""), "{}", acts());
     // A page that has it is one of somebody else all the same.
     let mut command = Command::new("curl");
     command.args([

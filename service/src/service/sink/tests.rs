@@ -111,7 +111,7 @@ fn a_new_sink_is_taken_by_name_and_kept() {
     let acts = std::fs::read_to_string(place.file("data/acts.jsonl")).unwrap();
     let (begun, ended) = acts.split_once('\n').unwrap();
     let what = format!("in the place of sqlite {}", one.display());
-    assert!(begun.contains("\"act\":\"new sink\"") && begun.contains(&what), "{acts}");
+    assert!(begun.contains("\"action\":\"new sink\"") && begun.contains(&what), "{acts}");
     assert!(ended.contains("done; requests that waited: 1") && ended.lines().count() == 1, "{acts}");
     place.is_refused(one.to_str().unwrap(), &["other.db (id ", "one.db (id "]);
     // Including a sink that is not there yet, by its address.

@@ -166,7 +166,7 @@ fn acts(service: &Service) -> Vec<(String, String, Option<String>)> {
     let word = |line: &Json, name: &str| line[name].as_str().map(String::from);
     lines
         .map(|line| {
-            let (who, act) = (word(&line, "who").unwrap(), word(&line, "act").unwrap());
+            let (who, act) = (word(&line, "who").unwrap(), word(&line, "action").unwrap());
             (who, act, word(&line, "outcome"))
         })
         .collect()
@@ -354,7 +354,7 @@ async fn series_are_found_in_all_slots_and_forgotten_by_the_instances_that_have_
         let text = std::fs::read_to_string(service.place.join("acts.jsonl")).unwrap();
         let last: Json = serde_json::from_str(text.lines().next_back().unwrap()).unwrap();
         assert_eq!(
-            (&last["act"], &last["given"].to_string()[..]),
+            (&last["action"], &last["args"].to_string()[..]),
             (&"forget".into(), r#"["--all","--force"]"#)
         );
     }
