@@ -182,14 +182,14 @@ class Causes:
 
     def settle_letters(self, deed: str) -> None:
         self.sink.mood(["well"])
-        _, body = self.service.asked("GET", "/dead")
+        _, body = self.service.asked("GET", "/dead-letters")
         for letter in json.loads(body):
-            self.service.order(f"/dead/{letter['key']}/{deed}")
+            self.service.order(f"/dead-letters/{letter['key']}/{deed}")
 
     def of_sink(self) -> None:
         self.sees("SinkBehind", "a sink that is down", lambda: self.in_mood("busy"), lambda: self.sink.mood(["well"]))
         self.sees("SinkDenies", "a sink that lets nobody in", lambda: self.in_mood("deny"), lambda: self.sink.mood(["well"]))
-        self.sees("DeadRequests", "a request that is refused", lambda: self.in_mood("refuse"),
+        self.sees("DeadLetters", "a request that is refused", lambda: self.in_mood("refuse"),
                   lambda: self.settle_letters("resend"))
         self.sees("Fault", "a point that the sink rejects", lambda: self.in_mood("part"), lambda: self.settle_letters("drop"))
         self.sees("Down", "a service that is killed", self.service.kill, self.service.start)

@@ -38,7 +38,7 @@ SENDERS = 6
 # Before each kill, in seconds.
 PAUSE = 1
 LIMIT = 4_194_304
-HIDDEN = ["/", "/flush", "/report", "/metrics", "/status", "/dead", "/quarantine/sender-1", "//flush", "/%66lush",
+HIDDEN = ["/", "/flush", "/report", "/metrics", "/status", "/dead-letters", "/quarantine/sender-1", "//flush", "/%66lush",
           "/v1/metrics/../../flush", "/v1/metrics/"]
 # Of whose tokens, beside those of the senders.
 TOKENS = {"t0ken": "by-token"}

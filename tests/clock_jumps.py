@@ -156,7 +156,7 @@ def main(program: str, seconds: float = 2.0) -> int:
         checks.true("the sink gets all", wait_until(service.is_drained), service.last_lines())
         look(checks, ask, senders, closed, before)
         checks.same("nothing is that must not be", [], service.faults())
-        checks.same("no request is put aside", [], os.listdir(f"{folder}/data/dead"))
+        checks.same("no request is put aside", [], os.listdir(f"{folder}/data/dead-letters"))
         checks.same("SIGTERM ends it", 0, service.end()[0])
     return checks.end()
 

@@ -124,8 +124,8 @@ class Runs:
         self.look(folder, 1, (7,), -2)
         service.order_done(f"/reopen/{NAME}")
         self.look(folder, 0, (7,), -2)
-        if service.faults() or os.listdir(f"{folder}/data/dead"):
-            raise Failed(f"{service.faults()} {os.listdir(f'{folder}/data/dead')}")
+        if service.faults() or os.listdir(f"{folder}/data/dead-letters"):
+            raise Failed(f"{service.faults()} {os.listdir(f'{folder}/data/dead-letters')}")
 
     @staticmethod
     def look(folder: str, closed: int, late: Sequence[int], corrected: int) -> None:

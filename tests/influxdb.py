@@ -186,7 +186,7 @@ def run(checks: Checks, program: str, folder: str, seconds: float, seed: int) ->
             thread.join()
         checks.true("it is flushed", wait_until(lambda: service.order("/flush") == 200), service.last_lines())
         checks.true("all is delivered", wait_until(service.is_drained), service.status())
-        checks.same("nothing was refused", 0, service.status()["dead"])
+        checks.same("nothing was refused", 0, service.status()["dead_letters"])
         checks.true("InfluxDB is there again", wait_until(lambda: influxdb.ask("show databases") is not None), influxdb.log)
         told = told_to_all(senders)
         posts, repeats = (sum(getattr(sender, count) for sender in senders) for count in ("posts", "repeats"))

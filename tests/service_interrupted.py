@@ -224,7 +224,7 @@ class Run:
         wrong = differences(told_to_all(self.senders.values()), found) or overlaps(points) or self.service.faults()
         repeats = [sender.late_repeat() for sender in self.senders.values()]
         wrong = wrong or [str(repeat) for repeat in repeats if not is_whole(repeat)]
-        wrong = wrong or [f"the sink refused {letter}" for letter in os.listdir(f"{self.data}/dead")]
+        wrong = wrong or [f"the sink refused {letter}" for letter in os.listdir(f"{self.data}/dead-letters")]
         if wrong:
             raise Failed(str(wrong))
 

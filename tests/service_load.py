@@ -208,7 +208,7 @@ def load(checks: Checks, what: str, service: Service, sink: Sink, seconds: float
 
 def letters(service: Service) -> Any:
     """The keys of what the sink has refused, or nothing where the service does not say."""
-    status, body = service.asked("GET", "/dead")
+    status, body = service.asked("GET", "/dead-letters")
     return [letter["key"] for letter in json.loads(body)] if status == 200 else None
 
 
@@ -217,7 +217,7 @@ def send_letters_again(service: Service) -> bool:
     def is_done() -> bool:
         left = letters(service)
         for key in left or ():
-            service.order(f"/dead/{key}/resend")
+            service.order(f"/dead-letters/{key}/resend")
         return bool(left == [])
     return wait_until(is_done)
 

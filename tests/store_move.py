@@ -136,7 +136,7 @@ class Filled:
         self.sink.mood(["refuse"])
         post_all(self.senders)
         service.order("/flush")
-        wait_until(lambda: service.is_drained() and os.listdir(f"{self.data}/dead"))
+        wait_until(lambda: service.is_drained() and os.listdir(f"{self.data}/dead-letters"))
         self.sink.mood(["lose"])
         post_all(self.senders)
         service.order("/flush")
@@ -392,11 +392,11 @@ class Moves:
             held = self.filled.held.name
             if not over.wait_ready() or not wait_until(lambda: over.order(f"/release/{held}") == 200):
                 raise Failed(f"an instance: {over.last_lines()}")
-            letters = json.loads(over.asked("GET", "/dead")[1])
-            if len(letters) != len(os.listdir(f"{self.filled.data}/dead")):
+            letters = json.loads(over.asked("GET", "/dead-letters")[1])
+            if len(letters) != len(os.listdir(f"{self.filled.data}/dead-letters")):
                 raise Failed(f"letters: {letters}")
             for letter in letters:
-                over.asked("POST", f"/dead/{letter['key']}/resend")
+                over.asked("POST", f"/dead-letters/{letter['key']}/resend")
             over.order("/flush")
 
             def missing() -> list[str]:
@@ -466,9 +466,9 @@ def go_there(checks: Checks, program: str, moves: Moves, filled: Filled, folder:
     checks.true("another sink than the folder's is refused", status == 1 and "the instances of this store deliver to" in text, text)
     over = Service(program, data, filled.sink.address, *options)  # what it had is in the store
     filled.go_on(checks, "over the store", over)
-    letters = json.loads(over.asked("GET", "/dead")[1])
+    letters = json.loads(over.asked("GET", "/dead-letters")[1])
     for letter in letters:
-        over.asked("POST", f"/dead/{letter['key']}/resend")
+        over.asked("POST", f"/dead-letters/{letter['key']}/resend")
     checks.true("a request that was refused is sent again", letters, letters)
     filled.compare(checks, "over the store", over, False)
     over.order(f"/release/{filled.held.name}")

@@ -32,9 +32,9 @@ from pages import Browser, chromium
 KEY = "0-a-1"
 SECRET = "s3cret-of-a-letter"
 # As `Route::of` has them.
-ROUTES = [("POST", path) for path in ("/flush", "/quarantine/A", "/release/B", f"/dead/{KEY}/resend", f"/dead/{KEY}/drop")]
-ROUTES += [("GET", path) for path in ("/report", "/metrics", "/totals", "/status", "/dead", f"/dead/{KEY}", "/", "/series", "/page.js",
-                                      "/healthz", "/readyz", "/startupz")]
+ROUTES = [("POST", path) for path in ("/flush", "/quarantine/A", "/release/B", f"/dead-letters/{KEY}/resend", f"/dead-letters/{KEY}/drop")]
+ROUTES += [("GET", path) for path in ("/report", "/metrics", "/totals", "/status", "/dead-letters", f"/dead-letters/{KEY}", "/", "/series",
+                                      "/page.js", "/healthz", "/readyz", "/startupz")]
 FOR_ALL = ("/healthz", "/readyz", "/startupz")
 PAGE = """<!doctype html><title>none</title><body><pre id=told></pre><script>
 const routes = %s, place = "%s", token = "%s", told = [];
@@ -134,12 +134,12 @@ def state(service: Service) -> Any:
     slot = status["slots"][0]
     with open(f"{service.data}/acts.jsonl", encoding="utf-8") as file:
         acts = file.read()
-    return acts, slot["quarantined"], slot["series"], status["dead"], json.loads(service.asked("GET", "/dead")[1])
+    return acts, slot["quarantined"], slot["series"], status["dead_letters"], json.loads(service.asked("GET", "/dead-letters")[1])
 
 
 def put_letter(service: Service) -> None:
     letter = {"key": KEY, "since": 1, "reason": SECRET, "bytes": 2}
-    with open(f"{service.data}/dead/{KEY}.json", "w", encoding="utf-8") as file:
+    with open(f"{service.data}/dead-letters/{KEY}.json", "w", encoding="utf-8") as file:
         file.write(json.dumps(letter) + "\n{}")
 
 

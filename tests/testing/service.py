@@ -116,7 +116,7 @@ class Service:
 
     def asked(self, method: str, path: str, seconds: float = 20, body: bytes = b"") -> Answer:
         """What the operators' addresses answer, of which the socket takes orders."""
-        is_order = method == "POST" or path.startswith(("/dead", "/late", "/report"))
+        is_order = method == "POST" or path.startswith(("/dead-letters", "/late", "/report"))
         at: int | str = self.socket if is_order and os.path.exists(self.socket) else self.operate
         return ask(at, method, path, body, seconds=seconds, host=self.host)
 

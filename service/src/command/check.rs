@@ -63,7 +63,7 @@ struct CheckReport {
     /// Of the posts, those in quarantined senders' own files.
     held_posts: u64,
     held_bytes: u64,
-    dead: u64,
+    dead_letters: u64,
     /// What is forwarded from this start on has keys of its own: the folder was copied, or its lock is gone.
     new_epoch: bool,
     /// What a start leaves out of a file, and keeps beside it.
@@ -172,7 +172,7 @@ fn found(copy: &Path) -> Result<CheckReport, Ended> {
     let folder = Folder::open(copy, Durability::Process)?;
     let mut found = CheckReport {
         sink: folder.sink().map(|sink| sink.to_string()),
-        dead: folder.dead()?.count(),
+        dead_letters: folder.dead()?.count(),
         ..CheckReport::default()
     };
     found.segments = segments(&copy.join("slot-0/journal"));
@@ -249,7 +249,7 @@ fn text(found: &CheckReport, data: &Path) -> String {
     row("series", found.series.to_string());
     row("quarantined", values::senders_shown(&found.quarantined));
     row("held back", format!("{}, {}", counted(found.held_posts, "post"), bytes(found.held_bytes)));
-    row("refused for good", counted(found.dead, "request"));
+    row("refused for good", counted(found.dead_letters, "request"));
     for (metric, unit) in &found.beside {
         row("by a rule alone", format!("{unit} of {}", shown(metric, SERIES_SHOWN)));
     }

@@ -353,10 +353,10 @@ mod tests {
             let answer = answer(location);
             answers(move |stream| stream.write_all(answer.as_bytes()).unwrap())
         };
-        let first = sends(&format!("location: http://{last}/dead/1-a-7/drop\r\n"));
-        assert_eq!(ask(&at(&first), Method::POST, "/dead/1-a-7/drop").unwrap(), b"{}");
+        let first = sends(&format!("location: http://{last}/dead-letters/1-a-7/drop\r\n"));
+        assert_eq!(ask(&at(&first), Method::POST, "/dead-letters/1-a-7/drop").unwrap(), b"{}");
         let nowhere = sends("");
-        let said = format!("{:#}", ask(&at(&nowhere), Method::POST, "/dead/1-a-7/drop").unwrap_err());
+        let said = format!("{:#}", ask(&at(&nowhere), Method::POST, "/dead-letters/1-a-7/drop").unwrap_err());
         assert!(said.contains("answered 307: slot 1 is at instance b"), "{said}");
         // As where a series of each of two is posted again as soon as it is forgotten: that would never end.
         let itself = answers(move |stream| {

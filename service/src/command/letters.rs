@@ -44,7 +44,7 @@ impl Command {
     pub fn run(self) -> Result<Vec<u8>> {
         match self {
             Command::List(of) => {
-                let letters: Vec<Letter> = client::read(&of.at, Method::GET, "/dead")?;
+                let letters: Vec<Letter> = client::read(&of.at, Method::GET, "/dead-letters")?;
                 tell_of_others(&of.at, letters.len());
                 match of.form.json {
                     true => Ok(with_end(serde_json::to_vec(&letters)?)),
@@ -52,13 +52,13 @@ impl Command {
                 }
             }
             Command::Show(OfKey { key, at }) => {
-                let body = client::ask(&at, Method::GET, &format!("/dead/{}", checked(&key)?))?;
+                let body = client::ask(&at, Method::GET, &format!("/dead-letters/{}", checked(&key)?))?;
                 Ok(with_end(body))
             }
             Command::Resend { key: Some(key), at, .. } => resend(&key, &at),
             Command::Resend { key: None, at, .. } => resend_all(&at),
             Command::Drop(OfKey { key, at }) => {
-                client::ask(&at, Method::POST, &format!("/dead/{}/drop", checked(&key)?))?;
+                client::ask(&at, Method::POST, &format!("/dead-letters/{}/drop", checked(&key)?))?;
                 Ok(line(format_args!("done: {key} is thrown away")))
             }
         }
@@ -68,7 +68,8 @@ impl Command {
 /// An instance lists the letters of its own slots: which other ones have more.
 fn tell_of_others(at: &Address, listed: usize) {
     let Ok(status) = client::status(at) else { return };
-    let (more, cluster) = (status.dead.saturating_sub(listed as u64), status.cluster.unwrap_or_default());
+    let (more, cluster) =
+        (status.dead_letters.saturating_sub(listed as u64), status.cluster.unwrap_or_default());
     let others = cluster.instances.iter().filter(|one| one.name != cluster.instance && one.slots > 0);
     let others: Vec<&str> = others.map(|one| one.name.as_str()).collect();
     if more > 0 && !others.is_empty() {
@@ -90,7 +91,7 @@ fn list(letters: Vec<Letter>) -> String {
 }
 
 fn sent(key: &str, at: &Address) -> Result<Resent> {
-    client::read(at, Method::POST, &format!("/dead/{}/resend", checked(key)?))
+    client::read(at, Method::POST, &format!("/dead-letters/{}/resend", checked(key)?))
 }
 
 /// What became of letters that are sent again one after the other.
@@ -106,7 +107,7 @@ struct All {
 /// Those that no sink takes, being a part of what it has, are left. One that can't be sent, as it can't be read, keeps none
 /// behind it from the sink; but where the sink or the service does not answer each would be waited for.
 fn resend_all(at: &Address) -> Result<Vec<u8>> {
-    let letters: Vec<Letter> = client::read(at, Method::GET, "/dead")?;
+    let letters: Vec<Letter> = client::read(at, Method::GET, "/dead-letters")?;
     tell_of_others(at, letters.len());
     if letters.is_empty() {
         return Ok(line(NONE));

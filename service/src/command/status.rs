@@ -57,7 +57,7 @@ mod tests {
             answer: answer.into(),
         };
         let refused = First { first: vec![of("A", "quarantined"), of("-", &"x".repeat(70))], more: 3 };
-        let status = Status { version: "1".into(), dead: 2, refused, ..Status::default() };
+        let status = Status { version: "1".into(), dead_letters: 2, refused, ..Status::default() };
         let text = text(&status);
         let (wide, long) = (" ".repeat(51), "x".repeat(60));
         let wanted = format!(
@@ -69,7 +69,7 @@ mod tests {
         );
         assert!(text.contains(&wanted), "{text}");
         assert!(text.starts_with("totxegun 1                   not ready, up 0 s, process 0\n"), "{text}");
-        assert!(text.contains("\ndead requests                2\n"), "{text}");
+        assert!(text.contains("\ndead letters                 2\n"), "{text}");
         assert!(text.ends_with("and its points are lost\n"), "{text}");
     }
 

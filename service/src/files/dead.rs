@@ -1,4 +1,4 @@
-//! `dead/`, the dead letters: requests that the sink refused for good, kept until an operator decides what to do with
+//! `dead-letters/`, the dead letters: requests that the sink refused for good, kept until an operator decides what to do with
 //! them.
 //!
 //! Each dead letter is a file `KEY.json`: a first line of JSON, then the body as it was sent. If another request comes

@@ -7,7 +7,7 @@
 //! | `lock` | locked by the service that has the folder |
 //! | `version` | JSON: `totxegun`, the format's version; `epoch`, 16 hexadecimal digits; `lock`, the inode of the lock file and its birth time, in nanoseconds since 1970, if the file system knows it; `begun`, the journal segment that the last start began; `sink`, its kind, address and id; `moved`, the store that has all of it: then no service starts on it |
 //! | `slot-0/journal`, `slot-0/outbox` | segments |
-//! | `dead/` | a file for each request that the sink refused for good |
+//! | `dead-letters/` | a file for each request that the sink refused for good |
 //!
 //! If a folder was copied, or restored from a copy, its lock file has another inode, or the same inode and another
 //! birth time. Then a start draws a new epoch, so new requests have other keys than those of the original folder.
@@ -149,7 +149,7 @@ impl Folder {
     /// Whether the folder has never kept anything.
     pub fn is_empty(&self) -> bool {
         let has = |name: &str| self.path.join(name).exists();
-        locked(&self.version).begun.is_none() && !has(SLOT) && !has("dead")
+        locked(&self.version).begun.is_none() && !has(SLOT) && !has("dead-letters")
     }
 
     /// Draws a new epoch, for a folder that was restored in a way that a start can't detect. Shards that are opened
@@ -242,7 +242,7 @@ impl Folder {
     }
 
     pub fn dead(&self) -> Result<Dead, Fault> {
-        let dead = Dead::open(&self.disk, &self.path.join("dead"), self.free_space.clone())?;
+        let dead = Dead::open(&self.disk, &self.path.join("dead-letters"), self.free_space.clone())?;
         self.disk.sync_folder(&self.path)?;
         Ok(dead)
     }
@@ -299,7 +299,7 @@ fn find(disk: &Disk, folder: &Path) -> Result<Option<Version>, FolderFault> {
 /// A folder without a version file must not have a shard either.
 fn check_new(disk: &Disk, folder: &Path) -> Result<(), Fault> {
     for name in disk.names(folder)? {
-        if name.to_str().is_some_and(|name| name.starts_with("slot-") || name == "dead") {
+        if name.to_str().is_some_and(|name| name.starts_with("slot-") || name == "dead-letters") {
             let what = "this file is missing, and the folder is not new: put it back".into();
             return Err(Fault::Damaged { path: folder.join("version"), at: 0, what });
         }

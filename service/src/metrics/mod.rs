@@ -111,7 +111,7 @@ metrics! {
         pub outbox_bytes: IntGauge = "outbox_bytes", "Bytes on disk of requests that the sink does not have";
         pub outbox_age_seconds: IntGauge = "outbox_age_seconds", "Age of the oldest request that the sink does not have";
         pub late_bytes: IntGauge = "late_bytes", "Bytes on disk of late data";
-        pub dead_requests: IntGauge = "dead_requests", "Requests that the sink refused for good, kept aside";
+        pub dead_letters: IntGauge = "dead_letters", "Requests that the sink refused for good, kept aside";
         pub quarantined_senders: IntGauge = "quarantined_senders",
             "Senders whose points are kept back and whose posts are refused; of several instances the one with the first slot that any has says so";
         pub held_posts: IntGauge = "held_posts", "Posts of quarantined senders that are kept back";
@@ -361,7 +361,7 @@ mod tests {
             "totxegun_deliveries_total{outcome=\"partial\"} 0",
             "totxegun_deliveries_total{outcome=\"denied\"} 0",
             "totxegun_checkpoints_total{outcome=\"failed\"} 0",
-            "totxegun_dead_requests 0",
+            "totxegun_dead_letters 0",
             "totxegun_quarantined_senders 0",
             "totxegun_held_posts 0",
             "totxegun_held_bytes 0",

@@ -229,7 +229,10 @@ mod tests {
         let act = Act::new(Actor::User(None), Asked::new("dead-letters drop", "0-a-1\n{\"who\":\"root\"}"));
         acts.begins(&act);
         let first = lines(folder.path(), NAME);
-        assert_eq!((&first[0]["who"], &first[0]["action"]), (&"operator".into(), &"dead-letters drop".into()));
+        assert_eq!(
+            (&first[0]["who"], &first[0]["action"]),
+            (&"operator".into(), &"dead-letters drop".into())
+        );
         assert!(first[0].get("outcome").is_none() && first.len() == 1, "{first:?}");
         let mode = std::fs::metadata(folder.path().join(NAME)).unwrap().permissions().mode();
         assert_eq!(mode & 0o077, 0, "{mode:o}: others may read it");

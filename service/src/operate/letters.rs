@@ -181,11 +181,11 @@ fn forwarded(name: &str, body: Vec<u8>) -> Option<Forwarded> {
     (made.key() == key).then_some(made)
 }
 
-/// Where it fails nothing but `dead/` is concerned, so the service goes on.
+/// Where it fails nothing but `dead-letters/` is concerned, so the service goes on.
 fn answered(done: Result<Answer, Fault>) -> Answer {
     done.unwrap_or_else(|fault| {
         let reason = fault.to_string();
-        tracing::warn!(reason, "dead/: {reason}");
+        tracing::warn!(reason, "dead-letters/: {reason}");
         Answer::told(500, &reason)
     })
 }

@@ -89,7 +89,7 @@ fn not_in_the_sink(status: &Status) -> Option<String> {
 fn kept_back(status: &Status) -> String {
     let held = held(&status.slots).posts;
     let mut text = String::new();
-    for (count, what) in [(status.dead, "requests in dead/"), (held, "posts of quarantined senders")] {
+    for (count, what) in [(status.dead_letters, "dead letters"), (held, "posts of quarantined senders")] {
         if count > 0 {
             text += &format!("; {count} {what} would come late");
         }

@@ -38,7 +38,7 @@ pub struct Status {
     /// What was posted and delivered a second, at each look of the last minutes, the oldest first.
     pub rates: Vec<Rates>,
     /// Requests that the sink refused for good.
-    pub dead: u64,
+    pub dead_letters: u64,
     pub slots: Vec<SlotStatus>,
     /// Refusals since the start, the last first.
     pub refused: First<RefusedStatus>,
@@ -213,7 +213,7 @@ impl Desk {
             listen: self.listen.clone(),
             data: self.data.clone(),
             sink: self.sink.name(),
-            dead: self.units.dead(),
+            dead_letters: self.units.dead(),
             slots,
             limits: self.limits_status(series),
             shares: self.shares.nearest(),

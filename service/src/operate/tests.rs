@@ -17,12 +17,12 @@ fn each_path_has_one_method() {
         ("/readyz", Method::GET, read),
         ("/startupz", Method::GET, read),
         ("/status", Method::GET, read),
-        ("/dead", Method::GET, order),
+        ("/dead-letters", Method::GET, order),
         ("/late", Method::GET, order),
         ("/late/2026-11", Method::GET, order),
-        ("/dead/0-a-1", Method::GET, order),
-        ("/dead/0-a-1/resend", Method::POST, order),
-        ("/dead/0-a-1/drop", Method::POST, order),
+        ("/dead-letters/0-a-1", Method::GET, order),
+        ("/dead-letters/0-a-1/resend", Method::POST, order),
+        ("/dead-letters/0-a-1/drop", Method::POST, order),
         ("/close/2026-11", Method::POST, order),
         ("/reopen/2026-11", Method::POST, order),
         (ADJUSTMENTS, Method::POST, order),
@@ -50,9 +50,9 @@ fn a_path_may_be_percent_encoded() {
     for path in [
         "/quarantine/shop%2D1",
         "/release/shop%2d1",
-        "/dead/shop%2D1",
-        "/dead/shop%2D1/resend",
-        "/dead/shop%2D1/drop",
+        "/dead-letters/shop%2D1",
+        "/dead-letters/shop%2D1/resend",
+        "/dead-letters/shop%2D1/drop",
     ] {
         assert_eq!(part(path), "shop-1", "{path}");
     }
@@ -74,7 +74,7 @@ fn nothing_else_is_a_path() {
         "/close/2026-11/05",
         "/rewind",
         "/quarantine/A/B",
-        "/dead/0-a-1/send",
+        "/dead-letters/0-a-1/send",
         "flush",
     ] {
         assert!(Route::of(path).is_none(), "{path}");

@@ -38,7 +38,7 @@ fn has(data: &Path, wanted: impl Fn(&OsStr) -> bool) -> bool {
 
 /// Whether a start reads a file of this name.
 pub(crate) fn is_kept(name: &OsStr) -> bool {
-    name == "version" || name == "dead" || name.as_encoded_bytes().starts_with(b"slot-")
+    name == "version" || name == "dead-letters" || name.as_encoded_bytes().starts_with(b"slot-")
 }
 
 #[cfg(test)]

@@ -125,7 +125,7 @@ impl<S: Store> Run<S> {
                 continue;
             }
             self.settle(request).await?;
-            // A request leaves the outbox only if the sink has it, or `dead/` does.
+            // A request leaves the outbox only if the sink has it, or `dead-letters/` does.
             self.files.acknowledge(waiting.number).await?;
         }
     }
@@ -214,8 +214,9 @@ impl<S: Store> Run<S> {
         let mut before = None;
         while !self.files.keep(key.into(), reason.clone(), body.clone()).await? {
             if before.is_none() {
-                let full =
-                    format!("the disk has no room to keep {key} in dead/, which the sink refused: {reason}");
+                let full = format!(
+                    "the disk has no room to keep {key} in dead-letters/, which the sink refused: {reason}"
+                );
                 tracing::warn!(key, reason = full, "{full}; nothing is sent until there is more");
                 before = Some(locked(&self.attempts.state).trouble.replace(full));
             }
@@ -233,7 +234,7 @@ impl<S: Store> Run<S> {
             sink,
             key,
             reason,
-            "{sink} refused request {key} for good: {reason}; it is kept in dead/"
+            "{sink} refused request {key} for good: {reason}; it is kept in dead-letters/"
         );
         self.keep(&key, reason, request.body).await?;
         self.ended("refused");
@@ -280,7 +281,7 @@ impl<S: Store> Run<S> {
             sink,
             key,
             reason,
-            "{sink} took request {key} but rejected {rejected} of its points: {reason}; it is kept in dead/"
+            "{sink} took request {key} but rejected {rejected} of its points: {reason}; it is kept in dead-letters/"
         );
         let reason = of_part(rejected, &reason, left.is_some());
         let left = left.unwrap_or_else(|| request.body.clone());

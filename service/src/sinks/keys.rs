@@ -1,5 +1,5 @@
 //! One key is sent once at a time: the delivery and an operator may have the same request, where a run was killed before
-//! the outbox knew that it lies in `dead/`.
+//! the outbox knew that it lies in `dead-letters/`.
 
 use crate::work::locked;
 use std::collections::HashSet;

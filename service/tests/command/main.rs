@@ -227,9 +227,9 @@ fn an_interrupt_leaves_no_copy_of_a_folder() {
         r#"{"totxegun":1,"epoch":"0123456789abcdef","lock":{"inode":1}}"#,
     )
     .unwrap();
-    std::fs::create_dir(data.path().join("dead")).unwrap();
+    std::fs::create_dir(data.path().join("dead-letters")).unwrap();
     // Who copies it waits for somebody who writes.
-    let pipe = data.path().join("dead/0-a-1.json");
+    let pipe = data.path().join("dead-letters/0-a-1.json");
     nix::unistd::mkfifo(&pipe, nix::sys::stat::Mode::from_bits_truncate(0o600)).unwrap();
     for signal in [Signal::SIGINT, Signal::SIGTERM] {
         let words = ["check", data.path().to_str().unwrap(), "--temporary"];

@@ -22,8 +22,8 @@ fn who_did_what_and_what_came_of_it() {
         ("/release/A", 200),
         ("/release/A", 400),
         ("/release/B", 200),
-        ("/dead/0-a-1/drop", 404),
-        ("/dead/0-a-1/resend", 404),
+        ("/dead-letters/0-a-1/drop", 404),
+        ("/dead-letters/0-a-1/resend", 404),
     ] {
         assert_eq!(service.order(path).0, status, "{path}");
     }

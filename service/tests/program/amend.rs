@@ -139,7 +139,7 @@ fn what_comes_behind_a_repair_is_counted_once_over_kills() {
         service.drain();
         assert_eq!(place.totals()[name], 340, "{name}");
     }
-    assert_eq!(service.status()["dead"], 0);
+    assert_eq!(service.status()["dead_letters"], 0);
     service.has_no_fault();
     assert_eq!(service.end(), Some(0));
 }
@@ -171,7 +171,7 @@ fn a_cumulative_run_goes_on_behind_a_repair() {
         }
     }
     service.drain();
-    assert_eq!((place.totals()["c"], service.status()["dead"].as_u64()), (68, Some(0)));
+    assert_eq!((place.totals()["c"], service.status()["dead_letters"].as_u64()), (68, Some(0)));
     service.has_no_fault();
     assert_eq!(service.end(), Some(0));
 }

@@ -84,7 +84,7 @@ impl Asked {
 fn put_letter(place: &Place, key: &str, body: &[u8]) {
     let head = serde_json::json!({"key": key, "since": 1, "reason": "400", "bytes": body.len()});
     let letter = [format!("{head}\n").as_bytes(), body].concat();
-    std::fs::write(place.data().join(format!("dead/{key}.json")), letter).unwrap();
+    std::fs::write(place.data().join(format!("dead-letters/{key}.json")), letter).unwrap();
 }
 
 fn service(place: &Place, sink: &Sink) -> Service {
@@ -93,7 +93,7 @@ fn service(place: &Place, sink: &Sink) -> Service {
     service
 }
 
-/// As where a run was killed before the outbox knew that the request lies in `dead/`.
+/// As where a run was killed before the outbox knew that the request lies in `dead-letters/`.
 #[test]
 fn a_letter_that_is_being_delivered_is_not_sent_meanwhile() {
     let (place, sink) = (Place::new(), Sink::new());
@@ -172,7 +172,7 @@ fn of_all_letters_those_that_can_t_be_sent_are_named_and_the_others_are_sent() {
     for key in ["0-a-2", "0-a-3", "0-a-4"] {
         put_letter(&place, key, b"{}");
     }
-    let damaged = place.data().join("dead/0-a-1.json");
+    let damaged = place.data().join("dead-letters/0-a-1.json");
     std::fs::write(&damaged, "{}").unwrap();
     std::fs::File::open(&damaged).unwrap().set_modified(std::time::UNIX_EPOCH).unwrap();
     std::thread::scope(|scope| {
@@ -184,7 +184,7 @@ fn of_all_letters_those_that_can_t_be_sent_are_named_and_the_others_are_sent() {
         for part in [
             "the sink has taken 2 requests; refused, taken in part or not readable: 2 requests\n",
             "\n0-a-1: ",
-            "dead/0-a-1.json",
+            "dead-letters/0-a-1.json",
             "\n0-a-3: ",
         ] {
             assert!(said.contains(part), "{part} in {said}");

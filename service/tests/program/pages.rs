@@ -8,10 +8,10 @@ const GUARDED: [(&str, &str); 10] = [
     ("POST", "/flush"),
     ("POST", "/quarantine/A"),
     ("POST", "/release/A"),
-    ("POST", "/dead/0-a-1/resend"),
-    ("POST", "/dead/0-a-1/drop"),
-    ("GET", "/dead"),
-    ("GET", "/dead/0-a-1"),
+    ("POST", "/dead-letters/0-a-1/resend"),
+    ("POST", "/dead-letters/0-a-1/drop"),
+    ("GET", "/dead-letters"),
+    ("GET", "/dead-letters/0-a-1"),
     ("GET", "/totals"),
     ("GET", "/status"),
     ("GET", "/metrics"),
@@ -70,12 +70,12 @@ fn programs_ask_as_before() {
     let by_name = format!("Host: localhost:{port}");
     for headers in [&[][..], &[&*by_name], &["Sec-Fetch-Site: none"], &["Host: [::1]"]] {
         for (path, wanted) in
-            [("/flush", 200), ("/quarantine/B", 200), ("/release/B", 200), ("/dead/0-a-1/drop", 404)]
+            [("/flush", 200), ("/quarantine/B", 200), ("/release/B", 200), ("/dead-letters/0-a-1/drop", 404)]
         {
             let (status, body) = at_socket(&service, "POST", path, headers);
             assert_eq!(status, wanted, "{headers:?}: {path}: {body}");
         }
-        assert_eq!(at_socket(&service, "GET", "/dead", headers), (200, "[]".into()));
+        assert_eq!(at_socket(&service, "GET", "/dead-letters", headers), (200, "[]".into()));
     }
     service.drain();
     let prometheus = [

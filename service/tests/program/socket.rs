@@ -17,7 +17,7 @@ fn text(output: &Output) -> String {
 
 /// What is asked over TCP, with a header; a POST where it is an order.
 fn over_tcp(service: &Service, path: &str, header: &str) -> String {
-    let method = match path.starts_with("/dead") && path.matches('/').count() < 3 {
+    let method = match path.starts_with("/dead-letters") && path.matches('/').count() < 3 {
         true => "GET",
         false => "POST",
     };
@@ -28,8 +28,15 @@ fn over_tcp(service: &Service, path: &str, header: &str) -> String {
 }
 
 /// What changes something, or shows bodies.
-const ORDERS: [&str; 7] =
-    ["/flush", "/quarantine/A", "/release/A", "/dead", "/dead/k", "/dead/k/resend", "/dead/k/drop"];
+const ORDERS: [&str; 7] = [
+    "/flush",
+    "/quarantine/A",
+    "/release/A",
+    "/dead-letters",
+    "/dead-letters/k",
+    "/dead-letters/k/resend",
+    "/dead-letters/k/drop",
+];
 
 #[test]
 fn orders_are_taken_at_the_socket_alone() {
@@ -172,18 +179,18 @@ fn tokens_of_operators_stay_on_this_machine() {
 
 /// The list of them is taken by an operator.
 #[test]
-fn a_page_says_of_dead_requests_how_many_they_are() {
+fn a_page_says_of_dead_letters_how_many_they_are() {
     let place = Place::new();
     assert_eq!(place.serve().end(), Some(0));
     let letter = r#"{"key":"0-a-1","since":1,"reason":"400 of host h1","bytes":2}"#;
-    std::fs::write(place.data().join("dead/0-a-1.json"), format!("{letter}\n{{}}")).unwrap();
+    std::fs::write(place.data().join("dead-letters/0-a-1.json"), format!("{letter}\n{{}}")).unwrap();
     let service = place.serve();
     for (status, page) in [service.asked_for("/").unwrap(), service.at_socket("GET", "/").unwrap()] {
         assert_eq!(status, 200);
-        assert!(page.contains("<b>1</b><span>dead requests") && page.contains("totxegun dead-letters list"));
+        assert!(page.contains("<b>1</b><span>dead letters") && page.contains("totxegun dead-letters list"));
         assert!(!page.contains("0-a-1") && !page.contains("host h1"), "{page}");
     }
-    let (_, list) = service.at_socket("GET", "/dead").unwrap();
+    let (_, list) = service.at_socket("GET", "/dead-letters").unwrap();
     assert!(list.contains("0-a-1") && list.contains("400 of host h1"), "{list}");
 }
 

@@ -97,11 +97,12 @@ fn letters_that_take_long_hold_up_nothing_else() {
     let place = Place::new();
     let service = place.serve();
     // It is read once somebody writes to it.
-    let letter = place.data().join("dead/0-a-1.json");
+    let letter = place.data().join("dead-letters/0-a-1.json");
     let made = Command::new("mkfifo").arg(&letter).status();
     assert!(made.unwrap().success());
     std::thread::scope(|scope| {
-        let lists: Vec<_> = (0..4).map(|_| scope.spawn(|| service.at_socket("GET", "/dead"))).collect();
+        let lists: Vec<_> =
+            (0..4).map(|_| scope.spawn(|| service.at_socket("GET", "/dead-letters"))).collect();
         std::thread::sleep(Duration::from_millis(300));
         let (answered, answer) = std::sync::mpsc::channel();
         let asked = &service;

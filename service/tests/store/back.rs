@@ -134,7 +134,7 @@ fn a_letter_of_an_owner_before_is_of_the_same_life() {
     assert_eq!(first.send(&sink), Fate::Taken);
     first.make("a", 20);
     let letter = first.first();
-    first.outbox.acknowledge(letter.number).unwrap(); // it lies in `dead/`
+    first.outbox.acknowledge(letter.number).unwrap(); // it lies in `dead-letters/`
     first.outbox.settle().unwrap();
     let next = Owner::take(&store);
     assert_eq!(next.begin(&sink), Beyond::default());

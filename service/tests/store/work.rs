@@ -36,7 +36,7 @@ impl Work {
     }
 
     fn name(&mut self) -> PathBuf {
-        let folder = ["journal", "outbox", "dead"][self.chance.below(3) as usize];
+        let folder = ["journal", "outbox", "dead-letters"][self.chance.below(3) as usize];
         Path::new(folder).join(format!("{:012}.seg", self.chance.below(5)))
     }
 
@@ -150,7 +150,7 @@ fn read(drive: &dyn Drive, file: u64, at: u64, length: usize) -> Vec<u8> {
 
 pub fn contents(drive: &dyn Drive) -> Contents {
     let mut all = Contents::new();
-    for folder in ["journal", "outbox", "dead"] {
+    for folder in ["journal", "outbox", "dead-letters"] {
         for name in drive.list(Path::new(folder)).unwrap() {
             let name = Path::new(folder).join(name);
             let file = drive.open(&name).unwrap();

@@ -53,7 +53,7 @@ fn letters_do_not_use_up_the_disk() {
 fn no_key_leads_out_of_the_folder() {
     let folder = tempfile::tempdir().unwrap();
     std::fs::write(folder.path().join("other.json"), "{}").unwrap();
-    let dead = open(&folder.path().join("dead"));
+    let dead = open(&folder.path().join("dead-letters"));
     for key in ["", ".", "..", "../other", "a/b", "/etc/passwd", "a.b", "a\0b", "ä", &"a".repeat(129)] {
         assert!(dead.keep(key, "", b"").is_err(), "{key:?}");
         assert_eq!(dead.body(key).unwrap(), None);
@@ -183,7 +183,7 @@ fn letters_that_are_moved_by_hand_are_counted_as_they_are() {
 #[test]
 fn what_became_of_letters_is_known_to_the_next_owner_of_a_slot() {
     let store = Arc::<Store>::default();
-    let open = || open_on(&Disk::of_drive(store.take()), Path::new("dead"));
+    let open = || open_on(&Disk::of_drive(store.take()), Path::new("dead-letters"));
     let dead = open();
     for key in ["0-e-1", "0-e-2", "0-e-3"] {
         dead.keep(key, "400", b"body").unwrap();
@@ -234,14 +234,14 @@ fn no_letter_of_a_slot_is_gone_without_what_became_of_it() {
                 false => Ok(()),
             }
         });
-        let dead = open_on(&Disk::of_drive(owner), Path::new("dead"));
+        let dead = open_on(&Disk::of_drive(owner), Path::new("dead-letters"));
         fails.store(u64::MAX, Relaxed);
         let key = format!("0-e-{number}");
         dead.keep(&key, "400", b"body").unwrap();
         fails.store(number + 1, Relaxed);
         let is_done = dead.end(&key, Became::Dropped).is_ok();
         fails.store(u64::MAX, Relaxed);
-        let next = open_on(&Disk::of_drive(store.take()), Path::new("dead"));
+        let next = open_on(&Disk::of_drive(store.take()), Path::new("dead-letters"));
         let is_there = next.body(&key).unwrap().is_some();
         assert!(is_there || next.became(&key).unwrap() == Some(Became::Dropped), "at call {number}");
         if is_done {
@@ -260,7 +260,7 @@ fn the_folder_is_listed_once_however_many_letters_come_and_go() {
         counted.fetch_add(u64::from(step == Step::List), Relaxed);
         Ok(())
     });
-    let dead = open_on(&Disk::of_drive(owner), Path::new("dead"));
+    let dead = open_on(&Disk::of_drive(owner), Path::new("dead-letters"));
     for number in 0..20 {
         dead.keep(&format!("0-e-{number}"), "400", b"body").unwrap();
         dead.let_go(&format!("0-e-{}", 100 + number), b"body").unwrap();

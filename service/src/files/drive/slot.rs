@@ -40,7 +40,7 @@ pub fn open(drive: Arc<dyn Drive>, root: &str) -> Result<(Journal, Outbox, Dead)
     };
     let left = Left::read(&disk, journal)?;
     let journal = Journal::go_on(&disk, journal, Durability::Disk, free_space.clone(), &expected, left)?;
-    let dead = Dead::open(&disk, Path::new("dead"), free_space)?;
+    let dead = Dead::open(&disk, Path::new("dead-letters"), free_space)?;
     Ok((journal, outbox, dead))
 }
 

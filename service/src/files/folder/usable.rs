@@ -25,7 +25,8 @@ pub fn look_at(folder: &Path) -> Result<(), FolderFault> {
         }
     }
     for name in Disk::default().names(folder)? {
-        let is_ours = |name: &str| ["lock", "version", "dead"].contains(&name) || name.starts_with("slot-");
+        let is_ours =
+            |name: &str| ["lock", "version", "dead-letters"].contains(&name) || name.starts_with("slot-");
         if name.to_str().is_some_and(is_ours) {
             all_have_rights(&folder.join(name))?;
         }

@@ -101,7 +101,7 @@ impl Desk {
                 "\nwhat is posted from then on counts, beside what the sink has after it: `totxegun adjust` takes out what is wrong"
             }
             (Some(_), None) => {
-                "\nwhat is posted again of that time is taken again; the sink adds nothing that begins before the series ends there (dead/)"
+                "\nwhat is posted again of that time is taken again; the sink adds nothing that begins before the series ends there (dead-letters/)"
             }
             (None, _) => "\nwhat is posted again of that time counts twice",
         }

@@ -23,7 +23,7 @@ impl Desk {
             (&levels.outbox_requests, status.waiting() as i64),
             (&levels.outbox_bytes, outbox.0),
             (&levels.outbox_age_seconds, outbox.1),
-            (&levels.dead_requests, status.dead as i64),
+            (&levels.dead_letters, status.dead_letters as i64),
             (&levels.quarantined_senders, quarantined as i64),
             (&levels.held_posts, held.posts as i64),
             (&levels.late_bytes, status.late.bytes as i64),

@@ -85,12 +85,12 @@ impl Status {
     }
 
     fn add_one(&mut self, other: Status, shown: &mut InstanceStatus) {
-        let Status { dead, slots, shares: used, rounded, cumulative, late, cluster, .. } = other;
+        let Status { dead_letters, slots, shares: used, rounded, cumulative, late, cluster, .. } = other;
         if let Some(own) = cluster.and_then(|cluster| cluster.instances.into_iter().next()) {
             shown.slots = own.slots;
             shown.trouble = own.trouble.or(shown.trouble.take());
         }
-        self.dead += dead;
+        self.dead_letters += dead_letters;
         self.slots.extend(slots);
         self.shares.extend(used);
         self.shares.sort_by(|one, other| other.part().total_cmp(&one.part()));
@@ -167,7 +167,7 @@ mod tests {
     fn status(name: &str, slots: Vec<SlotStatus>) -> Status {
         let own = InstanceStatus { name: name.into(), slots: slots.len(), ..InstanceStatus::default() };
         Status {
-            dead: 1,
+            dead_letters: 1,
             slots,
             cluster: Some(ClusterStatus {
                 instance: name.into(),
@@ -217,7 +217,7 @@ mod tests {
         all.add(vec![(other("b", 0), Ok(b)), (other("c", 9), c)], &rows, &[of_0, refusal]);
         let seen: Vec<_> = all.slots.iter().map(|slot| (slot.slot, slot.term.unwrap())).collect();
         assert_eq!(seen, [(0, 7), (1, 3), (2, 1), (3, 9), (4, 3), (5, 1), (6, 8)]);
-        assert_eq!((all.waiting(), all.dead), (2 + 1 + 5, 2));
+        assert_eq!((all.waiting(), all.dead_letters), (2 + 1 + 5, 2));
         let unknown: Vec<_> = all.slots.iter().map(|slot| slot.unknown.as_deref()).collect();
         let wanted = [
             None,

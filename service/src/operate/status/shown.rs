@@ -127,7 +127,7 @@ fn tiles(status: &Status) -> Vec<Tile> {
             class_if(status.trouble().is_some(), "bad"),
             grouped(status.waiting()),
         ),
-        tile("dead requests", class_if(status.dead > 0, "bad"), grouped(status.dead)),
+        tile("dead letters", class_if(status.dead_letters > 0, "bad"), grouped(status.dead_letters)),
         tile("series", "", grouped(status.series())),
     ]
 }
@@ -194,7 +194,7 @@ fn instances(cluster: &ClusterStatus) -> Section {
     let rows = cluster.instances.iter().map(row).collect();
     let heads = &["name", "address", "version", "since its last beat#", "slots#", "what is wrong"];
     let of_which =
-        "what waits, slots, shares and dead requests are of all instances; posts, senders and limits of";
+        "what waits, slots, shares and dead letters are of all instances; posts, senders and limits of";
     Section::new("Instances", heads, rows).noting([format!("{of_which} {}", cluster.instance)])
 }
 
@@ -353,12 +353,12 @@ fn late(status: &Status) -> Section {
 }
 
 fn dead(status: &Status) -> Section {
-    let requests = counted(status.dead, "request");
+    let requests = counted(status.dead_letters, "request");
     let note = format!(
         "{requests} that the sink refused for good: `totxegun dead-letters list` has the reasons. Repair the sink, then `totxegun dead-letters \
          resend --all`; or `totxegun dead-letters drop KEY`, and its points are lost"
     );
-    Section::new("Dead requests", &[], Vec::new()).noting((status.dead > 0).then_some(note))
+    Section::new("Dead letters", &[], Vec::new()).noting((status.dead_letters > 0).then_some(note))
 }
 
 #[cfg(test)]

@@ -351,10 +351,10 @@ async fn what_is_shown_is_of_all_slots() {
     assert!(status == 409 && why.contains("not flushed"), "{status} {why}");
     let dead = service.units.at_work.units().all().remove(2).dead.clone();
     dead.keep("2-abc-7", "no", b"{}").unwrap();
-    let (status, letters) = service.ask("GET", "/dead").await;
+    let (status, letters) = service.ask("GET", "/dead-letters").await;
     assert!(status == 200 && letters.contains("2-abc-7"), "{letters}");
-    assert_eq!(service.ask("GET", "/dead/2-abc-7").await, (200, "{}".into()));
-    assert_eq!(service.ask("GET", "/dead/1-abc-7").await.0, 404);
-    assert_eq!(service.ask("POST", "/dead/2-abc-7/drop").await.0, 200);
+    assert_eq!(service.ask("GET", "/dead-letters/2-abc-7").await, (200, "{}".into()));
+    assert_eq!(service.ask("GET", "/dead-letters/1-abc-7").await.0, 404);
+    assert_eq!(service.ask("POST", "/dead-letters/2-abc-7/drop").await.0, 200);
     assert_eq!(dead.count(), 0);
 }

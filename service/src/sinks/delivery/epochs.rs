@@ -31,7 +31,7 @@ impl<S: Store> Run<S> {
                 until,
                 "slot {slot}: the store has gone back: {sink} has {requests} requests of it, taken from {since} to {until}, that the \
                  store does not have. What was answered in that time, or later, and is not in the sink is lost; what comes, and \
-                 begins before its series ends in the sink, goes to dead/"
+                 begins before its series ends in the sink, goes to dead-letters/"
             );
         }
     }

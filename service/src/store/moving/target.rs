@@ -74,7 +74,7 @@ pub fn go_on(to: &Outbox, from: &Outbox) -> Result<u64, Fault> {
 
 /// Deletes all files of a shard.
 fn wipe(drive: &Arc<PostgresDrive>) -> Result<(), MoveFault> {
-    let wiped = ["journal", "outbox", "dead"].into_iter().try_for_each(|folder| {
+    let wiped = ["journal", "outbox", "dead-letters"].into_iter().try_for_each(|folder| {
         let folder = Path::new(folder);
         let mut names = drive.list(folder)?.into_iter();
         names.try_for_each(|name| drive.remove(&folder.join(name)))

@@ -105,11 +105,11 @@ fn why_nothing_is_delivered_is_said() {
 
 #[test]
 fn requests_that_the_sink_refused_for_good_are_counted_with_what_to_do() {
-    let dead = section(&Status { dead: 1, ..status(&[]) }, "Dead requests");
+    let dead = section(&Status { dead_letters: 1, ..status(&[]) }, "Dead letters");
     assert!(
         dead.notes[0].starts_with("1 request that the sink refused for good: `totxegun dead-letters list`")
     );
-    assert_eq!(Shown::of(&Status { dead: 1, ..status(&[]) }).tiles[4].class, "bad");
+    assert_eq!(Shown::of(&Status { dead_letters: 1, ..status(&[]) }).tiles[4].class, "bad");
 }
 
 #[test]

@@ -74,7 +74,7 @@ async fn as_many_as_it_takes_go_in_one_go() {
     assert_eq!(*sink.came.lock().expect("came"), [1]);
 }
 
-/// A refused request takes no other with it into `dead/`.
+/// A refused request takes no other with it into `dead-letters/`.
 #[tokio::test]
 async fn one_that_is_refused_goes_by_itself() {
     for refused in [vec![1], vec![5], vec![20], vec![3, 4, 11], (1..=20).collect()] {
