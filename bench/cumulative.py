@@ -26,7 +26,7 @@ ROWS = [("sum", 1, "protobuf"), ("sum", 20, "protobuf"), ("sum", 103, "protobuf"
         ("histogram", 20, "json")]
 SERIES, SENDERS = 200, 2
 POINTS, LEAST_REQUESTS = 6000, 40
-WORDS = ["--durability", "process", "--first", "count", "--flush-interval", "1h", "--threads", "2"]
+WORDS = ["--durability", "process", "--initial-value", "keep", "--flush-interval", "1h", "--threads", "2"]
 
 
 def profiled(arguments: argparse.Namespace, kind: str, points: int, encoding: str, all_points: int = POINTS,

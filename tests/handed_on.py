@@ -264,7 +264,7 @@ def drawn_values(chance: random.Random) -> list[int]:
 
 def exponential(checks: Checks, totxegun: str, chance: random.Random, folder: str) -> None:
     sink, begin = f"{folder}/exponential.db", 1000
-    service = Service(totxegun, f"{folder}/exponential", f"sqlite:{sink}", "--flush-interval", "1h", "--first", "count",
+    service = Service(totxegun, f"{folder}/exponential", f"sqlite:{sink}", "--flush-interval", "1h", "--initial-value", "keep",
                       "--exponential", ",".join(map(str, EXPONENTIAL)))
     try:
         service.start()

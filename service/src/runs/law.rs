@@ -54,12 +54,12 @@ pub struct Entry {
 
 /// Which first points count from their start.
 #[derive(Clone, Copy, Debug, Default, PartialEq, Eq, clap::ValueEnum)]
-pub enum First {
+pub enum InitialValue {
     /// Those of runs that began after this folder was made
     #[default]
     Auto,
     /// All, whatever was counted elsewhere before
-    Count,
+    Keep,
     /// None
     Drop,
 }
@@ -79,8 +79,8 @@ pub enum Reset {
 #[group(skip)]
 pub struct Options {
     /// Which first points of series count from their start; of others what they have already is left out
-    #[arg(long, env = "TOTXEGUN_FIRST", value_name = "WHICH", default_value = "auto", value_enum)]
-    pub first: First,
+    #[arg(long, env = "TOTXEGUN_INITIAL_VALUE", value_name = "WHICH", default_value = "auto", value_enum)]
+    pub initial_value: InitialValue,
     /// What a point is that has less than the one before it, of the same start
     #[arg(long, env = "TOTXEGUN_RESET", value_name = "WHAT", default_value = "refuse", value_enum)]
     pub reset: Reset,
@@ -108,12 +108,12 @@ pub enum Kind {
 impl Since {
     /// Whether a first point with this start counts from there. If the start is unknown, nothing says what the run
     /// counted before.
-    fn counts(self, first: First, start: u64) -> bool {
+    fn counts(self, initial_value: InitialValue, start: u64) -> bool {
         let is_new = start > 0 && start >= self.forgotten;
-        match first {
-            First::Drop => false,
-            First::Count => is_new,
-            First::Auto => is_new && start >= self.made,
+        match initial_value {
+            InitialValue::Drop => false,
+            InitialValue::Keep => is_new,
+            InitialValue::Auto => is_new && start >= self.made,
         }
     }
 }
@@ -180,7 +180,7 @@ fn first(options: Options, since: Since, point: &Point) -> Result<Entry, Reason>
         // It is from before the series was forgotten, so it may have been counted.
         return Err(Reason::Forgotten);
     }
-    Ok(match since.counts(options.first, point.start) && !is_instant(point) {
+    Ok(match since.counts(options.initial_value, point.start) && !is_instant(point) {
         true => counted(point, point.start),
         false => noted(point),
     })

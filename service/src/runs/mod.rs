@@ -19,7 +19,7 @@ mod law;
 
 pub use draft::{Draft, Posted};
 pub use forgotten::Forgotten;
-pub use law::{EndedRun, Entry, First, Kind, Options, Point, Reset, Run, Since};
+pub use law::{EndedRun, Entry, InitialValue, Kind, Options, Point, Reset, Run, Since};
 
 use crate::core::Names;
 use crate::files::{self, OfRun, Outbox, Points};

@@ -31,8 +31,8 @@ fn noted(start: u64, time: u64, words: &[u64]) -> Result<Option<Entry>, Reason> 
 
 const SINCE: Since = Since { made: 100, forgotten: 50 };
 
-fn options(first: First, reset: Reset) -> Options {
-    Options { first, reset }
+fn options(initial_value: InitialValue, reset: Reset) -> Options {
+    Options { initial_value, reset }
 }
 
 #[test]
@@ -42,30 +42,30 @@ fn a_first_point_counts_from_its_start_as_it_was_told() {
         entry(options, SINCE, Kind::Monotonic, None, &point(start, time, &[7]))
     };
     let cases = [
-        (First::Auto, 100, counted(100, 100, 200, &[7])),
-        (First::Auto, 99, noted(99, 200, &[7])),
-        (First::Auto, 0, noted(0, 200, &[7])),
+        (InitialValue::Auto, 100, counted(100, 100, 200, &[7])),
+        (InitialValue::Auto, 99, noted(99, 200, &[7])),
+        (InitialValue::Auto, 0, noted(0, 200, &[7])),
         // Its start is unknown.
-        (First::Auto, 200, noted(200, 200, &[7])),
-        (First::Count, 99, counted(99, 99, 200, &[7])),
+        (InitialValue::Auto, 200, noted(200, 200, &[7])),
+        (InitialValue::Keep, 99, counted(99, 99, 200, &[7])),
         // It may have been counted before the series was forgotten.
-        (First::Count, 49, noted(49, 200, &[7])),
-        (First::Count, 0, noted(0, 200, &[7])),
-        (First::Drop, 150, noted(150, 200, &[7])),
+        (InitialValue::Keep, 49, noted(49, 200, &[7])),
+        (InitialValue::Keep, 0, noted(0, 200, &[7])),
+        (InitialValue::Drop, 150, noted(150, 200, &[7])),
     ];
     for (option, start, wanted) in cases {
         assert_eq!(first(option, start, 200), wanted, "{option:?} {start}");
     }
     // Late, of a series that may have been counted before it was forgotten.
-    assert_eq!(first(First::Auto, 40, 50), Err(Reason::Forgotten));
-    assert_eq!(first(First::Auto, 40, 51), noted(40, 51, &[7]));
+    assert_eq!(first(InitialValue::Auto, 40, 50), Err(Reason::Forgotten));
+    assert_eq!(first(InitialValue::Auto, 40, 51), noted(40, 51, &[7]));
 }
 
 #[test]
 fn a_later_point_adds_what_its_run_has_more_or_all_of_a_new_run() {
     let known = run(110, 200, &[7]);
     let next = |reset, kind, start, time, value: i64| {
-        let options = options(First::Auto, reset);
+        let options = options(InitialValue::Auto, reset);
         entry(options, SINCE, kind, Some(&known), &point(start, time, &[value as u64]))
     };
     let refuse = |start, time, value| next(Reset::Refuse, Kind::Monotonic, start, time, value);
@@ -134,17 +134,22 @@ fn a_run_is_noted_that_overlaps_one_which_was_silent_for_three_intervals() {
         let options = options(first, Reset::Refuse);
         entry(options, SINCE, Kind::Monotonic, Some(known), &point(start, time, &[9]))
     };
-    for (first, start) in [(First::Auto, 150), (First::Drop, 199), (First::Count, 109), (First::Auto, 0)] {
+    for (first, start) in [
+        (InitialValue::Auto, 150),
+        (InitialValue::Drop, 199),
+        (InitialValue::Keep, 109),
+        (InitialValue::Auto, 0),
+    ] {
         for time in [201, 229] {
             assert_eq!(next(first, &known, start, time), Err(Reason::EarlierRun), "{start} {time}");
         }
         assert_eq!(next(first, &known, start, 230), noted(start, 230, &[9]));
     }
     // A run that begins after it counts at once.
-    assert_eq!(next(First::Auto, &known, 200, 201), counted(200, 200, 201, &[9]));
+    assert_eq!(next(InitialValue::Auto, &known, 200, 201), counted(200, 200, 201, &[9]));
     // Its interval is unknown.
     let unknown = Run { interval: 0, ..known };
-    assert_eq!(next(First::Auto, &unknown, 150, 9_000), Err(Reason::EarlierRun));
+    assert_eq!(next(InitialValue::Auto, &unknown, 150, 9_000), Err(Reason::EarlierRun));
 }
 
 /// Also if a start reads it again.
@@ -234,7 +239,7 @@ fn what_was_added_is_the_sum_of_the_last_values_of_the_runs() {
                 };
                 let point = point(start, time, &[value as u64]);
                 let Ok(entry) = entry(
-                    options(First::Count, Reset::Refuse),
+                    options(InitialValue::Keep, Reset::Refuse),
                     Since::default(),
                     kind,
                     kept.as_ref(),
@@ -276,7 +281,7 @@ fn entries_behind_any_commit_come_to_what_was_kept() {
             let words = words.map(|word| if words[1] == 0 && word == words[2] { 0 } else { word });
             let point = point(start, time, &words);
             let before = kept.last().cloned().flatten();
-            let first = [First::Auto, First::Drop][chance.below(2) as usize];
+            let first = [InitialValue::Auto, InitialValue::Drop][chance.below(2) as usize];
             let found = entry(
                 options(first, Reset::Count),
                 Since::default(),

@@ -107,7 +107,7 @@ fn row_of(says: &[u64]) -> [u64; 4] {
 #[cfg(test)]
 mod tests {
     use super::*;
-    use crate::runs::{First, Options};
+    use crate::runs::{InitialValue, Options};
     use crate::slot::Shared;
     use std::sync::Arc;
 
@@ -186,7 +186,7 @@ mod tests {
     #[tokio::test]
     async fn so_is_a_cumulative_one_and_one_without_numbers() {
         let slot = Slot::in_memory(&Shared::of_test());
-        slot.runs.set(Options { first: First::Count, ..Options::default() });
+        slot.runs.set(Options { initial_value: InitialValue::Keep, ..Options::default() });
         let runs = sums(10, &[i64::MAX, 5]).replace(r#"Temporality":1"#, r#"Temporality":2"#);
         let by = slot.numbered_text(&runs.into()).unwrap().unwrap();
         let outcome = slot.request("A".into(), by.into()).await;

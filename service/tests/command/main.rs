@@ -107,7 +107,7 @@ fn help_names_each_command_and_option() {
         "forward-unsupported",
         "cumulative",
         "exponential",
-        "first",
+        "initial-value",
         "reset",
         "max-series",
         "max-memory",

@@ -148,7 +148,8 @@ fn what_comes_behind_a_repair_is_counted_once_over_kills() {
 #[test]
 fn a_cumulative_run_goes_on_behind_a_repair() {
     let place = Place::new();
-    let service = place.serve_with(&["--sink", &place.sink(), "--max-ahead", "off", "--first", "count"]);
+    let service =
+        place.serve_with(&["--sink", &place.sink(), "--max-ahead", "off", "--initial-value", "keep"]);
     let begin = now() / SECOND * SECOND - 1000 * SECOND;
     let point = |time: u64, value: i64| {
         let sum = "\"aggregationTemporality\":2,\"isMonotonic\":true";

@@ -76,8 +76,16 @@ impl Senders {
 
     fn serve(&self, more: &[&str]) -> Service {
         let sink = self.place.sink();
-        let words =
-            ["--sink", &sink, "--tokens", &self.tokens, "--first", "count", "--listen-grpc", &self.grpc];
+        let words = [
+            "--sink",
+            &sink,
+            "--tokens",
+            &self.tokens,
+            "--initial-value",
+            "keep",
+            "--listen-grpc",
+            &self.grpc,
+        ];
         self.place.serve_with(&[&words, more].concat())
     }
 

@@ -6,12 +6,12 @@ use super::*;
 use crate::core::Refused;
 use crate::files::test_random::TestRandom;
 use crate::otlp::Outcome;
-use crate::runs::{First, Options, Reset};
+use crate::runs::{InitialValue, Options, Reset};
 use std::collections::BTreeMap;
 
 #[tokio::test(flavor = "multi_thread")]
 async fn runs_over_kills_and_quarantines_come_to_the_sum_of_their_last_values() {
-    let options = Options { first: First::Count, reset: Reset::Refuse };
+    let options = Options { initial_value: InitialValue::Keep, reset: Reset::Refuse };
     for seed in 1..=4 {
         let place = tempfile::tempdir().unwrap();
         let (mut chance, mut now, mut kills) = (TestRandom(seed), BEGIN + 10, 0);
@@ -347,7 +347,7 @@ async fn a_journal_that_is_cut_anywhere_goes_on_with_what_is_posted_again() {
     const HEADER: usize = 64; // and the durable watermark before it
     let place = tempfile::tempdir().unwrap();
     let path = place.path().join("data0");
-    let options = Options { first: First::Count, reset: Reset::Refuse };
+    let options = Options { initial_value: InitialValue::Keep, reset: Reset::Refuse };
     let run = Run::begin_runs(&path, options).await;
     let (mut chance, mut plain, mut program) = (TestRandom(7), Plain::default(), Program::new("A"));
     let mut posts = Vec::new();

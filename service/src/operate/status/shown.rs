@@ -304,7 +304,7 @@ fn cumulative(status: &Status) -> Section {
     let note = match of.noted {
         0 => format!("{series} series come cumulative"),
         _ => format!(
-            "{series} series come cumulative; what {noted} had before their first point here is left out (--first)"
+            "{series} series come cumulative; what {noted} had before their first point here is left out (--initial-value)"
         ),
     };
     Section::new("Cumulative series", &[], Vec::new()).noting((of.series > 0).then_some(note))
