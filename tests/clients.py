@@ -156,7 +156,7 @@ def compare_rounding(checks: Checks, totxegun: str, service: Service, ways: list
                  {one["metric"]: (one["values"], round(one["together"], 6)) for one in rounded["greatest"]}))
     order = [one["together"] for one in rounded["greatest"]]
     checks.same("the one that was rounded by most comes first", sorted(order, reverse=True), order)
-    greatest = metrics(service)[f'totxegun_greatest_rounding_units{{whole="{RULE}"}}']
+    greatest = metrics(service)[f'totxegun_greatest_rounding_units{{rule="{RULE}"}}']
     checks.same("the metric has the most", max(order), greatest)
     checks.true("no total is further from the truth", all(abs(found[way.series] - way.exact) <= way.rounded_by for way in ways),
                 [(way.series, way.exact, way.rounded_by, found[way.series]) for way in ways])
@@ -168,7 +168,7 @@ def compare_rounding(checks: Checks, totxegun: str, service: Service, ways: list
 def run(checks: Checks, totxegun: str, folder: str, stack: contextlib.ExitStack) -> list[str]:
     """Which clients are not installed."""
     sink, stop = SqliteSink(f"{folder}/sink.db"), threading.Event()
-    service = Service(totxegun, f"{folder}/data", sink.address, "--flush-interval", "1s", "--whole", "s=us")
+    service = Service(totxegun, f"{folder}/data", sink.address, "--flush-interval", "1s", "--integer-unit", "s=us")
     stack.callback(service.kill)
     service.start()
     checks.true("the service is ready", service.wait_ready(PATIENCE), service.last_lines())

@@ -6,7 +6,7 @@ it, and what is not added up is handed on to another receiver.
 
 First the units: sums and histograms of doubles, in both encodings, over kills and flushes. The sink has what this program
 added up by its own exact numbers, each metric in the one unit that it was first taken in, also where whole numbers came
-first, and where an earlier run was told `--whole off`. Then exponential histograms of drawn values, delta and cumulative, at
+first, and where an earlier run was told `--integer-unit off`. Then exponential histograms of drawn values, delta and cumulative, at
 several scales: the sink has each value in that bucket of `--exponential` in which it is. Then `--forward-unsupported`: a receiver gets the
 gauges of each post as they came, byte for byte and each once, by way of a second service too; no answer rejects them, no
 metric calls them foreign, and neither a receiver that stalls nor one that is gone holds up a post.
@@ -134,7 +134,7 @@ def again(checks: Checks, service: Service, options: Sequence[str] = ()) -> None
 
 def units(checks: Checks, totxegun: str, chance: random.Random, folder: str) -> None:
     sink = f"{folder}/units.db"
-    service = Service(totxegun, f"{folder}/units", f"sqlite:{sink}", "--flush-interval", "1h", "--whole", "auto")
+    service = Service(totxegun, f"{folder}/units", f"sqlite:{sink}", "--flush-interval", "1h", "--integer-unit", "auto")
     try:
         service.start()
         checks.true("the service is ready", service.wait_ready(), service.last_lines())
@@ -179,17 +179,17 @@ def units(checks: Checks, totxegun: str, chance: random.Random, folder: str) -> 
 def kept_units(checks: Checks, totxegun: str, folder: str) -> None:
     """A folder of an earlier version, and other options."""
     sink = f"{folder}/kept.db"
-    service = Service(totxegun, f"{folder}/kept", f"sqlite:{sink}", "--flush-interval", "1h", "--whole", "off")
+    service = Service(totxegun, f"{folder}/kept", f"sqlite:{sink}", "--flush-interval", "1h", "--integer-unit", "off")
     try:
         service.start()
         service.wait_ready()
         posts = Posts(service)
         posts.post([("wait", "s", "sum", [2]), ("age", "ms", "sum", [2])])
-        again(checks, service, ["--whole", "auto"])
+        again(checks, service, ["--integer-unit", "auto"])
         metrics = [("wait", "s", "sum", [2, 0.5]), ("age", "s", "sum", [0.25]), ("new", "s", "sum", [0.25])]
         checks.same("a metric goes on in its unit, a new one is in a finer one", (200, 1), posts.post(metrics, JSON)[:2])
         service.order("/flush")
-        again(checks, service, ["--whole", "s=ns"])
+        again(checks, service, ["--integer-unit", "s=ns"])
         posts.post([("new", "ms", "sum", [0.25]), ("wait", "s", "sum", [0.5])])
         flushed(checks, service, "other options")
         wanted = {"wait": {"s": 4, "ns": 500_000_000}, "age": {"ms": 252}, "new": {"us": 250_250}}

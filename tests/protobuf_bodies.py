@@ -320,7 +320,7 @@ class Served:
         data = stack.enter_context(tempfile.TemporaryDirectory(prefix="bodies-"))
         # No flush but those that are ordered.
         self.service = Service(totxegun, f"{data}/data", self.sink.address, "--sink-protobuf", "--flush-interval", "1h",
-                               "--whole", "off", "--cumulative", "off")
+                               "--integer-unit", "off", "--cumulative", "off")
         stack.callback(self.service.kill)
         self.service.start()
         if not self.service.wait_ready():

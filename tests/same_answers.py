@@ -218,7 +218,7 @@ class Served:
         data = stack.enter_context(tempfile.TemporaryDirectory(prefix="same-"))
         self.service = Service(program, f"{data}/data", self.sink.address, "--flush-interval", "1h", "--durability", "process",
                                "--max-series", str(max_series), "--sender-series", "1000000",  # a gateway has no shares
-                               "--whole", "off", "--cumulative", "off")
+                               "--integer-unit", "off", "--cumulative", "off")
         stack.callback(self.service.kill)
         self.service.start()
         if not self.service.wait_ready():

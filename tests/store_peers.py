@@ -4,7 +4,7 @@
     tests/store_peers.py PROGRAM
 
 They speak TLS with each other, and let nobody else in; a start waits for the store; without it posts are turned away at
-once; a slot that one can't open goes to another; what `--whole auto` has decided stays where the slot goes; the sink is the
+once; a slot that one can't open goes to another; what `--integer-unit auto` has decided stays where the slot goes; the sink is the
 one that the store knows; one whose clock is wrong has no slots; of two processes of one name the later one ends; a server that
 asks for no standby any more is seen. Skipped without PostgreSQL, openssl or gcc.
 

@@ -58,7 +58,7 @@ struct CheckReport {
     outbox_bytes: u64,
     series: usize,
     quarantined: Vec<String>,
-    /// Metrics, each with a unit that a rule of `--whole` brought beside a finer one: no other of its name is taken in it.
+    /// Metrics, each with a unit that a rule of `--integer-unit` brought beside a finer one: no other of its name is taken in it.
     beside: BTreeSet<UnitOfMetric>,
     /// Of the posts, those in quarantined senders' own files.
     held_posts: u64,

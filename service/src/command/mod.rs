@@ -249,10 +249,10 @@ mod tests {
             ("serve", "threads", None),
             ("serve", "sink-gzip", Some("Options of an OTLP sink")),
             ("serve", "tokens", Some("Options of TLS and of who a sender is")),
-            ("serve", "whole", Some("Options of reading")),
+            ("serve", "integer-unit", Some("Options of reading")),
             ("serve", "max-series", Some("Options of the book")),
             ("explain", "json", None),
-            ("explain", "whole", Some("Options of reading")),
+            ("explain", "integer-unit", Some("Options of reading")),
         ] {
             assert_eq!(heading(command, option).as_deref(), wanted, "{command} --{option}");
         }
@@ -301,8 +301,8 @@ mod tests {
             ("serve --data d --sender-attribute=", "--sender-attribute"),
             ("serve --data d --sender-attribute a\"b", "--sender-attribute"),
             ("explain - --sender a/b", "--sender"),
-            ("serve --data d --whole s=h", "--whole"),
-            ("serve --data d --whole s=0:us", "--whole"),
+            ("serve --data d --integer-unit s=h", "--integer-unit"),
+            ("serve --data d --integer-unit s=0:us", "--integer-unit"),
             ("serve --data d --exponential 2,1", "--exponential"),
             ("serve --datum d", "--datum"),
             ("quarantine", "<NAME>"),

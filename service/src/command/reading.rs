@@ -22,8 +22,8 @@ pub(super) struct OfReading {
     )]
     drop_attributes: Vec<String>,
     /// Takes what is measured in one unit as whole numbers of a finer one, rounded: s=us, By, FROM=FACTOR:TO; may be given again. `auto` is for doubles and histograms of known units without such a rule, `off` leaves these out [default: auto]
-    #[arg(long, env = "TOTXEGUN_WHOLE", value_name = "FROM=TO", value_delimiter = ',')]
-    whole: Vec<Choice>,
+    #[arg(long, env = "TOTXEGUN_INTEGER_UNIT", value_name = "FROM=TO", value_delimiter = ',')]
+    integer_unit: Vec<Choice>,
     /// The resource attribute that names a sender without the header x-sender: service.instance.id
     #[arg(long, env = "TOTXEGUN_SENDER_FROM", value_name = "ATTRIBUTE", value_parser = NonEmptyStringValueParser::new())]
     sender_from: Option<String>,
@@ -63,7 +63,7 @@ impl OfReading {
             Choice::Off => "off".to_string(),
             Choice::Rule(rule) => rule.to_string(),
         };
-        let whole: Vec<String> = self.whole.iter().map(choice).collect();
+        let units: Vec<String> = self.integer_unit.iter().map(choice).collect();
         let cumulative = match self.cumulative {
             Profile::AlsoCumulative => "On",
             Profile::Deltas => "Off",
@@ -72,9 +72,9 @@ impl OfReading {
         let sender_attribute = self.sender_attribute.as_ref();
         let sender_attribute = sender_attribute.map(|name| format!(" sender-attribute={name}"));
         format!(
-            "whole={} drop-attribute={} sender-from={} cumulative={cumulative} split-at={across:?} instance-from-sender={} \
+            "integer-unit={} drop-attribute={} sender-from={} cumulative={cumulative} split-at={across:?} instance-from-sender={} \
              exponential={:?}{}",
-            whole.join(","),
+            units.join(","),
             self.drop_attributes.join(","),
             self.sender_from.as_deref().unwrap_or_default(),
             self.instance_from_sender,
@@ -97,7 +97,7 @@ impl OfReading {
                 bail!("--instance-from-sender gives what --sender-attribute {INSTANCE} does: leave it out");
             }
         }
-        let finer_units = FinerUnits::of(self.whole).map_err(|why| anyhow!(why))?;
+        let finer_units = FinerUnits::of(self.integer_unit).map_err(|why| anyhow!(why))?;
         Ok(Reading {
             dropped: self.drop_attributes,
             finer_units: finer_units.with_profile(self.cumulative),
@@ -136,11 +136,12 @@ mod tests {
         let likeness = |words: &[&str]| Line::parse_from(words).of_reading.likeness(Across::Hour);
         assert_eq!(
             likeness(&["serve"]),
-            "whole= drop-attribute= sender-from= cumulative=On split-at=Hour instance-from-sender=false exponential=None"
+            "integer-unit= drop-attribute= sender-from= cumulative=On split-at=Hour instance-from-sender=false exponential=None"
         );
-        let words = ["serve", "--whole", "auto,s=ms", "--drop-attribute", "a,b", "--sender-from", "id"];
+        let words =
+            ["serve", "--integer-unit", "auto,s=ms", "--drop-attribute", "a,b", "--sender-from", "id"];
         let told = likeness(&words);
-        let begin = "whole=auto,s=1000:ms drop-attribute=a,b sender-from=id cumulative=On ";
+        let begin = "integer-unit=auto,s=1000:ms drop-attribute=a,b sender-from=id cumulative=On ";
         assert!(told.starts_with(begin), "{told}");
         let told = likeness(&["serve", "--sender-attribute", "posted.by"]);
         assert!(told.ends_with(" exponential=None sender-attribute=posted.by"), "{told}");

@@ -50,12 +50,12 @@ metrics! {
             "Points that were not taken, as --expect-rejected says";
         pub passed_points: IntCounterVec = "passed_points_total" ["outcome"] of ["taken", "refused", "lost", "dropped"],
             "Points outside the profile that --forward-unsupported was to hand on, by what became of them";
-        pub rounded_values: IntCounterVec = "rounded_values_total" ["whole"],
-            "Values of posts that were taken that `--whole` has rounded, by its rule";
-        pub rounding: CounterVec = "rounding_units_total" ["whole"],
+        pub rounded_values: IntCounterVec = "rounded_values_total" ["rule"],
+            "Values of posts that were taken that `--integer-unit` has rounded, by its rule";
+        pub rounding: CounterVec = "rounding_units_total" ["rule"],
             "What these values were rounded by together, in the finer unit, over all series";
         // The maximum of `by_series`, set when the page is made.
-        greatest_rounding: GaugeVec = "greatest_rounding_units" ["whole"],
+        greatest_rounding: GaugeVec = "greatest_rounding_units" ["rule"],
             "What the values of one series were rounded by together, in the finer unit, of all series the most: no total is further from the truth";
         // `of` is `series` or `points`. Set when the page is made.
         sender_share: GaugeVec = "sender_share_ratio" ["sender", "of"],
@@ -337,7 +337,7 @@ mod tests {
         let twice = Rounding { values: 4, together: 1.5 };
         assert_eq!(metrics.all_rounded(), [(rule, twice)]);
         let page = page(&metrics);
-        assert!(page.contains("totxegun_rounding_units_total{whole=\"s=1000:ms\"} 1.5"), "{page}");
+        assert!(page.contains("totxegun_rounding_units_total{rule=\"s=1000:ms\"} 1.5"), "{page}");
     }
 
     #[test]

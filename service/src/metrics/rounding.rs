@@ -1,4 +1,4 @@
-//! What `--whole` has rounded since the start, by series: which totals may be off, and by how much at most. `Metrics`
+//! What `--integer-unit` has rounded since the start, by series: which totals may be off, and by how much at most. `Metrics`
 //! owns it.
 //!
 //! There are at most as many series as the service may have. If there are more, those that were rounded longest ago are

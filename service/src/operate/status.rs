@@ -49,7 +49,7 @@ pub struct Status {
     pub limits: LimitsStatus,
     /// Those that are nearest to their share, the nearest first.
     pub shares: Vec<Used>,
-    /// What `--whole` has rounded since the start.
+    /// What `--integer-unit` has rounded since the start.
     pub rounded: Vec<RoundedStatus>,
     pub cumulative: CumulativeStatus,
     pub late: LateStatus,

@@ -1,4 +1,4 @@
-//! `--whole`: what is measured in one unit is taken as whole numbers of a finer one.
+//! `--integer-unit`: what is measured in one unit is taken as whole numbers of a finer one.
 //!
 //! `rewrite` does it to a request in the book's form, so it is the same for both encodings. A double counts as its
 //! shortest decimal, which is what a program wrote or meant, and is multiplied exactly. `rounded` is what was rounded meanwhile. `units` decides for metrics that no rule is for, and `scale` is the same
@@ -127,7 +127,7 @@ impl fmt::Display for Rule {
     }
 }
 
-/// What `--whole` is given: a rule, or how metrics without one are taken.
+/// What `--integer-unit` is given: a rule, or how metrics without one are taken.
 #[derive(Clone, Debug, PartialEq, Eq)]
 pub enum Choice {
     Auto,
@@ -163,7 +163,7 @@ impl FinerUnits {
         let mut all = BTreeMap::new();
         for rule in rules {
             if let Some(other) = all.insert(rule.from.clone(), rule) {
-                return Err(format!("--whole has two rules for the unit `{}`", other.from));
+                return Err(format!("--integer-unit has two rules for the unit `{}`", other.from));
             }
         }
         Ok(FinerUnits { rules: all, units: None, profile: Profile::default() })
@@ -180,7 +180,7 @@ impl FinerUnits {
             }
         }
         match said {
-            [true, true] => Err("--whole is both auto and off: leave one out".to_string()),
+            [true, true] => Err("--integer-unit is both auto and off: leave one out".to_string()),
             [_, true] => FinerUnits::new(rules),
             _ => Ok(FinerUnits { units: Some(Arc::default()), ..FinerUnits::new(rules)? }),
         }

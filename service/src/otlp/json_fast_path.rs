@@ -57,7 +57,7 @@ struct Look<'a> {
     bounds: &'a [u8],
     /// From the metric on that it is in,
     metric: &'a [u8],
-    /// whose unit is one that `--whole` is about,
+    /// whose unit is one that `--integer-unit` is about,
     is_measured: bool,
     /// and of which a point has a double.
     has_doubles: bool,

@@ -83,7 +83,7 @@ impl Series {
         learn: impl Fn(Bytes) -> Option<Learnt>,
     ) -> Option<Numbered> {
         if reading.finer_units.has_no_unit() {
-            return None; // all metrics have a unit of `--whole`
+            return None; // all metrics have a unit of `--integer-unit`
         }
         Walk::new(&self.learner(reading, &learn), body.len()).request(body).ok()
     }

@@ -18,7 +18,7 @@ pub struct Output<'r> {
     /// UTF-8, since who gives a text has looked at it.
     pub text: Vec<u8>,
     reading: &'r Reading,
-    /// Whether a metric has a unit that `--whole` is about.
+    /// Whether a metric has a unit that `--integer-unit` is about.
     pub is_measured: bool,
     /// Whether a metric is cumulative.
     pub is_cumulative: bool,

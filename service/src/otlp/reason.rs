@@ -49,13 +49,13 @@ reasons! {
     /// A cumulative sum that may go down.
     UpDownCounter "up_down_counter" Points(["UpDownCounter", "UpDownCounters"]),
         "these are cumulative also with the preference delta: use two Counters, or name them by --expect-rejected";
-    /// A number that no rule of `--whole` takes.
+    /// A number that no rule of `--integer-unit` takes.
     Double "double" Points(["double", "doubles"]),
         "use an instrument of whole numbers (Go's Int64Counter, Java's LongCounter, JavaScript's ValueType.INT, Python's int, \
-         .NET's Counter<long>, Rust's u64_counter), or serve with --whole";
+         .NET's Counter<long>, Rust's u64_counter), or serve with --integer-unit";
     /// A histogram with a bound or a sum that is not whole.
     Fraction "fraction" Points(["histogram with a fraction", "histograms with fractions"]),
-        "use whole values and bounds (Go's Int64Histogram, Java's ofLongs(), Rust's u64_histogram), or serve with --whole";
+        "use whole values and bounds (Go's Int64Histogram, Java's ofLongs(), Rust's u64_histogram), or serve with --integer-unit";
     /// Its own, its scope's or its resource's are not those of a series.
     Attribute "attribute" Points(["point with bad attributes", "points with bad attributes"]),
         "use texts, whole numbers, truths and lists of them, each key once, or --drop-attribute";

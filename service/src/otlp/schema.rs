@@ -69,7 +69,7 @@ pub enum Kind {
     /// The list from which attributes are dropped.
     ResourceAttributes,
     Text,
-    /// A metric's unit, by which `--whole` tells what it is about.
+    /// A metric's unit, by which `--integer-unit` tells what it is about.
     Unit,
     Bool,
     Temporality,

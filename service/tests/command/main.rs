@@ -103,7 +103,7 @@ fn help_names_each_command_and_option() {
         "keep-intervals",
         "keep-hours",
         "drop-attribute",
-        "whole",
+        "integer-unit",
         "forward-unsupported",
         "cumulative",
         "exponential",
@@ -139,8 +139,8 @@ fn a_faulty_line_has_status_2() {
         (&[&serve[..], &["--sink-gzip"]].concat()[..], "for a sink of OTLP"),
         (&[&serve[..], &["--listen", "4318"]].concat(), "write HOST:PORT"),
         (&[&serve[..], &["--sink-header", "host: h"]].concat(), "`host`"),
-        (&[&serve[..], &["--whole", "s=us,s=ms"]].concat(), "two rules for the unit `s`"),
-        (&[&serve[..], &["--whole", "auto,off"]].concat(), "both auto and off"),
+        (&[&serve[..], &["--integer-unit", "s=us,s=ms"]].concat(), "two rules for the unit `s`"),
+        (&[&serve[..], &["--integer-unit", "auto,off"]].concat(), "both auto and off"),
         (
             &[&serve[..], &["--forward-unsupported", "h:4318"]].concat(),
             "--forward-unsupported takes http://HOST:PORT or https://HOST",
@@ -152,7 +152,7 @@ fn a_faulty_line_has_status_2() {
         ),
         (&[&serve[..], &["--forward-unsupported-ca", "f"]].concat(), "are for --forward-unsupported"),
         (&[&serve[..], &["--sink-ca", "f"]].concat(), "for a sink of OTLP"),
-        (&["explain", "-", "--whole", "s=us,s=ms"], "two rules for the unit `s`"),
+        (&["explain", "-", "--integer-unit", "s=us,s=ms"], "two rules for the unit `s`"),
     ] {
         refused(words, 2, part);
     }

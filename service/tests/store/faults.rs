@@ -283,7 +283,7 @@ fn what_a_start_writes_or_reads_is_not_believed_without_its_standby() {
     let reads: [fn(&PostgresStore) -> String; 3] = [
         |store| store.sink().unwrap(),
         |store| store.set_sink("", "other").unwrap(),
-        |store| store.agree("whole=auto").map(|()| "one".into()).unwrap(),
+        |store| store.agree("integer-unit=auto").map(|()| "one".into()).unwrap(),
     ];
     let reads = reads.map(asks);
     sleep(Duration::from_secs(1));

@@ -98,13 +98,13 @@ fn what_a_start_asks_is_asked_again_where_the_server_has_gone_away() {
         let asking = scope.spawn(|| {
             assert_eq!(store.sink().unwrap(), "");
             assert_eq!(store.set_sink("", "one").unwrap(), "one");
-            store.agree("whole=auto").unwrap();
+            store.agree("integer-unit=auto").unwrap();
         });
         thread::sleep(Duration::from_secs(2));
         assert!(!asking.is_finished());
         server.run();
     });
-    let other = store.agree("whole=never").unwrap_err();
+    let other = store.agree("integer-unit=off").unwrap_err();
     assert!(matches!(other, StoreFault::Reading { .. }), "{other}");
 }
 

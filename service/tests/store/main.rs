@@ -27,7 +27,7 @@ const STRAYS: &str = "select count(*) from totxegun_store.piece
     where (slot, file) not in (select slot, file from totxegun_store.file)";
 
 fn open(text: &str, copies: Copies) -> PostgresStore {
-    opened(&address(text).unwrap(), copies, "whole=auto").unwrap()
+    opened(&address(text).unwrap(), copies, "integer-unit=auto").unwrap()
 }
 
 /// As by an instance that reads posts so.

@@ -13,7 +13,7 @@ use totxegun::store::moving::from_folder;
 use totxegun::store::postgres::{address, Copies, Standing};
 
 fn refused(text: &str, part: &str) {
-    match opened(&address(text).unwrap(), Copies::One, "whole=auto") {
+    match opened(&address(text).unwrap(), Copies::One, "integer-unit=auto") {
         Ok(_) => panic!("it was opened: {part}"),
         Err(fault) => assert!(fault.to_string().contains(part), "{part} in {fault}"),
     }

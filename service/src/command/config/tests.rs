@@ -14,7 +14,7 @@ fn sample(option: &str, arg: &Arg) -> String {
         (_, _, Some(other)) if arg.get_action().takes_values() => other.into(),
         ("sink" | "forward-unsupported", ..) => "http://h:1/p".into(),
         ("store", ..) => "postgres://u@h/d".into(),
-        ("whole", ..) => "s=ms".into(),
+        ("integer-unit", ..) => "s=ms".into(),
         ("exponential", ..) => "1,2".into(),
         ("max-age", ..) => "7h".into(),
         (_, "ADDRESS", _) => "127.0.0.1:1".into(),
@@ -124,11 +124,11 @@ fn a_fault_is_said_with_its_file() {
 fn explain_has_the_settings_of_reading() {
     let folder = tempfile::tempdir().unwrap();
     let path = folder.path().join("s.toml");
-    std::fs::write(&path, "threads = 2\nwhole = [\"s=ms\"]\n").unwrap();
+    std::fs::write(&path, "threads = 2\ninteger-unit = [\"s=ms\"]\n").unwrap();
     let parsed = parsed(&["totxegun", "explain", "-", "--config", path.to_str().unwrap()]).unwrap();
     let (_, matches) = parsed.matches.subcommand().unwrap();
-    let whole: Vec<_> = matches.get_raw("whole").unwrap().collect();
-    assert_eq!(whole, ["s=ms"]);
+    let units: Vec<_> = matches.get_raw("integer_unit").unwrap().collect();
+    assert_eq!(units, ["s=ms"]);
     assert!(super::tests::parsed(&["totxegun", "status", "--config", "/none"])
         .err()
         .unwrap()

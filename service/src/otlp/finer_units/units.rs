@@ -1,4 +1,4 @@
-//! `--whole auto`: in which unit the points of each metric are taken that has a known unit and no rule.
+//! `--integer-unit auto`: in which unit the points of each metric are taken that has a known unit and no rule.
 //!
 //! A metric is taken in **the coarsest unit, no coarser than its own, that a series of its name has**; where there is none, in
 //! a finer one if it has doubles, and else in its own. So what decides is what the folder knows already: a unit that was taken

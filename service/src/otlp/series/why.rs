@@ -66,7 +66,7 @@ wrong! {
     EmptySpan Span "timeUnixNano is {value}, not over its start";
     NotRecorded NoValue "its flags say that no value was recorded";
     NoNumber NoValue "it has no asInt";
-    Double Double "it is a double, {value}: use an instrument of whole numbers, or serve with --whole UNIT=FINER";
+    Double Double "it is a double, {value}: use an instrument of whole numbers, or serve with --integer-unit UNIT=FINER";
     NotWhole Other "{field} is {value}, no whole number";
     Negative Other "{field} is {value}, below zero";
     TooLarge Other "{field} is {value}, over the limit";
@@ -102,19 +102,19 @@ impl fmt::Display for Why<'_> {
         let value = self.value.map_or_else(|| "nothing".to_string(), shown);
         let words = match self.what {
             What::Double if is_past_whole(&value) => {
-                "it is a double, {value}, which also --whole takes for no whole number"
+                "it is a double, {value}, which also --integer-unit takes for no whole number"
             }
             what => what.row().1,
         };
         out.write_str(&words.replace("{field}", self.field).replace("{value}", &value))?;
         match self.is_fraction() {
-            true => out.write_str(": measure in a finer unit, or serve with --whole UNIT=FINER"),
+            true => out.write_str(": measure in a finer unit, or serve with --integer-unit UNIT=FINER"),
             false => Ok(()),
         }
     }
 }
 
-/// Whether `--whole` takes no such double, by whatever rule.
+/// Whether `--integer-unit` takes no such double, by whatever rule.
 fn is_past_whole(shown: &str) -> bool {
     let double: f64 = shown.parse().unwrap_or(0.0);
     double.is_nan() || double.abs() > MAX_WHOLE_DOUBLE as f64

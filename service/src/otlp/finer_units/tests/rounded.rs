@@ -1,4 +1,4 @@
-//! What `--whole` has rounded, by series and by rule.
+//! What `--integer-unit` has rounded, by series and by rule.
 
 use super::super::rounded::{rounded as noted, Mark};
 use super::*;

@@ -1,4 +1,4 @@
-//! What `--whole auto` decides, if shards move between instances or between starts.
+//! What `--integer-unit auto` decides, if shards move between instances or between starts.
 
 use super::*;
 use crate::files::drive::{self, lost, memory::Step, memory::Store, Drive};
