@@ -183,7 +183,7 @@ def look_at_group(checks: Checks, program: str, root: str, folder: str) -> None:
     os.chown(own, user, group)
     listen, operate = free_port(), free_port()
     words = ["serve", "--data", own, "--sink", f"sqlite:{at}/metrics.db", "--listen", f"127.0.0.1:{listen}",
-             "--admin", f"127.0.0.1:{operate}"]
+             "--admin", f"127.0.0.1:{operate}", "--listen-grpc", "off"]
 
     def read(of_group: int, how: str = "?mode=ro") -> tuple[int, str]:
         as_whom = ["setpriv", f"--reuid={NOBODY}", f"--regid={of_group}", "--clear-groups"]

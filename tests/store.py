@@ -70,7 +70,7 @@ def try_starts(checks: Checks, program: str, store: Pair, folder: str) -> None:
 
     peer, listen, operate = (f"127.0.0.1:{free_port()}" for _ in range(3))
     words = ["serve", "--data", f"{folder}/x", "--store", store.address, "--instance", "x", "--peer", peer, "--listen", listen,
-             "--admin", operate]
+             "--admin", operate, "--listen-grpc", "off"]
     sink = ["--sink", "http://127.0.0.1:1/"]
     for what, line, part in (("a store that was not made", [*words, *sink], "store init"),
                              ("a SQLite file", [*words, "--sink", f"sqlite:{folder}/s"], "SQLite file"),

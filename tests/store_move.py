@@ -191,6 +191,11 @@ class Filled:
 # What is there
 
 
+def addresses() -> list[str]:
+    """Where a service listens that is there for a moment."""
+    return ["--listen", f"127.0.0.1:{free_port()}", "--listen-grpc", "off", "--admin", f"127.0.0.1:{free_port()}"]
+
+
 def run(program: str, *words: str, environment: Mapping[str, str] | None = None, seconds: float = 120) -> tuple[int, str]:
     done = subprocess.run([program, *words], capture_output=True, text=True, check=False, timeout=seconds,
                           env=dict(os.environ, **environment or {}))
@@ -335,7 +340,7 @@ class Moves:
 
     def starts_on(self, *place: str) -> bool:
         """Whether a service would start there."""
-        words = [*place, "--sink", "http://127.0.0.1:1/", "--listen", f"127.0.0.1:{free_port()}", "--admin", f"127.0.0.1:{free_port()}"]
+        words = [*place, "--sink", "http://127.0.0.1:1/", *addresses()]
         if "--store" in words:
             words += ["--instance", "x", "--peer", f"127.0.0.1:{free_port()}", *ONE_COPY]
         with tempfile.TemporaryFile("w+") as log, subprocess.Popen([self.program, "serve", *words], stdout=log, stderr=log) as process:
@@ -454,15 +459,13 @@ def go_there(checks: Checks, program: str, moves: Moves, filled: Filled, folder:
     shutil.copytree(filled.data, data, ignore=LEFT)
     peer = f"127.0.0.1:{free_port()}"
     options = ["--store", address, "--instance", "a", "--peer", peer, "--cumulative", "on", "--flush-interval", "1h", *ONE_COPY]
-    status, text = run(program, "serve", "--data", data, "--sink", filled.sink.address, *options, "--listen", f"127.0.0.1:{free_port()}",
-                       "--admin", f"127.0.0.1:{free_port()}")
+    status, text = run(program, "serve", "--data", data, "--sink", filled.sink.address, *options, *addresses())
     checks.true("no instance starts in a folder with what nobody would deliver",
                 status == 1 and f"totxegun store move --from {data} {address}" in text, text)
     status, text, _ = moves.move(["--from", data, address])
     checks.true("it is moved", status == 0 and "counts in its place" in text, text)
     checks.true("no service starts on the folder any more", not moves.starts_on("--data", data), "it went on")
-    status, text = run(program, "serve", "--data", f"{folder}/x", "--sink", "http://127.0.0.1:1/", *options, "--listen",
-                       f"127.0.0.1:{free_port()}", "--admin", f"127.0.0.1:{free_port()}")
+    status, text = run(program, "serve", "--data", f"{folder}/x", "--sink", "http://127.0.0.1:1/", *options, *addresses())
     checks.true("another sink than the folder's is refused", status == 1 and "the instances of this store deliver to" in text, text)
     over = Service(program, data, filled.sink.address, *options)  # what it had is in the store
     filled.go_on(checks, "over the store", over)

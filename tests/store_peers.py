@@ -146,7 +146,7 @@ def ended(checks: Checks, what: str, *instances: Instance) -> None:
 def try_refused(checks: Checks, program: str, folder: str, store: Store, sink: OtlpSink) -> None:
     """Starts that end at once, each with what to do."""
     words = ["serve", "--data", f"{folder}/r", "--store", store.address, "--store-copies", "1", "--instance", "r", "--listen",
-             f"127.0.0.1:{free_port()}", "--admin", f"127.0.0.1:{free_port()}", "--sink", sink.address]
+             f"127.0.0.1:{free_port()}", "--listen-grpc", "off", "--admin", f"127.0.0.1:{free_port()}", "--sink", sink.address]
     port = free_port()
     wrong = store.address.rpartition("/")[0] + "/nowhere"
     for what, line, status, part in (

@@ -124,6 +124,7 @@ def refusals(checks: Checks, program: str, at: str) -> None:
             ("roots that are none", [*tls, "--client-ca", f"{at}/server.key"], 1, "--client-ca has no certificate")):
         words = [program, "serve", "--data", f"{at}/refused", "--admin", "127.0.0.1:0", *words]
         words += [] if "--listen" in words else ["--listen", "127.0.0.1:0"]
+        words += [] if "--listen-grpc" in words else ["--listen-grpc", "off"]
         try:
             done = subprocess.run(words, capture_output=True, text=True, timeout=30, check=False)
             checks.true(f"{what}: status {status}, and why", (done.returncode, why in done.stderr) == (status, True), done)

@@ -3,9 +3,9 @@
 
     tools/serve.py [PORT]
 
-Senders post to 127.0.0.1, port 4318 or PORT; operators read at the port after it. What was taken is kept in
-out/serve/data over runs. An interrupt ends the service. tools/service.py compiles it, by the quicker profile, with the proved
-library in book/.
+Senders post to 127.0.0.1, port 4318 or PORT, and call gRPC at the port before it; operators read at the port after it. What was
+taken is kept in out/serve/data over runs. An interrupt ends the service. tools/service.py compiles it, by the quicker profile,
+with the proved library in book/.
 """
 import os
 import signal
@@ -59,7 +59,7 @@ def listens(port: int) -> bool:
 def serve(program: str, port: int) -> int:
     """Runs the service until it ends, or is interrupted, and returns its status."""
     words = ["--data", f"{FOLDER}/data", "--flush-interval", "10s"]
-    words += ["--listen", f"127.0.0.1:{port}", "--admin", f"127.0.0.1:{port + 1}"]
+    words += ["--listen-grpc", f"127.0.0.1:{port - 1}", "--listen", f"127.0.0.1:{port}", "--admin", f"127.0.0.1:{port + 1}"]
     service = subprocess.Popen([program, "serve", *words], stdin=subprocess.DEVNULL, start_new_session=True)
     try:
         while service.poll() is None and not listens(port):
@@ -76,7 +76,7 @@ def serve(program: str, port: int) -> int:
 
 def main(words: list[str]) -> int:
     port = int(words[0]) if words else PORT
-    for it in (port, port + 1):
+    for it in (port - 1, port, port + 1):
         if not is_free(it):
             print(f"port {it} of 127.0.0.1 is taken: end what listens there, or call tools/serve.py with another port")
             return 1

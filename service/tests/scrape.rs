@@ -31,7 +31,7 @@ fn free_address() -> String {
 fn serve(data: &Path, sink: &[&str]) -> Service {
     let (listen, operate) = (free_address(), free_address());
     let child = Command::new(env!("CARGO_BIN_EXE_totxegun"))
-        .args(["serve", "--flush-interval", "3600s", "--data"])
+        .args(["serve", "--flush-interval", "3600s", "--listen-grpc", "off", "--data"])
         .arg(data)
         .args(["--listen", &listen, "--admin", &operate])
         .args(sink)

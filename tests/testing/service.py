@@ -98,6 +98,7 @@ class Service:
         self.listen, self.operate = ports or (free_port(), free_port())
         places = ["--listen", f"{host}:{self.listen}", "--admin", f"{host}:{self.operate}"]
         places += [] if host.startswith("127.") else ["--behind-proxy"]
+        places += [] if "--listen-grpc" in options else ["--listen-grpc", "off"]
         self.words = [*before, program, "serve", "--data", data, "--sink", sink, *places, *options]
         # Points of these tests end in 1970. An earlier version knows no such setting.
         self.settings = {} if sink.startswith("http") else {"TOTXEGUN_KEEP_INTERVALS": "forever"}

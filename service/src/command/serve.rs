@@ -7,7 +7,9 @@ use super::of_senders::OfSenders;
 use super::of_store::OfStore;
 use super::reading::OfReading;
 use super::retention::OfRetention;
-use super::values::{operator, orders_at, place, size_from, time, time_or, MayBeNone, SOCKET};
+use super::values::{
+    operator, orders_at, place, place_or_off, size_from, time, time_or, MayBeNone, MayBePlace, SOCKET,
+};
 use super::version::Versions;
 use super::Ended;
 use crate::core::{self, Across};
@@ -39,6 +41,9 @@ const IDLE: Duration = Duration::from_secs(2);
 const LONG_WORK: usize = 16;
 const LONG_WORK_OF_STORE: usize = 128;
 
+/// Threads that serve senders.
+const MOST_THREADS: u16 = 64;
+
 /// Open files of the service's own, with the operators' connections.
 const OWN_FILES: u64 = 192;
 
@@ -65,9 +70,15 @@ pub struct Options {
         value_parser = place
     )]
     listen: String,
-    /// Where senders call OTLP/gRPC, as 127.0.0.1:4317 [default: nowhere]
-    #[arg(long, env = "TOTXEGUN_LISTEN_GRPC", value_name = "ADDRESS", value_parser = place)]
-    listen_grpc: Option<String>,
+    /// Where senders call OTLP/gRPC, or `off`
+    #[arg(
+        long,
+        env = "TOTXEGUN_LISTEN_GRPC",
+        value_name = "ADDRESS",
+        default_value = "127.0.0.1:4317",
+        value_parser = place_or_off
+    )]
+    listen_grpc: MayBePlace,
     /// Where operators read: HOST:PORT; and order: unix:PATH, beside it or alone [default of this: unix:DIR/operate]
     #[arg(
         long,
@@ -123,9 +134,9 @@ pub struct Options {
     /// How many connections senders may have at a time
     #[arg(long, env = "TOTXEGUN_MAX_CONNECTIONS", value_name = "N", default_value_t = 1024, value_parser = value_parser!(u32).range(1..=100_000))]
     max_connections: u32,
-    /// How many threads serve senders: each reads its posts, so as many as there are processors
-    #[arg(long, env = "TOTXEGUN_THREADS", value_name = "N", default_value_t = 4, value_parser = value_parser!(u16).range(1..=64))]
-    threads: u16,
+    /// How many threads serve senders: each reads its posts [default: as many as there are processors]
+    #[arg(long, env = "TOTXEGUN_THREADS", value_name = "N", value_parser = value_parser!(u16).range(1..=MOST_THREADS as i64))]
+    threads: Option<u16>,
     // What is behind a group stands under its heading: so the groups come last.
     #[command(flatten)]
     of_senders: OfSenders,
@@ -223,7 +234,7 @@ impl Options {
     /// How many connections senders may have, where this process may have so many open files. One that nobody posts on
     /// would else take the file that the journal needs.
     fn connections(&self, most_files: u64) -> usize {
-        let addresses = 1 + u64::from(self.listen_grpc.is_some());
+        let addresses = 1 + u64::from(self.listen_grpc.0.is_some());
         let most = (most_files.saturating_sub(OWN_FILES) / addresses).max(1);
         let wanted = u64::from(self.max_connections);
         if most < wanted {
@@ -277,9 +288,9 @@ impl Options {
         Ok(Settings {
             data,
             store,
-            door: self.of_senders.door([Some(&self.listen), self.listen_grpc.as_ref()], &metrics)?,
+            door: self.of_senders.door([Some(&self.listen), self.listen_grpc.0.as_ref()], &metrics)?,
             listen: self.listen,
-            listen_grpc: self.listen_grpc,
+            listen_grpc: self.listen_grpc.0,
             operate,
             behind_proxy: self.of_senders.behind_proxy,
             live,
@@ -298,7 +309,7 @@ impl Options {
             max_bytes: usize::try_from(self.max_bytes).unwrap_or(usize::MAX),
             max_late: self.max_late,
             max_connections: self.max_connections as usize,
-            threads: usize::from(self.threads),
+            threads: self.threads.map_or_else(processors, usize::from),
             max_series: self.of_book.max_series as usize,
             totals_times: match self.totals_timestamps {
                 true => Times::OfIntervals,
@@ -307,6 +318,11 @@ impl Options {
             metrics,
         })
     }
+}
+
+/// How many this process may use, by its affinity and the quota of its control group.
+fn processors() -> usize {
+    std::thread::available_parallelism().map_or(1, |count| count.get().min(usize::from(MOST_THREADS)))
 }
 
 /// One address of TCP at most, and one socket.

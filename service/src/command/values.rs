@@ -55,6 +55,17 @@ pub fn place(text: &str) -> Result<String, String> {
     }
 }
 
+/// An address, or none.
+#[derive(Clone, Debug, PartialEq, Eq)]
+pub struct MayBePlace(pub Option<String>);
+
+pub fn place_or_off(text: &str) -> Result<MayBePlace, String> {
+    match text {
+        "off" => Ok(MayBePlace(None)),
+        text => place(text).map(Some).map(MayBePlace).map_err(|error| format!("{error}, or off")),
+    }
+}
+
 /// What a socket's path stands behind.
 pub const SOCKET: &str = "unix:";
 
@@ -182,6 +193,13 @@ mod tests {
         for text in ["", "nowhere", ":4318", "h:", "h:65536", "h:x", "[::1]"] {
             assert!(place(text).is_err(), "{text}");
         }
+    }
+
+    #[test]
+    fn an_address_may_be_off() {
+        assert_eq!(place_or_off("off"), Ok(MayBePlace(None)));
+        assert_eq!(place_or_off("h:1"), Ok(MayBePlace(Some("h:1".to_string()))));
+        assert_eq!(place_or_off("of"), Err("write HOST:PORT, as 127.0.0.1:4318, or off".to_string()));
     }
 
     #[test]

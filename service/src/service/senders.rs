@@ -12,9 +12,15 @@ use std::sync::Arc;
 use tokio::net::TcpListener;
 use tokio::sync::watch;
 
+/// That of gRPC, which may be off: its default may be another program's.
+const GRPC: &str = "--listen-grpc";
+
 pub(super) async fn bind(option: &str, address: &str) -> Result<TcpListener, Ended> {
     Ok(listen(address).await.map_err(|error| {
         let what = match error.kind() {
+            ErrorKind::AddrInUse if option == GRPC => {
+                format!("end what listens there, give another {option}, or {option} off")
+            }
             ErrorKind::AddrInUse => format!("end what listens there, or give another {option}"),
             ErrorKind::InvalidInput => "write HOST:PORT".to_string(),
             _ => format!("give another {option}"),
@@ -65,7 +71,7 @@ impl Senders {
     pub async fn bind(settings: &Settings) -> Result<Senders, Ended> {
         let senders = Arc::new(bind_closed("--listen", &settings.listen, settings).await?);
         let callers = match &settings.listen_grpc {
-            Some(address) => Some(Arc::new(bind_closed("--listen-grpc", address, settings).await?)),
+            Some(address) => Some(Arc::new(bind_closed(GRPC, address, settings).await?)),
             None => None,
         };
         let door = settings.door.clone();

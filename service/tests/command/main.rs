@@ -207,7 +207,7 @@ fn few_open_files_are_few_connections() {
         folder.path().display(),
         taken.local_addr().unwrap()
     );
-    for (more, connections) in [("", 808), (" --listen-grpc 127.0.0.1:0", 404)] {
+    for (more, connections) in [(" --listen-grpc off", 808), ("", 404)] {
         let output = Command::new("sh").args(["-c", &format!("{line}{more}")]).output();
         let text = String::from_utf8_lossy(&output.unwrap().stderr).into_owned();
         let told =
@@ -258,13 +258,18 @@ fn what_is_not_possible_has_status_1_and_is_named() {
         1,
         &format!("--listen {address} can't be listened on: end what listens there"),
     );
+    let told = format!(
+        "--listen-grpc {address} can't be listened on: end what listens there, give another --listen-grpc, or --listen-grpc off"
+    );
+    refused(&[&serve[..], &["--listen", "127.0.0.1:0", "--listen-grpc", &address]].concat(), 1, &told);
+    let serve = [&serve[..], &["--listen-grpc", "off"]].concat();
     refused(
         &[&serve[..], &["--listen", "127.0.0.1:0", "--admin", &address]].concat(),
         1,
         &format!("--admin {address}"),
     );
     let other = tempfile::tempdir().unwrap();
-    let place = ["--data", other.path().to_str().unwrap(), "--listen", "127.0.0.1:0"];
+    let place = ["--data", other.path().to_str().unwrap(), "--listen", "127.0.0.1:0", "--listen-grpc", "off"];
     let short = ["--admin", "127.0.0.1:0", "--max-memory", "64MiB", "--max-series", "1000000"];
     refused(
         &[&["serve"][..], &place, &short].concat(),

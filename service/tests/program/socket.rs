@@ -171,7 +171,16 @@ fn tokens_of_operators_stay_on_this_machine() {
     let file = place.folder.path().join("operators");
     std::fs::write(&file, format!("ann sha256:{}", "0".repeat(64))).unwrap();
     let mut command = Command::new(PROGRAM);
-    command.args(["serve", "--listen", "127.0.0.1:0", "--admin", "0.0.0.0:0", "--admin-tokens"]);
+    command.args([
+        "serve",
+        "--listen",
+        "127.0.0.1:0",
+        "--listen-grpc",
+        "off",
+        "--admin",
+        "0.0.0.0:0",
+        "--admin-tokens",
+    ]);
     let output = command.arg(&file).arg("--data").arg(place.data()).output().unwrap();
     assert_eq!(output.status.code(), Some(2));
     assert!(text(&output).contains("--behind-proxy"), "{}", text(&output));
@@ -224,7 +233,7 @@ fn a_socket_may_be_the_only_address() {
     let place = Place::new();
     let socket = format!("unix:{}", place.folder.path().join("operate").display());
     let mut command = Command::new(PROGRAM);
-    command.args(["serve", "--listen", "127.0.0.1:0", "--admin", &socket, "--data"]);
+    command.args(["serve", "--listen", "127.0.0.1:0", "--listen-grpc", "off", "--admin", &socket, "--data"]);
     let mut service = command.arg(place.data()).stderr(std::process::Stdio::null()).spawn().unwrap();
     until("it is ready", || text(&told(&["status"], &socket)).contains("ready"));
     for (more, why) in [("unix:/x", "a second address"), ("127.0.0.1:1,127.0.0.1:2", "a second address")] {

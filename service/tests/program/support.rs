@@ -49,12 +49,17 @@ impl Place {
             true => &[],
             false => &["--flush-interval", "200ms"],
         };
+        let grpc: &[&str] = match words.contains(&"--listen-grpc") {
+            true => &[],
+            false => &["--listen-grpc", "off"],
+        };
         let child = command
             .arg("serve")
             .args(every)
             .args(["--durability", "process", "--data"])
             .arg(self.data())
             .args(["--listen", &listen, "--admin", &operate])
+            .args(grpc)
             .args(words)
             .stderr(log)
             .stdout(Stdio::null())
