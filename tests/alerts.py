@@ -258,7 +258,7 @@ class Causes:
         self.post("A")
         self.sees_repeated("PostsRefused", "another sender of a series", lambda: self.post("B"))
         self.sees_repeated("PostsRefused", "a clock that went back", lambda: self.post("A", start=10**9))
-        self.sees_repeated("SenderOverShare", "a sender that posts more than it may", self.post_much)
+        self.sees_repeated("SenderOverQuota", "a sender that posts more than it may", self.post_much)
         self.sees_repeated("SlowAnswers", "a sender that is slow to send", self.post_slowly)
         # Last: no sender may have a new series after it.
         self.sees_repeated("PostsTurnedAway", "more series than there may be", self.post_too_many)

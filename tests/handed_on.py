@@ -370,14 +370,15 @@ def hands_on(checks: Checks, totxegun: str, chance: random.Random, folder: str) 
             else:
                 binary += in_protobuf(left, posts.start)
         checks.same("no point is rejected", {(200, 0, "")}, set(answers))
-        checks.true("all is handed on", wait_until(lambda: count_of(second, 'totxegun_passed_points_total{outcome="taken"}') >= points),
+        taken = 'totxegun_unsupported_points_total{outcome="taken"}'
+        checks.true("all is handed on", wait_until(lambda: count_of(second, taken) >= points),
                     (points, second.last_lines()))
         found = receiver.got()
         checks.true("the receiver has each post's points as they came, each once", found == (binary, texts),
                     (len(found[0]), len(binary), len(found[1]), len(texts)))
         for one in (service, second):
             checks.same("none of them is called rejected", 0, count_of(one, "totxegun_rejected_points_total{"))
-        checks.same("nothing of it is lost", 0, sum(count_of(service, f'totxegun_passed_points_total{{outcome="{outcome}"}}')
+        checks.same("nothing of it is lost", 0, sum(count_of(service, f'totxegun_unsupported_points_total{{outcome="{outcome}"}}')
                                                     for outcome in ("refused", "lost", "dropped")))
         service.order("/flush")
         wait_until(service.is_drained)
@@ -398,18 +399,18 @@ def away(checks: Checks, service: Service, second: Service, receiver: Receiver, 
     second.signal(19)  # it stops
     gauges = [("load", "1", "gauge", [0.5] * 2000)]
     begun, slowest, statuses = time.monotonic(), 0.0, set()
-    while time.monotonic() - begun < 60 and not count_of(service, 'totxegun_passed_points_total{outcome="dropped"}'):
+    while time.monotonic() - begun < 60 and not count_of(service, 'totxegun_unsupported_points_total{outcome="dropped"}'):
         for _ in range(20):
             before = time.monotonic()
             statuses.add(posts.post(gauges, PROTOBUF)[0])
             slowest = max(slowest, time.monotonic() - before)
-    lost = sum(count_of(service, f'totxegun_passed_points_total{{outcome="{outcome}"}}') for outcome in ("lost", "dropped"))
+    lost = sum(count_of(service, f'totxegun_unsupported_points_total{{outcome="{outcome}"}}') for outcome in ("lost", "dropped"))
     checks.true("what finds no room is dropped, with a count", lost > 0, service.last_lines())
     checks.same("posts are taken meanwhile", {200}, statuses)
     checks.true("and none is held up", slowest < 3, slowest)
     second.kill()
     checks.true("who is gone loses what waits", wait_until(
-        lambda: count_of(service, 'totxegun_passed_points_total{outcome="lost"}') > 0, 30), service.last_lines())
+        lambda: count_of(service, 'totxegun_unsupported_points_total{outcome="lost"}') > 0, 30), service.last_lines())
     with open(service.log, encoding="utf-8", errors="replace") as file:
         lines = [line for line in file if "not passed on to" in line]
     checks.true("the log says so, a line a minute at most", 1 <= len(lines) <= 3, lines[:4])

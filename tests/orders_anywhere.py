@@ -37,8 +37,8 @@ SLOTS, PROCESSES = 8, 24
 TOKEN = "a-token-of-an-operator"
 # Commands that an instance may send on to another, over TCP.
 BY_TOKEN = ("forget",)
-METRICS = ("slots_owned", "slot_term", "slots_without_owner", "longest_without_owner_seconds", "instances", "beat_age_seconds",
-           "store_copies", "store_copies_asked", "store_doubt_seconds", "forwarded_posts_total", "store_writes_total",
+METRICS = ("slots_owned", "slot_term", "slots_without_owner", "longest_without_owner_seconds", "instances", "heartbeat_age_seconds",
+           "store_copies", "store_copies_asked", "store_unknown_outcome_seconds", "forwarded_posts_total", "store_writes_total",
            "takeovers_total", "hand_overs_total", "slots_lost_total")
 
 

@@ -118,14 +118,14 @@ impl Pass {
             return;
         }
         let name = passed.name();
-        self.metrics.passed_points.with_label_values(&[name]).inc_by(points);
+        self.metrics.unsupported_points.with_label_values(&[name]).inc_by(points);
         if passed != Passed::Taken && self.rate_limit.is_due() {
             let url = self.url();
             tracing::warn!(
                 url,
                 reason = why,
                 points,
-                "{points} points outside the profile are {name}, and not passed on to {url}: {why}; totxegun_passed_points_total \
+                "{points} points outside the profile are {name}, and not passed on to {url}: {why}; totxegun_unsupported_points_total \
                  has how many there are"
             );
         }

@@ -61,8 +61,8 @@ struct CheckReport {
     /// Metrics, each with a unit that a rule of `--integer-unit` brought beside a finer one: no other of its name is taken in it.
     beside: BTreeSet<UnitOfMetric>,
     /// Of the posts, those in quarantined senders' own files.
-    held_posts: u64,
-    held_bytes: u64,
+    parked_posts: u64,
+    parked_bytes: u64,
     dead_letters: u64,
     /// What is forwarded from this start on has keys of its own: the folder was copied, or its lock is gone.
     new_epoch: bool,
@@ -179,7 +179,7 @@ fn found(copy: &Path) -> Result<CheckReport, Ended> {
     let (journal, outbox) = folder.slot()?;
     found.journal_bytes = journal.size().0;
     let held = journal.held();
-    (found.held_posts, found.held_bytes) = (held.posts, held.bytes);
+    (found.parked_posts, found.parked_bytes) = (held.posts, held.bytes);
     found.dropped.extend(journal.dropped().iter().map(Dropped::to_string));
     found.add(&outbox)?;
     count_posts(&journal, &outbox, &mut found)?;
@@ -248,7 +248,7 @@ fn text(found: &CheckReport, data: &Path) -> String {
     row("requests for the sink", format!("{}, {}", found.waiting, bytes(found.outbox_bytes)));
     row("series", found.series.to_string());
     row("quarantined", values::senders_shown(&found.quarantined));
-    row("held back", format!("{}, {}", counted(found.held_posts, "post"), bytes(found.held_bytes)));
+    row("held back", format!("{}, {}", counted(found.parked_posts, "post"), bytes(found.parked_bytes)));
     row("refused for good", counted(found.dead_letters, "request"));
     for (metric, unit) in &found.beside {
         row("by a rule alone", format!("{unit} of {}", shown(metric, SERIES_SHOWN)));

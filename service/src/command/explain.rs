@@ -22,7 +22,7 @@ const MOST_READ: u64 = MOST + 6;
 
 /// What is said of what no body says.
 const UNKNOWN: &str = "unless the running service refuses it for what it alone knows: whose each series is and where it ends, who is \
-                       quarantined, shares and limits\n";
+                       quarantined, quotas and limits\n";
 
 #[derive(Args)]
 pub struct Options {

@@ -31,7 +31,7 @@ pub(super) struct Rounds {
     points: u64,
     /// After how many posts or points the next cycle begins.
     most_posts: u64,
-    most_points: u64,
+    max_points: u64,
     /// While rounds are being closed: the next book, and whether all books before it were empty.
     next: Option<(usize, bool)>,
     /// How many were closed since `closed()` was asked.
@@ -55,7 +55,7 @@ impl Rounds {
             posts: 0,
             points: 0,
             most_posts: LEAST_POSTS as u64,
-            most_points: LEAST_POINTS as u64,
+            max_points: LEAST_POINTS as u64,
             next: None,
             closed: 0,
         }
@@ -94,7 +94,7 @@ impl Rounds {
     /// Whether `part / of` of a cycle has passed.
     fn are_past(&self, part: u64, of: u64) -> bool {
         let is_past = |count: u64, most: u64| of * count >= part * most;
-        is_past(self.posts, self.most_posts) || is_past(self.points, self.most_points)
+        is_past(self.posts, self.most_posts) || is_past(self.points, self.max_points)
     }
 
     /// Whether another post has no room, `entries` being the length of the longest journal, or there are as many points
@@ -102,8 +102,8 @@ impl Rounds {
     /// then.
     pub fn are_full(&self, entries: usize) -> bool {
         let may_be_tried = self.posts >= POSTS_UNTIL_ANOTHER_TRY;
-        let most_points = self.most_points + self.most_points / PART;
-        may_be_tried && !have_room_for(entries, ENTRIES_OF_A_POST) || self.points >= most_points
+        let max_points = self.max_points + self.max_points / PART;
+        may_be_tried && !have_room_for(entries, ENTRIES_OF_A_POST) || self.points >= max_points
     }
 
     /// Whether a new cycle is due for its posts.
@@ -140,7 +140,7 @@ impl Rounds {
 
     /// Sets the length of the next cycle by the number of series.
     pub fn last_for(&mut self, series: usize) {
-        self.most_points = (POINTS_FOR_A_SERIES * series).max(LEAST_POINTS) as u64;
+        self.max_points = (POINTS_FOR_A_SERIES * series).max(LEAST_POINTS) as u64;
         self.most_posts = (series / SERIES_FOR_A_POST).clamp(LEAST_POSTS, MOST_POSTS) as u64;
     }
 

@@ -20,7 +20,7 @@ metrics! {
         longest_without_owner: Gauge = "longest_without_owner_seconds",
             "For how long no instance has served the slot of these for which it is longest";
         instances: IntGauge = "instances", "Instances whose beats go on, this one among them";
-        beat_age: Gauge = "beat_age_seconds",
+        beat_age: Gauge = "heartbeat_age_seconds",
             "Since the last beat of this instance that is known to be in the store";
         clock_off: Gauge = "clock_off_seconds",
             "By how much this instance's clock is ahead of those of the others and the store, late if less than 0, if it is so far off that it takes no slots while another has a right clock; else 0";
@@ -29,7 +29,7 @@ metrics! {
         copies: IntGaugeVec = "store_copies" ["database"],
             "On how many servers what is committed in the database is; not there where it is not known";
         copies_asked: IntGauge = "store_copies_asked", "On how many it has to be, by --store-copies";
-        doubt: GaugeVec = "store_doubt_seconds" ["database"],
+        doubt: GaugeVec = "store_unknown_outcome_seconds" ["database"],
             "For how long the write of this instance that began first has not been known to be there, 0 where none is";
         forwarded: IntCounterVec = "forwarded_posts_total" ["result"],
             "Posts, or parts of them, that were brought to the instance of their slot, by what came back";
@@ -92,7 +92,7 @@ impl OfCluster {
             self.copies.with_label_values(&label).set(copies as i64);
         }
         self.copies_asked.set(of.copies_asked as i64);
-        self.doubt.with_label_values(&label).set(of.doubt_seconds as f64);
+        self.doubt.with_label_values(&label).set(of.unknown_outcome_seconds as f64);
     }
 }
 
@@ -129,7 +129,13 @@ mod tests {
     }
 
     fn database(copies: Option<u64>) -> DatabaseStatus {
-        DatabaseStatus { database: "db/x".into(), copies, copies_asked: 2, why: None, doubt_seconds: 12 }
+        DatabaseStatus {
+            database: "db/x".into(),
+            copies,
+            copies_asked: 2,
+            why: None,
+            unknown_outcome_seconds: 12,
+        }
     }
 
     #[test]
@@ -148,12 +154,12 @@ mod tests {
             "totxegun_slots_without_owner 2",
             "totxegun_longest_without_owner_seconds 31.5",
             "totxegun_instances 3",
-            "totxegun_beat_age_seconds 0.25",
+            "totxegun_heartbeat_age_seconds 0.25",
             "totxegun_clock_off_seconds -90.5",
             "totxegun_cut_off 1",
             "totxegun_store_copies{database=\"db/x\"} 1",
             "totxegun_store_copies_asked 2",
-            "totxegun_store_doubt_seconds{database=\"db/x\"} 12",
+            "totxegun_store_unknown_outcome_seconds{database=\"db/x\"} 12",
             "totxegun_forwarded_posts_total{result=\"answered\"} 7",
             "totxegun_forwarded_posts_total{result=\"not_mine\"} 2",
             "totxegun_forwarded_posts_total{result=\"broken\"} 1",

@@ -48,7 +48,7 @@ metrics! {
             "Points that their series refused, by whether they are kept as late data (`totxegun late`)";
         expected_rejected_points: IntCounterVec = "expected_rejected_points_total" ["reason"],
             "Points that were not taken, as --expect-rejected says";
-        pub passed_points: IntCounterVec = "passed_points_total" ["outcome"] of ["taken", "refused", "lost", "dropped"],
+        pub unsupported_points: IntCounterVec = "unsupported_points_total" ["outcome"] of ["taken", "refused", "lost", "dropped"],
             "Points outside the profile that --forward-unsupported was to hand on, by what became of them";
         pub rounded_values: IntCounterVec = "rounded_values_total" ["rule"],
             "Values of posts that were taken that `--integer-unit` has rounded, by its rule";
@@ -57,9 +57,9 @@ metrics! {
         // The maximum of `by_series`, set when the page is made.
         greatest_rounding: GaugeVec = "greatest_rounding_units" ["rule"],
             "What the values of one series were rounded by together, in the finer unit, of all series the most: no total is further from the truth";
-        // `of` is `series` or `points`. Set when the page is made.
-        sender_share: GaugeVec = "sender_share_ratio" ["sender", "of"],
-            "What a sender has of its share: of its series, or of a minute's points; of the ten that are nearest to it";
+        // `quota` is `series` or `points`. Set when the page is made.
+        sender_quota: GaugeVec = "sender_quota_ratio" ["sender", "quota"],
+            "What a sender has used of its quota: of its series, or of a minute's points; of the ten that are nearest to it";
         pub checkpoints: IntCounterVec = "checkpoints_total" ["outcome"] of ["done", "failed"],
             "Checkpoints by how they ended";
         pub rounds_closed: IntCounter = "rounds_closed_total", "Rounds of a book that were closed";
@@ -114,8 +114,8 @@ metrics! {
         pub dead_letters: IntGauge = "dead_letters", "Requests that the sink refused for good, kept aside";
         pub quarantined_senders: IntGauge = "quarantined_senders",
             "Senders whose points are kept back and whose posts are refused; of several instances the one with the first slot that any has says so";
-        pub held_posts: IntGauge = "held_posts", "Posts of quarantined senders that are kept back";
-        pub held_bytes: IntGauge = "held_bytes", "Bytes on disk of these posts";
+        pub parked_posts: IntGauge = "parked_posts", "Posts of quarantined senders that are kept back";
+        pub parked_bytes: IntGauge = "parked_bytes", "Bytes on disk of these posts";
         pub delivery_stuck: IntGauge = "delivery_stuck",
             "1 while a request that waits can't be delivered since its file was changed";
         pub disk_call_seconds: Gauge = "disk_call_seconds",
@@ -260,15 +260,15 @@ impl Metrics {
     }
 
     /// Shows the quotas of these senders alone.
-    pub fn shares(&self, nearest: &[Used]) {
-        self.sender_share.reset();
+    pub fn quotas(&self, nearest: &[Used]) {
+        self.sender_quota.reset();
         for used in nearest {
             let both = [
                 ("series", used.max_series, used.part_of_series()),
-                ("points", used.most_points, used.part_of_points()),
+                ("points", used.max_points, used.part_of_points()),
             ];
-            for (of, _, part) in both.into_iter().filter(|(_, most, _)| most.is_some()) {
-                self.sender_share.with_label_values(&[&used.sender, of]).set(part);
+            for (quota, _, part) in both.into_iter().filter(|(_, most, _)| most.is_some()) {
+                self.sender_quota.with_label_values(&[&used.sender, quota]).set(part);
             }
         }
     }
@@ -363,8 +363,8 @@ mod tests {
             "totxegun_checkpoints_total{outcome=\"failed\"} 0",
             "totxegun_dead_letters 0",
             "totxegun_quarantined_senders 0",
-            "totxegun_held_posts 0",
-            "totxegun_held_bytes 0",
+            "totxegun_parked_posts 0",
+            "totxegun_parked_bytes 0",
             "totxegun_delivery_stuck 0",
             "totxegun_disk_call_seconds 0",
             "totxegun_ready 0",

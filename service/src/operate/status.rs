@@ -47,8 +47,8 @@ pub struct Status {
     /// The one that posted last first.
     pub senders: First<SenderStatus>,
     pub limits: LimitsStatus,
-    /// Those that are nearest to their share, the nearest first.
-    pub shares: Vec<Used>,
+    /// Those that are nearest to their quota, the nearest first.
+    pub quotas: Vec<Used>,
     /// What `--integer-unit` has rounded since the start.
     pub rounded: Vec<RoundedStatus>,
     pub cumulative: CumulativeStatus,
@@ -153,7 +153,7 @@ pub struct SlotStatus {
     pub series: usize,
     pub quarantined: Vec<String>,
     /// Posts of quarantined senders that no flush takes, in files of their own.
-    pub held: Held,
+    pub parked: Held,
     /// Some of these are of a sender that is quarantined no more: the next flush takes them.
     pub released: bool,
     /// Posts that are in no group yet.
@@ -216,7 +216,7 @@ impl Desk {
             dead_letters: self.units.dead(),
             slots,
             limits: self.limits_status(series),
-            shares: self.shares.nearest(),
+            quotas: self.shares.nearest(),
             rounded: self.rounded_status(),
             cumulative: CumulativeStatus {
                 series: self.cumulative_series(),
@@ -285,7 +285,7 @@ impl SlotStatus {
             unavailable: unit.slot.unavailable().map(|why| why.text().into()),
             journal: Stock::new(journal, since),
             posts: unit.slot.ungrouped(),
-            held: unit.slot.journal.held(),
+            parked: unit.slot.journal.held(),
             released,
             series: outbox.series_count(),
             quarantined: outbox.quarantined().into_iter().collect(),
@@ -324,7 +324,7 @@ pub fn quarantined(slots: &[SlotStatus]) -> BTreeSet<&str> {
 
 /// What is kept back of them. A sender may be in each slot, and counts in each.
 pub fn held(slots: &[SlotStatus]) -> Held {
-    slots.iter().map(|slot| slot.held).fold(Held::default(), |all, of| Held {
+    slots.iter().map(|slot| slot.parked).fold(Held::default(), |all, of| Held {
         senders: all.senders + of.senders,
         posts: all.posts + of.posts,
         bytes: all.bytes + of.bytes,

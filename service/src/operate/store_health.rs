@@ -43,8 +43,8 @@ impl StoreHealth {
     pub fn status(&self, units: &Units, seen: &cluster::Status) -> DatabaseStatus {
         let beat = seen.beat_age.filter(|age| *age > BEAT).unwrap_or_default();
         // The write that began first.
-        let doubt_seconds = beat.max(units.disk_call()).as_secs();
-        let status = DatabaseStatus { doubt_seconds, ..locked(&self.seen).clone() };
+        let unknown_outcome_seconds = beat.max(units.disk_call()).as_secs();
+        let status = DatabaseStatus { unknown_outcome_seconds, ..locked(&self.seen).clone() };
         match &seen.few_copies {
             // Its settings say so, also if its role can't see standbys.
             Some(why) => DatabaseStatus { copies: Some(1), why: Some(why.clone()), ..status },

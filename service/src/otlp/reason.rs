@@ -179,9 +179,9 @@ reasons! {
         "shorten --series-ttl, drop an attribute, or raise --max-series";
     TooLarge "too_large" Request(503, "too large"), "this ends by itself once what is pending is written";
     NoMemory "no_memory" Request(503, "no memory"), "raise --max-memory";
-    OverShare "over_share" Request(429, "over its share"),
+    OverShare "over_quota" Request(429, "over its quota"),
         "raise its series= or points= in the file of --tokens, --sender-series or --sender-points; or have it send less";
-    PostOverShare "post_over_share" Request(413, "over its share"),
+    PostOverShare "post_over_quota" Request(413, "over its quota"),
         "raise its series= in the file of --tokens, or --sender-series; or have it post fewer series at a time";
     Full "full" Request(503, "full"), "this ends by itself once what is being flushed is written";
     /// Of an order.

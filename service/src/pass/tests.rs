@@ -10,7 +10,7 @@ fn outside(body: &[u8], points: u64) -> Outside {
 
 fn counted(metrics: &Metrics) -> [u64; 4] {
     [Passed::Taken, Passed::Refused, Passed::Lost, Passed::Dropped]
-        .map(|passed| metrics.passed_points.with_label_values(&[passed.name()]).get())
+        .map(|passed| metrics.unsupported_points.with_label_values(&[passed.name()]).get())
 }
 
 #[test]

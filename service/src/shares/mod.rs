@@ -54,11 +54,11 @@ pub struct Shares {
 /// Why a post is refused.
 #[derive(Debug, PartialEq, Eq, thiserror::Error)]
 pub enum Over {
-    #[error("over its share: {sender} may post {points} points a second, {} at once: again in {seconds} s", points * BURST)]
+    #[error("over its quota: {sender} may post {points} points a second, {} at once: again in {seconds} s", points * BURST)]
     Points { sender: String, points: u64, seconds: u64 },
-    #[error("over its share: {sender} has {series} series, and may have no new ones over {most}: drop an attribute, or raise its series=")]
+    #[error("over its quota: {sender} has {series} series, and may have no new ones over {most}: drop an attribute, or raise its series=")]
     Series { sender: String, series: u64, most: u64 },
-    #[error("over its share: {sender} may have {most} series, and this post alone has more new ones: drop an attribute, or raise its series=")]
+    #[error("over its quota: {sender} may have {most} series, and this post alone has more new ones: drop an attribute, or raise its series=")]
     Alone { sender: String, most: u64 },
     /// All senders together have too many series.
     #[error("too many series: there are {all}, and at most {most}")]
@@ -108,7 +108,7 @@ pub struct Used {
     pub max_series: Option<u64>,
     /// How many of the points in its bucket it has used; they come back with time.
     pub points: u64,
-    pub most_points: Option<u64>,
+    pub max_points: Option<u64>,
 }
 
 impl Used {
@@ -122,7 +122,7 @@ impl Used {
     }
 
     pub fn part_of_points(&self) -> f64 {
-        part(self.points, self.most_points)
+        part(self.points, self.max_points)
     }
 }
 
@@ -331,11 +331,11 @@ impl Shares {
                 series,
                 max_series: share.series.or((all > series).then_some(others)),
                 points: share.points.map_or(0, |most| bucket::points(debt, most)),
-                most_points: share.points.map(|most| most * BURST),
+                max_points: share.points.map(|most| most * BURST),
                 sender,
             }
         });
-        let has_share = |used: &Used| used.max_series.is_some() || used.most_points.is_some();
+        let has_share = |used: &Used| used.max_series.is_some() || used.max_points.is_some();
         let mut used: Vec<Used> = used.filter(has_share).collect();
         used.sort_by(|a, b| b.part().total_cmp(&a.part()).then_with(|| a.sender.cmp(&b.sender)));
         used.truncate(SHOWN);

@@ -365,7 +365,7 @@ async fn points_of_what_is_not_taken_are_given_back() {
     }
     claim(60).await.unwrap().keep(1, 1);
     let over = claim(1).await.err().unwrap();
-    assert_eq!(over.to_string(), "over its share: A may post 1 points a second, 60 at once: again in 1 s");
+    assert_eq!(over.to_string(), "over its quota: A may post 1 points a second, 60 at once: again in 1 s");
     assert_eq!(Outcome::from(over).again_in(), Some(1));
 }
 
@@ -381,6 +381,6 @@ async fn those_that_are_nearest_come_first() {
     assert_eq!(nearest.len(), SHOWN);
     assert_eq!((&*nearest[0].sender, nearest[0].series, nearest[0].max_series), ("s00", 12, Some(20)));
     assert_eq!(nearest[0].part(), 0.6);
-    let last = nearest.iter().find(|used| used.sender == "s08").map(|used| used.most_points);
+    let last = nearest.iter().find(|used| used.sender == "s08").map(|used| used.max_points);
     assert_eq!(last, Some(Some(60)));
 }

@@ -44,7 +44,7 @@ fn flush(service: &Service) {
 }
 
 fn held(service: &Service) -> (u64, u64, u64) {
-    let held = &service.status()["slots"][0]["held"];
+    let held = &service.status()["slots"][0]["parked"];
     let of = |name: &str| held[name].as_u64().unwrap();
     (of("senders"), of("posts"), of("bytes"))
 }
@@ -106,7 +106,7 @@ fn posts_of_a_quarantined_sender_cost_a_checkpoint_nothing_and_come_out_whole() 
     let journal = &service.status()["slots"][0]["journal"];
     assert!(journal["bytes"].as_u64().unwrap() < LITTLE, "{journal}");
     let page = service.metrics();
-    for line in [format!("totxegun_held_posts {POSTS}"), format!("totxegun_held_bytes {bytes}")] {
+    for line in [format!("totxegun_parked_posts {POSTS}"), format!("totxegun_parked_bytes {bytes}")] {
         assert!(page.lines().any(|found| found == line), "{line} in\n{page}");
     }
     let said = service.said(&["status"]);

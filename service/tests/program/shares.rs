@@ -30,13 +30,13 @@ fn a_sender_that_posts_too_much_has_to_wait_and_loses_nothing() {
     assert!(over.starts_with("HTTP/1.1 429 Too Many Requests"), "{over}");
     assert!(over.contains("\r\nretry-after: 1\r\n"), "{over}");
     assert!(
-        over.contains("over its share: A may post 1 points a second, 60 at once: again in 1 s"),
+        over.contains("over its quota: A may post 1 points a second, 60 at once: again in 1 s"),
         "{over}"
     );
     assert_eq!(service.post("B", &body(&names("c", 60), 100)).unwrap().0, 200, "another has its own");
     let shown = service.said(&["status"]);
-    assert!(shown.contains("nearest to its share"), "{shown}");
-    let ratio = "totxegun_sender_share_ratio{of=\"points\",sender=\"A\"} ";
+    assert!(shown.contains("nearest to its quota"), "{shown}");
+    let ratio = "totxegun_sender_quota_ratio{quota=\"points\",sender=\"A\"} ";
     assert!(service.metrics().contains(ratio), "{}", service.metrics());
     until("its post is taken", || {
         posted(&service, "x-sender: A", &body(&one, 100)).starts_with("HTTP/1.1 200")

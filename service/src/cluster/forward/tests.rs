@@ -22,7 +22,7 @@ async fn an_owners_answer_comes_back_as_it_said_it() {
     let unfit = Some("zw\u{f6}lf \"points\"\n".to_string());
     let causes: Causes = [(Reason::Gauge, 2), (Reason::WentDown, 1)].into_iter().collect();
     let parts = vec![(3, Rejection::from(Reason::Quarantined))];
-    let over_share = Rejection { seconds: Some(17), ..Rejection::new(Reason::OverShare, "its share") };
+    let over_quota = Rejection { seconds: Some(17), ..Rejection::new(Reason::OverShare, "its share") };
     let says = [
         Outcome::taken(0),
         Outcome::taken(7),
@@ -31,7 +31,7 @@ async fn an_owners_answer_comes_back_as_it_said_it() {
         Outcome::refused(Reason::OtherWriter, "other writer: point 3: `m` {} is another sender's"),
         Reason::Quarantined.into(),
         Reason::Recovering.into(),
-        over_share.into(),
+        over_quota.into(),
     ];
     let peer = Peer::here().await;
     let forward = receiver(peer.whose(), secret("of all"));

@@ -23,7 +23,7 @@ pub struct InstanceStatus {
     pub address: String,
     pub version: String,
     /// Since its last beat, as far as it was seen; none where none was.
-    pub beat_seconds: Option<u64>,
+    pub heartbeat_seconds: Option<u64>,
     /// How many slots it has.
     pub slots: usize,
     /// What is to be known of it: it leaves, it has not answered.
@@ -40,7 +40,7 @@ pub struct DatabaseStatus {
     /// Why that is not known.
     pub why: Option<String>,
     /// For how long the write that began first has not been known to be there.
-    pub doubt_seconds: u64,
+    pub unknown_outcome_seconds: u64,
 }
 
 impl Others {
@@ -75,7 +75,7 @@ impl Desk {
             name: others.instance.clone(),
             address: others.address.clone(),
             version: env!("CARGO_PKG_VERSION").into(),
-            beat_seconds: seen.beat_age.map(|age| age.as_secs()),
+            heartbeat_seconds: seen.beat_age.map(|age| age.as_secs()),
             slots: self.units.all().len(),
             trouble: trouble.or_else(|| others.unanswering(&seen)),
         };

@@ -25,9 +25,9 @@ impl Desk {
             (&levels.outbox_age_seconds, outbox.1),
             (&levels.dead_letters, status.dead_letters as i64),
             (&levels.quarantined_senders, quarantined as i64),
-            (&levels.held_posts, held.posts as i64),
+            (&levels.parked_posts, held.posts as i64),
             (&levels.late_bytes, status.late.bytes as i64),
-            (&levels.held_bytes, held.bytes as i64),
+            (&levels.parked_bytes, held.bytes as i64),
             (&levels.delivery_stuck, slots.iter().any(|slot| slot.stuck.is_some()).into()),
             (&levels.series, limits.series.used as i64),
             (&levels.series_limit, limits.series.limit as i64),
@@ -43,7 +43,7 @@ impl Desk {
         if let Some(free) = limits.disk_free_bytes {
             levels.disk_free_bytes.set(free as i64);
         }
-        self.metrics.shares(&status.shares);
+        self.metrics.quotas(&status.quotas);
         if let Some(others) = &self.others {
             self.read_cluster(others);
         }

@@ -85,16 +85,16 @@ impl Status {
     }
 
     fn add_one(&mut self, other: Status, shown: &mut InstanceStatus) {
-        let Status { dead_letters, slots, shares: used, rounded, cumulative, late, cluster, .. } = other;
+        let Status { dead_letters, slots, quotas: used, rounded, cumulative, late, cluster, .. } = other;
         if let Some(own) = cluster.and_then(|cluster| cluster.instances.into_iter().next()) {
             shown.slots = own.slots;
             shown.trouble = own.trouble.or(shown.trouble.take());
         }
         self.dead_letters += dead_letters;
         self.slots.extend(slots);
-        self.shares.extend(used);
-        self.shares.sort_by(|one, other| other.part().total_cmp(&one.part()));
-        self.shares.truncate(shares::SHOWN);
+        self.quotas.extend(used);
+        self.quotas.sort_by(|one, other| other.part().total_cmp(&one.part()));
+        self.quotas.truncate(shares::SHOWN);
         for one in rounded {
             self.add_rounded(one);
         }
@@ -142,7 +142,7 @@ fn shown(other: &OtherInstance, slots: &[OwnedSlot]) -> InstanceStatus {
         name: other.name.clone(),
         address: other.address.clone(),
         version: other.version.clone(),
-        beat_seconds: Some(u64::from(other.still) * BEAT / 1000),
+        heartbeat_seconds: Some(u64::from(other.still) * BEAT / 1000),
         slots: slots.iter().filter(|slot| slot.owner == other.name).count(),
         trouble: other.leaves.then(|| "it is ending, and hands over its slots".to_string()),
     }
@@ -236,6 +236,6 @@ mod tests {
         let refused = Some("it can't open slot 0 (and 1 more): 1.seg was changed");
         let gone = Some("its beats have stopped");
         assert_eq!(shown, [("a", 2, refused), ("b", 2, None), ("c", 1, gone)]);
-        assert_eq!(instances[2].beat_seconds, Some(4));
+        assert_eq!(instances[2].heartbeat_seconds, Some(4));
     }
 }

@@ -73,7 +73,7 @@ impl Shown {
             rejected(status),
             senders(status),
             limits(&status.limits),
-            shares(status),
+            quotas(status),
             cumulative(status),
             rounded(status),
             rounded_series(status),
@@ -186,7 +186,7 @@ fn instances(cluster: &ClusterStatus) -> Section {
             one.name.clone(),
             one.address.clone(),
             one.version.clone(),
-            one.beat_seconds.map_or_else(|| "none".into(), seconds_shown),
+            one.heartbeat_seconds.map_or_else(|| "none".into(), seconds_shown),
             grouped(one.slots),
             one.trouble.clone().unwrap_or_default(),
         ]
@@ -194,7 +194,7 @@ fn instances(cluster: &ClusterStatus) -> Section {
     let rows = cluster.instances.iter().map(row).collect();
     let heads = &["name", "address", "version", "since its last beat#", "slots#", "what is wrong"];
     let of_which =
-        "what waits, slots, shares and dead letters are of all instances; posts, senders and limits of";
+        "what waits, slots, quotas and dead letters are of all instances; posts, senders and limits of";
     Section::new("Instances", heads, rows).noting([format!("{of_which} {}", cluster.instance)])
 }
 
@@ -205,7 +205,7 @@ fn database(one: &DatabaseStatus) -> Section {
     let row = vec![
         one.database.clone(),
         format!("{copies} of {}", one.copies_asked),
-        seconds_shown(one.doubt_seconds),
+        seconds_shown(one.unknown_outcome_seconds),
         one.why.clone().or(few).unwrap_or_default(),
     ];
     Section::new(
@@ -282,20 +282,20 @@ fn limits(limits: &LimitsStatus) -> Section {
     Section::new("Limits", &["what", "now#", "at most#", "used#", "option"], rows).noting(free)
 }
 
-fn shares(status: &Status) -> Section {
+fn quotas(status: &Status) -> Section {
     let most = |most: Option<u64>| most.map_or_else(String::new, grouped);
-    let rows = status.shares.iter().map(|of| {
+    let rows = status.quotas.iter().map(|of| {
         vec![
             sender_shown(&of.sender),
             grouped(of.series),
             most(of.max_series),
             grouped(of.points),
-            most(of.most_points),
+            most(of.max_points),
             format!("{:.0} %", 100.0 * of.part()),
         ]
     });
-    let heads = &["nearest to its share", "series#", "at most#", "points at once#", "at most#", "used#"];
-    Section::new("Shares", heads, rows.collect())
+    let heads = &["nearest to its quota", "series#", "at most#", "points at once#", "at most#", "used#"];
+    Section::new("Quotas", heads, rows.collect())
 }
 
 fn cumulative(status: &Status) -> Section {

@@ -86,7 +86,7 @@ fn a_list_that_is_too_long_makes_foreign_what_it_identifies() {
     }
 }
 
-/// Who is over its share posts as often as it likes.
+/// Who is over its quota posts as often as it likes.
 #[test]
 fn a_body_is_looked_through_up_to_a_series_that_is_not_known() {
     let mut of_each = request(Vec::new(), Vec::new(), Vec::new());

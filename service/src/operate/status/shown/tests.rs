@@ -74,9 +74,9 @@ fn who_is_quarantined_in_several_slots_is_shown_once() {
     assert_eq!(notes(&status(&["-"])), [told("1 sender: - (who names none)")]);
     let mut both = status(&["A", "B"]);
     let held = Held { senders: 1, posts: 3, bytes: 2048 };
-    both.slots[0].held = held;
+    both.slots[0].parked = held;
     both.slots.extend(status(&["A"]).slots);
-    both.slots[1].held = held;
+    both.slots[1].parked = held;
     let shown = section(&both, "What waits");
     assert_eq!(shown.notes, [told("2 senders: A, B")]);
     assert_eq!(shown.rows[2], ["posts of quarantined senders", "6", "4.0 KiB", ""]);
@@ -114,15 +114,15 @@ fn requests_that_the_sink_refused_for_good_are_counted_with_what_to_do() {
 
 #[test]
 fn senders_are_shown_beside_their_shares() {
-    let used = |sender: &str, max_series, most_points| Used {
+    let used = |sender: &str, max_series, max_points| Used {
         sender: sender.into(),
         series: 9,
         max_series,
         points: 3_000,
-        most_points,
+        max_points,
     };
-    let shares = vec![used("A", Some(10), Some(6_000)), used("-", None, Some(60_000))];
-    let shown = section(&Status { shares, ..status(&[]) }, "Shares");
+    let quotas = vec![used("A", Some(10), Some(6_000)), used("-", None, Some(60_000))];
+    let shown = section(&Status { quotas, ..status(&[]) }, "Quotas");
     assert_eq!(shown.rows[0], ["A", "9", "10", "3,000", "6,000", "90 %"]);
     assert_eq!(shown.rows[1], ["- (who names none)", "9", "", "3,000", "60,000", "5 %"]);
 }
@@ -165,16 +165,16 @@ fn instances_databases_and_slots_are_shown() {
         name: name.into(),
         address: format!("{name}:4320"),
         version: "1.0".into(),
-        beat_seconds: Some(slots as u64),
+        heartbeat_seconds: Some(slots as u64),
         slots,
         trouble: trouble.map(String::from),
     };
-    let database = |copies, doubt_seconds, why: Option<&str>| DatabaseStatus {
+    let database = |copies, unknown_outcome_seconds, why: Option<&str>| DatabaseStatus {
         database: "db/x".into(),
         copies,
         copies_asked: 2,
         why: why.map(String::from),
-        doubt_seconds,
+        unknown_outcome_seconds,
     };
     let slot = |slot, owner: Option<&str>, unknown: Option<&str>| SlotStatus {
         slot,
