@@ -47,7 +47,7 @@ def deliver(program: str, server: Server, folder: str, sink: str, requests: int)
     for number in range(1, requests + 1):
         post(number)
     taken = server.run("psql", f"postgresql://postgres@127.0.0.1:{server.port}/{where}", "-XAtqc",
-                       "select count(*) from totxegun.request")
+                       "select count(*) from totxegun.requests")
     # Those of the first flush are not among them.
     requests = int(taken) * requests // (requests + 1)
     query = "select coalesce(sum(calls), 0), coalesce(sum(wal_bytes), 0) from pg_stat_statements where "

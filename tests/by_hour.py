@@ -99,7 +99,7 @@ class HourlySender(Sender):
 class File:
     """A SQLite file, and what is asked of it."""
 
-    words = {"hour": "unixepoch(hour || ':00') / 3600", "by_hour": "by_hour", "month": "substr(month, 1, 7)", "by_month": "by_month",
+    words = {"hour": "unixepoch(hour) / 3600", "by_hour": "by_hour", "month": "substr(month, 1, 7)", "by_month": "by_month",
              "span": "intervals"}
 
     def __init__(self, folder: str) -> None:

@@ -147,7 +147,7 @@ def main(program: str, seconds: float = 2.0) -> int:
                 if ahead > 0 and closed is None:
                     closed = time.time_ns() // HOUR
                     checks.true("the present hour is closed by it", *close(service, shown(closed)))
-                    before = ask("select total(total) from by_hour where hour = ?", shown(closed).replace("T", " ") + ":00")
+                    before = ask("select total(total) from by_hour where hour = ?", shown(closed).replace("T", " ") + ":00Z")
         finally:
             ends.set()
             for thread in threads:
@@ -168,7 +168,7 @@ def look(checks: Checks, ask: Callable[..., list[tuple[Any, ...]]], senders: lis
     checks.true(f"points were left out: {ahead}", all(ahead), ahead)
     wanted = {sender.name: sum(sender.hours.values()) for sender in senders}
     checks.same("each sender's total", wanted, {name: total for name, total in ask("select name, total from totals")})
-    name = shown(closed).replace("T", " ") + ":00"
+    name = shown(closed).replace("T", " ") + ":00Z"
     checks.same("the closed hour stays", before, ask("select total(total) from by_hour where hour = ?", name))
     late = "select coalesce(sum(total), 0) from late where belongs_to = ?"
     in_hour = sum(sender.hours.get(closed, 0) for sender in senders)

@@ -35,7 +35,7 @@ SECONDS = 60
 HOUR = 3600 * 10**9
 # 2026-11-05 13:00, of which the sink has 5 before it is closed, and 7 late.
 FIRST = 498_301 * HOUR
-NAME, SHOWN = "2026-11-05T13", "2026-11-05 13:00"
+NAME, SHOWN = "2026-11-05T13", "2026-11-05 13:00Z"
 
 
 def post(service: Interrupted, start: int, value: int) -> Answer:
@@ -131,10 +131,10 @@ class Runs:
     def look(folder: str, closed: int, late: Sequence[int], corrected: int) -> None:
         with contextlib.closing(sqlite3.connect(f"file:{folder}/sink/sink.db?mode=ro", uri=True)) as database:
             found = [database.execute(query).fetchall() for query in (
-                "select count(*) from closed",
+                "select count(*) from closed_periods",
                 f"select coalesce(sum(total), 0) from by_hour where hour = '{SHOWN}'",
                 f"select total from late where belongs_to = '{SHOWN}' and total <> 0",
-                "select coalesce(sum(corrections), 0), sum(billed) from totals",
+                "select coalesce(sum(adjustments), 0), sum(total_adjusted) from totals",
                 "select total from totals")]
         total = 5 + sum(late)
         wanted = [[(closed,)], [(5,)], [(one,) for one in late], [(corrected, total + corrected)], [(total,)]]

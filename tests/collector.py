@@ -109,8 +109,8 @@ def request(resource: dict[str, str], name: str, total: int, points: int = 1) ->
 def senders_in(path: str) -> dict[str, tuple[str, int]]:
     """By instance, who posts the series of `orders`, and its total."""
     database = sqlite3.connect(f"file:{path}?mode=ro", uri=True)
-    rows = database.execute("select resource ->> '$.\"service.instance.id\"', sender, total_low from series join series_total"
-                            " on series_total.series = series.id where name = 'orders'").fetchall()
+    rows = database.execute("select resource ->> '$.\"service.instance.id\"', sender, total_low from series join series_totals"
+                            " on series_totals.series = series.id where name = 'orders'").fetchall()
     database.close()
     return {instance: (sender, total) for instance, sender, total in rows}
 

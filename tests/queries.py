@@ -110,7 +110,7 @@ def statements() -> dict[int, dict[str, str]]:
 
 # Beside the questions: each hour of a month of one name, added up from the hours of its series.
 MONTH_BY_HOUR = """
-select hour, sum(total) as total, sum(billed) as billed from by_hour
+select hour, sum(total) as total, sum(total_adjusted) as total_adjusted from by_hour
 where name = 'shop.revenue' and hour >= '2026-11-01' and hour < '2026-12-01' group by hour order by hour"""
 
 
@@ -142,14 +142,14 @@ class Plain:
     def answers(self) -> Iterator[tuple[int, list[Any]]]:
         november = self.november()
         hours = self.sums("shop.revenue", november, lambda _, hour: hour)
-        yield 0, [(at(hour).strftime("%Y-%m-%d %H:00"), total, total) for hour, total in sorted(hours.items())]
+        yield 0, [(at(hour).strftime("%Y-%m-%d %H:00Z"), total, total) for hour, total in sorted(hours.items())]
         revenue = self.sums("shop.revenue", november, lambda one, hour: (at(hour).date(), one.shop))
         yield 1, [(str(day), shop, total) for (day, shop), total in sorted(revenue.items())]
         owed = self.sums("shop.revenue", november, lambda one, _: one.customer)
         yield 2, self.greatest_first(owed)
         orders = self.sums("shop.orders", november, lambda _, hour: hour)
         most = min(orders, key=lambda hour: (-orders[hour], hour))
-        yield 3, [(at(most).strftime("%Y-%m-%d %H:00"), orders[most])]
+        yield 3, [(at(most).strftime("%Y-%m-%d %H:00Z"), orders[most])]
         yield 4, self.one_day()
         all_of = {in_order(one.attributes): sum(map(one.value, HOURS)) for one in self.of("shop.revenue")}
         yield 5, sorted(all_of.items(), key=lambda row: -row[1])[:10]
@@ -169,7 +169,7 @@ class Plain:
         rows = []
         for name in NAMES:
             of_one = [one for one in self.of(name) if one.customer == "c3" and one.kind == "monotonic"]
-            rows += [(at(hour).strftime("%Y-%m-%d %H:00"), name, sum(one.value(hour) for one in of_one)) for hour in day if of_one]
+            rows += [(at(hour).strftime("%Y-%m-%d %H:00Z"), name, sum(one.value(hour) for one in of_one)) for hour in day if of_one]
         return sorted(rows)
 
     def quantiles(self, hours: Sequence[int], key: Callable[[Series, int], Any]) -> list[tuple[Any, int | None]]:
@@ -202,8 +202,8 @@ class Lite:
         self.file.create_aggregate("added", 1, Added)  # type: ignore[arg-type]
         self.file.create_function("month_of", 1, month_of, deterministic=True)
         for day in range(HOURS[0] // 24, HOURS[-1] // 24 + 1):
-            self.longer("day", str(day), f"hour where hour between {day * 24} and {day * 24 + 23}")
-        self.longer("month", "month_of(day)", "day")
+            self.longer("day", str(day), f"hours where hour between {day * 24} and {day * 24 + 23}")
+        self.longer("month", "month_of(day)", "days")
         self.written()
         self.totals()
         self.late()
@@ -219,7 +219,7 @@ class Lite:
         ]
         self.file.executemany("insert into series values (?, randomblob(32), '', ?, ?, ?, ?, ?, ?, ?, ?, ?, null)", rows)
         metrics = [(place + 1, name, "histogram" if place == WAIT else "monotonic") for place, name in enumerate(NAMES)]
-        self.file.executemany("insert into metric values (?, ?, ?, '1')", metrics)
+        self.file.executemany("insert into metrics values (?, ?, ?, '1')", metrics)
 
     def hours(self, count: int) -> None:
         """An hour after the other, as they are taken."""
@@ -227,30 +227,31 @@ class Lite:
         for hour in HOURS:
             self.file.execute(
                 f"""with recursive numbers (n, h) as (select 1, ?1 union all select n + 1, h from numbers where n < ?2)
-                insert into hour select h, n % 5 + 1, n, 360, 0, {VALUE}, 0, iif(n % 5 = {WAIT}, {COUNT}, 0), 0,
+                insert into hours select h, n % 5 + 1, n, 360, 0, {VALUE}, 0, iif(n % 5 = {WAIT}, {COUNT}, 0), 0,
                 iif(n % 5 = {WAIT}, {bucket_list}, null), 0 from numbers""",
                 (hour, count),
             )
-            self.file.execute("insert into utc_hour values (?, ?)", (hour, at(hour).strftime("%Y-%m-%d %H:00")))
+            self.file.execute("insert into utc_hours values (?, ?)", (hour, at(hour).strftime("%Y-%m-%d %H:00Z")))
         self.file.execute(
-            """insert into metric_hour select hour, metric, sum(points), 0, sum(total_low), 0, sum(count_low), 0
-            from hour group by 1, 2"""
+            """insert into metric_hours select hour, metric, sum(points), 0, sum(total_low), 0, sum(count_low), 0
+            from hours group by 1, 2"""
         )
 
     def longer(self, unit: str, time_of: str, rows: str) -> None:
         self.file.execute(
-            f"""insert into {unit} select {time_of}, metric, series, sum(points), 0, sum(total_low), 0, sum(count_low), 0, added(buckets), 0
+            f"""insert into {unit}s
+            select {time_of}, metric, series, sum(points), 0, sum(total_low), 0, sum(count_low), 0, added(buckets), 0
             from {rows} group by 1, 2, 3"""
         )
 
     def written(self) -> None:
         for unit, date in (("day", "date(day * 86400, 'unixepoch')"), ("month", "date('1970-01-01', '+' || month || ' months')")):
-            self.file.execute(f"insert into utc_{unit} select {unit}, {date} from (select distinct {unit} from {unit})")
+            self.file.execute(f"insert into utc_{unit}s select {unit}, {date} from (select distinct {unit} from {unit}s)")
 
     def totals(self) -> None:
         self.file.execute(
-            """insert into series_total select series, sum(points), 1, ?, 0, sum(total_low), 0, sum(count_low), 0, added(buckets), 1, 0
-            from month group by series""",
+            """insert into series_totals select series, sum(points), 1, ?, 0, sum(total_low), 0, sum(count_low), 0, added(buckets), 1, 0
+            from months group by series""",
             (HOURS[-1] * 3_600_000_000_000,),
         )
 
@@ -262,14 +263,14 @@ class Lite:
             (number, number, second + (LATE * 3600 if number % 100_000 == 7 else 1), (second - 10) * 10**9, second * 10**9)
             for number, second in enumerate(seconds, 1)
         ]
-        self.file.executemany("insert into request values (?, 0, 'e', ?, ?, 1, zeroblob(32), null, ?, ?)", rows)
-        self.file.executemany("insert into interval_row values (?, 1, 0, 10000000000, 5, null, null, null)", [(row[0],) for row in rows])
+        self.file.executemany("insert into requests values (?, 0, 'e', ?, ?, 1, zeroblob(32), null, ?, ?)", rows)
+        self.file.executemany("insert into interval_rows values (?, 1, 0, 10000000000, 5, null, null, null)", [(row[0],) for row in rows])
         self.taken_late = [row for row in rows if row[0] % 100_000 == 7]
 
     def late_rows(self) -> list[tuple[str, str, str, int]]:
         return [
             (
-                at((row[4] - 1) // 3_600_000_000_000).strftime("%Y-%m-%d %H:00"), Series(1).name,
+                at((row[4] - 1) // 3_600_000_000_000).strftime("%Y-%m-%d %H:00Z"), Series(1).name,
                 datetime.datetime.fromtimestamp(row[2], UTC).strftime("%Y-%m-%d %H:%M:%S"), 5,
             )
             for row in self.taken_late
@@ -313,35 +314,35 @@ select sha256(n::text::bytea), n::text, true, (array[{", ".join(f"'{name}'" for 
     jsonb_build_object('shop', 's' || n / 5 % 10, 'customer', 'c' || n / 50),
     jsonb_build_object('service.instance.id', 'i' || n / 5 % 7, 'service.name', 'shop'), 'shop', '1', '{{}}'
 from generate_series(1::bigint, :count) as numbers(n);
-insert into metric select distinct on (metric) metric, name, kind, unit from series;
-alter table past_hour disable trigger add_to_day;
-insert into past_hour
+insert into metrics select distinct on (metric) metric, name, kind, unit from series;
+alter table past_hours disable trigger add_to_day;
+insert into past_hours
 select n, 360, 0, h, {VALUE}, case n % 5 when {WAIT} then {COUNT} else 0 end,
     case n % 5 when {WAIT} then array[{", ".join(BUCKETS)}]::numeric[] end
 from generate_series({HOURS[0]}::bigint, {HOURS[-1]}) as hours(h), generate_series(1::bigint, :count) as numbers(n);
-alter table past_hour enable trigger add_to_day;
+alter table past_hours enable trigger add_to_day;
 create temporary table many as select series, hour / 24 as day, place, sum(bucket) as count
-from past_hour, unnest(buckets) with ordinality as one(bucket, place) group by 1, 2, 3;
+from past_hours, unnest(buckets) with ordinality as one(bucket, place) group by 1, 2, 3;
 create index on many (series, day);
-insert into past_day select series, points, 0, day, total, sums.count, (
+insert into past_days select series, points, 0, day, total, sums.count, (
     select array_agg(many.count order by place) from many where many.series = sums.series and many.day = sums.day
 ) from (
-    select series, hour / 24 as day, sum(points) as points, sum(total) as total, sum(past_hour.count) as count
-    from past_hour group by series, hour / 24
+    select series, hour / 24 as day, sum(points) as points, sum(total) as total, sum(past_hours.count) as count
+    from past_hours group by series, hour / 24
 ) as sums;
-insert into series_total (series, points, first_start_ns, last_end_ns, total, count, buckets, hour, before_points, before_total,
+insert into series_totals (series, points, first_start_ns, last_end_ns, total, count, buckets, hour, before_points, before_total,
     before_count, before_buckets, life, floor_ns)
 select series, points, 1, {HOURS[-1] + 1} * 3600000000000, total, sums.count, buckets, {HOURS[-1]}, points, total, sums.count,
     buckets, 1, 0
 from (
-    select series, sum(points) as points, sum(total) as total, sum(past_day.count) as count, (
+    select series, sum(points) as points, sum(total) as total, sum(past_days.count) as count, (
         select array_agg(one.count order by place)
-        from (select place, sum(many.count) as count from many where many.series = past_day.series group by 1) as one
+        from (select place, sum(many.count) as count from many where many.series = past_days.series group by 1) as one
     ) as buckets
-    from past_day group by series
+    from past_days group by series
 ) as sums;
-insert into metric_hour select metric, hour, sum(points), sum(total), sum(past_hour.count)
-from past_hour join series on series.id = past_hour.series group by 1, 2;
+insert into metric_hours select metric, hour, sum(points), sum(total), sum(past_hours.count)
+from past_hours join series on series.id = past_hours.series group by 1, 2;
 analyze;
 """
 
@@ -355,7 +356,7 @@ class Postgres:
         self.server.wait_ready()
         made(program, folder, self.server.address)
         self.psql(FILL.replace(":count", str(count)))
-        self.psql("vacuum totxegun.past_hour")
+        self.psql("vacuum totxegun.past_hours")
 
     def psql(self, sql: str) -> str:
         return self.server.run("psql", "-h", self.server.folder, "-U", "postgres", "-XAtq", "-v", "ON_ERROR_STOP=1", "-c", sql)
@@ -364,11 +365,13 @@ class Postgres:
         """Times are given as SQLite writes them."""
         statement = sql.strip().rstrip(";")
         answer = self.psql(f"set search_path to totxegun; set timezone to 'UTC'; select json_agg(found) from ({statement}) as found")
-        lengths = {"hour": 16, "day": 10}
-        return [
-            tuple(cell[: lengths[name]].replace("T", " ") if name in lengths else cell for name, cell in row.items())
-            for row in json.loads(answer)
-        ]
+        return [tuple(self.written(*cell) for cell in row.items()) for row in json.loads(answer)]
+
+    @staticmethod
+    def written(name: str, cell: Any) -> Any:
+        if name == "hour":
+            return cell[:16].replace("T", " ") + "Z"
+        return cell[:10] if name == "day" else cell
 
     def row_bytes(self, table: str) -> float:
         return float(self.psql(f"set search_path to totxegun; select pg_total_relation_size('{table}') / count(*)::float from {table}"))
@@ -391,7 +394,7 @@ def try_lite(checks: Checks, program: str, folder: str, count: int, wanted: dict
         rows, seconds = lite.ask(sqls["SQLite"])
         compare(checks, "SQLite", number, wanted[number], rows)
         print(f"note: it took {seconds:.2f} s of processor time", flush=True)
-    say_sizes("hour", "interval_row", of=lite)
+    say_sizes("hours", "interval_rows", of=lite)
 
 
 def try_postgres(checks: Checks, program: str, folder: str, count: int, wanted: dict[int, list[Any]]) -> None:
@@ -404,7 +407,7 @@ def try_postgres(checks: Checks, program: str, folder: str, count: int, wanted: 
                 compare(checks, "PostgreSQL", number, wanted[number], rows)
                 print(f"note: it took {time.monotonic() - began:.2f} s by the clock", flush=True)
         look_at_plan(checks, postgres)
-        say_sizes("past_hour", "past_day", of=postgres)
+        say_sizes("past_hours", "past_days", of=postgres)
     finally:
         postgres.server.close()
 
@@ -529,9 +532,9 @@ class Bill:
         head, *rows = again[0].splitlines()
         self.checks.same(f"{self.what}: its rows", 3, len(rows))
         objects = [json.loads(line) for line in self.totxegun(line.replace("--csv", "--json"))[0].splitlines()]
-        billed = sorted((one["attributes"]["shop"], one["total"], one["corrections"], one["billed"]) for one in objects)
+        total_adjusted = sorted((one["attributes"]["shop"], one["total"], one["adjustments"], one["total_adjusted"]) for one in objects)
         wanted = [("s1", "1005", "0", "1005"), ("s2", "700", "-250", "450"), ("s3", "77", "0", "77")]
-        self.checks.same(f"{self.what}: as JSON", wanted, billed)
+        self.checks.same(f"{self.what}: as JSON", wanted, total_adjusted)
         self.checks.same(f"{self.what}: its head", list(objects[0]), head.split(","))
 
     def acts(self) -> None:

@@ -273,7 +273,7 @@ def try_repeat_without_its_standby(checks: Checks, program: str, store: Pair, fo
         waits = "select count(*) > 0 from pg_stat_activity where wait_event = 'SyncRep' and query = 'COMMIT'"
         checks.true("the next one waits for the standby", wait_until(lambda: store.ask(waits) == "t"), service.last_lines())
         store.restart()
-        checks.same("it can be read then", "t", store.ask("select count(*) > 2 from totxegun.request"))
+        checks.same("it can be read then", "t", store.ask("select count(*) > 2 from totxegun.requests"))
         checks.true("what one server alone has is not taken", not wait_until(lambda: waiting(service) < 2, 8), service.last_lines())
         store.standby.start()
         checks.true("it is taken once both have it", service.has_delivered_all(), service.last_lines())

@@ -12,10 +12,10 @@ NAMES = {"shop.orders": "shop_orders_total", "shop.order.value": "shop_order_val
 HISTOGRAMS = ("shop.order.value", "shop.request.duration")
 # Each point of each request, in the order in which they were taken: a request is one transaction, and a view has no xmin.
 POINTS = """
-select coalesce(json_agg(json_build_array(interval_row.xmin::text::bigint, name, resource->>'service.instance.id', attributes,
-    coalesce(value, sum), coalesce(interval_row.count, (select sum(one) from unnest(totxegun.bucket_counts(counts)) as one), 0))
-    order by interval_row.xmin::text::bigint), '[]')
-from totxegun.interval_row join totxegun.series on series.id = interval_row.series"""
+select coalesce(json_agg(json_build_array(interval_rows.xmin::text::bigint, name, resource->>'service.instance.id', attributes,
+    coalesce(value, sum), coalesce(interval_rows.count, (select sum(one) from unnest(totxegun.bucket_counts(counts)) as one), 0))
+    order by interval_rows.xmin::text::bigint), '[]')
+from totxegun.interval_rows join totxegun.series on series.id = interval_rows.series"""
 
 Attributes = tuple[tuple[str, str], ...]
 # Program, name and attributes; and its total, count and buckets.

@@ -16,7 +16,7 @@ use std::io::{BufWriter, Write};
 
 const COLUMNS: &str =
     "series,name,kind,unit,attributes,resource,scope_name,scope_version,scope_attributes,points,total,\
-    corrections,billed,count,bounds,buckets";
+    adjustments,total_adjusted,count,bounds,buckets";
 
 #[derive(Args)]
 pub struct Options {
@@ -165,8 +165,8 @@ fn csv(line: &Line) -> String {
         cell(line.scope_attributes.get()),
         line.points.to_string().into(),
         line.total.as_str().into(),
-        line.corrections.as_str().into(),
-        line.billed.as_str().into(),
+        line.adjustments.as_str().into(),
+        line.total_adjusted.as_str().into(),
         line.count.as_deref().unwrap_or_default().into(),
         cell(bounds),
         cell(buckets),

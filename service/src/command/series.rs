@@ -21,8 +21,8 @@ struct Object<'a> {
     scope_attributes: &'a RawValue,
     points: String,
     total: &'a str,
-    corrections: &'a str,
-    billed: &'a str,
+    adjustments: &'a str,
+    total_adjusted: &'a str,
     count: Option<&'a str>,
     bounds: Option<Vec<String>>,
     buckets: Option<Vec<String>>,
@@ -44,8 +44,8 @@ pub fn object(line: &Line) -> Result<Vec<u8>> {
         scope_attributes: &line.scope_attributes,
         points: line.points.to_string(),
         total: &line.total,
-        corrections: &line.corrections,
-        billed: &line.billed,
+        adjustments: &line.adjustments,
+        total_adjusted: &line.total_adjusted,
         count: line.count.as_deref(),
         bounds: texts(line.bounds.as_deref())?,
         buckets: texts(line.buckets.as_deref())?,
@@ -83,8 +83,8 @@ mod tests {
             scope_attributes: raw("{}"),
             points: 3,
             total: "9223372036854775810".into(),
-            corrections: "-5".into(),
-            billed: "9223372036854775805".into(),
+            adjustments: "-5".into(),
+            total_adjusted: "9223372036854775805".into(),
             count: Some("9007199254740993".into()),
             bounds: Some(raw("[-1, 5]")),
             buckets: Some(raw("[0,9007199254740993,0]")),
@@ -94,10 +94,14 @@ mod tests {
 
     #[test]
     fn numbers_are_texts_and_attributes_are_objects() {
-        let written = r#"{"series":"7","name":"wait","kind":"histogram","unit":"us","attributes":{"code":200,"route":"/"},"resource":{},"scope_name":"lib","scope_version":"","scope_attributes":{},"points":"3","total":"9223372036854775810","corrections":"-5","billed":"9223372036854775805","count":"9007199254740993","bounds":["-1","5"],"buckets":["0","9007199254740993","0"]"#;
+        let written = r#"{"series":"7","name":"wait","kind":"histogram","unit":"us","attributes":{"code":200,"route":"/"},"resource":{},"scope_name":"lib","scope_version":"","scope_attributes":{},"points":"3","total":"9223372036854775810","adjustments":"-5","total_adjusted":"9223372036854775805","count":"9007199254740993","bounds":["-1","5"],"buckets":["0","9007199254740993","0"]"#;
         assert_eq!(object(&line()).unwrap(), format!("{written}}}\n").into_bytes());
-        let times = Times { since: "2026-11-05T13:30:15Z".into(), until: "2026-11-05T14:00:00Z".into() };
-        let with_times = format!("{written},\"since\":\"{}\",\"until\":\"{}\"}}\n", times.since, times.until);
+        let times =
+            Times { first_start: "2026-11-05T13:30:15Z".into(), last_end: "2026-11-05T14:00:00Z".into() };
+        let with_times = format!(
+            "{written},\"first_start\":\"{}\",\"last_end\":\"{}\"}}\n",
+            times.first_start, times.last_end
+        );
         assert_eq!(object(&Line { times: Some(times), ..line() }).unwrap(), with_times.into_bytes());
         let sum = Line { kind: Kind::Sum, count: None, bounds: None, buckets: None, ..line() };
         let written = String::from_utf8(object(&sum).unwrap()).unwrap();

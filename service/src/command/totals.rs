@@ -9,7 +9,7 @@ use anyhow::Result;
 use clap::Args;
 
 const COLUMNS: [&str; 10] =
-    ["name", "attributes", "kind", "unit", "points", "total", "count", "since", "until", "resource"];
+    ["name", "attributes", "kind", "unit", "points", "total", "count", "first start", "last end", "resource"];
 
 #[derive(Args)]
 pub struct Options {
@@ -47,7 +47,8 @@ pub fn run(options: &Options) -> Result<Vec<u8>> {
 
 fn shown(line: &Line) -> [String; COLUMNS.len()] {
     let points = line.points.to_string();
-    let (since, until) = line.times.as_ref().map_or(("", ""), |times| (&times.since, &times.until));
+    let (first_start, last_end) =
+        line.times.as_ref().map_or(("", ""), |times| (&times.first_start, &times.last_end));
     let all = [
         &*line.name,
         line.attributes.get(),
@@ -56,8 +57,8 @@ fn shown(line: &Line) -> [String; COLUMNS.len()] {
         &points,
         &line.total,
         line.count.as_deref().unwrap_or_default(),
-        since,
-        until,
+        first_start,
+        last_end,
         line.resource.get(),
     ];
     all.map(|text| if text.is_empty() { "-".into() } else { text.into() })

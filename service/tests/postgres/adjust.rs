@@ -41,7 +41,7 @@ pub async fn adjust(
         late_key: if is_late { format!("{:016x}", model.corrected) } else { String::new() },
         is_dry: false,
     };
-    let counted = Counted { corrections: adjustment.value, ..Counted::default() };
+    let counted = Counted { adjustments: adjustment.value, ..Counted::default() };
     model.add(name, hour, now, &counted);
     let dry = Deed::Adjust(Adjustment { is_dry: true, ..adjustment.clone() });
     let told = done(sink, dry).await;
@@ -78,7 +78,8 @@ async fn a_series_is_adjusted_by_its_identity() {
         let by_number = by_hand(Which::Number(1), hour - 3, -2, "x");
         let told = done(&*sink, Deed::Adjust(by_number)).await;
         assert!(told.contains("is there already"), "{told}");
-        let query = "select HOUR(hour)/H, points, total, corrections, billed from t.by_hour order by 1";
+        let query =
+            "select HOUR(hour)/H, points, total, adjustments, total_adjusted from t.by_hour order by 1";
         let wanted = format!("{}|0|0|-4|-4\n{hour}|1|5|0|5", hour - 3);
         assert_eq!(database.ask(query), wanted);
     }
@@ -96,6 +97,6 @@ async fn nothing_is_adjusted_where_the_horizon_is_gone() {
         let told = sink.settle("alice", &Deed::Adjust(by_hand(Which::Number(1), hour, -2, "x"))).await;
         let named = "the table `horizon` has no row";
         assert!(matches!(&told, Told::Later(why) if why.contains(named)), "{told:?}");
-        assert_eq!(database.ask("select count(*) from t.corrections"), "0");
+        assert_eq!(database.ask("select count(*) from t.adjustments"), "0");
     }
 }

@@ -21,22 +21,22 @@ async fn an_hour_that_is_being_deleted_is_there_whole_or_not_at_all() {
     taken(&*before, 2, sums(&[("a", now() - 10, now(), 8)])).await;
     drop(before);
     let late = format!(
-        "insert into totxegun.late_hour select id, 1, 0, {hour} - 1, {hour}, 5, 0 from totxegun.series where name = 'a'",
+        "insert into totxegun.late_hours select id, 1, 0, {hour} - 1, {hour}, 5, 0 from totxegun.series where name = 'a'",
         hour = old / HOUR
     );
     server.ask(&late);
     let late = "select count(*) from totxegun.late";
     assert_eq!(server.ask(late), "1");
     let _held = server.hold(
-        "begin; select from totxegun.series_total join totxegun.series on id = series where name = 'b' for update of series_total; \
-         select from totxegun.metric_hour join totxegun.metric on id = metric where name = 'b' for update of metric_hour; \
+        "begin; select from totxegun.series_totals join totxegun.series on id = series where name = 'b' for update of series_totals; \
+         select from totxegun.metric_hours join totxegun.metrics on id = metric where name = 'b' for update of metric_hours; \
          select pg_sleep(60)",
     );
     let held =
         "select count(*) from pg_stat_activity where query like '%pg_sleep(60)' and pid <> pg_backend_pid()";
     until(&server, held, "1").await;
     let _sink = open_with(&address, Retention { hours: TWO_DAYS, ..Retention::default() });
-    let deleted = format!("select count(*) from totxegun.hour where hour = {}", old / HOUR);
+    let deleted = format!("select count(*) from totxegun.hours where hour = {}", old / HOUR);
     until(&server, &deleted, "1").await;
     for view in ["by_hour", "totals_by_hour"] {
         assert_eq!(server.ask(&format!("select name, total from totxegun.{view}")), "a|8", "{view}");

@@ -31,7 +31,7 @@ fn spans(random: &mut Random) -> Vec<Point> {
 }
 
 const BY_HOUR: &str = "select name, hour, hour.points, hour.total, hour.count, hour.without_sum, hour.buckets
-    from totxegun.hour join totxegun.series on series.id = hour.series order by 1, 2";
+    from totxegun.hours join totxegun.series on series.id = hours.series order by 1, 2";
 
 /// The view, which has no `without_sum`, and no count of sums.
 fn view(of: &str) -> String {
@@ -109,7 +109,7 @@ async fn a_span_counts_in_the_hour_of_its_last_nanosecond() {
     let leap = "select to_char(hour at time zone 'UTC', 'YYYY-MM-DD HH24:MI') from totxegun.by_hour
         where name = 'leap' order by 1";
     assert_eq!(server.ask(leap), "2016-12-31 23:00\n2017-01-01 00:00");
-    let buckets = "select \"from\", up_to, count from totxegun.buckets order by up_to";
+    let buckets = "select lower_bound, upper_bound, count from totxegun.buckets order by upper_bound";
     taken(&*sink, 9, crate::server::histogram("h", 1, 2, Some(3), [7, 0, 2])).await;
     assert_eq!(server.ask(buckets), "|-5|7\n-5|10|0\n10||2");
 }

@@ -41,7 +41,7 @@ async fn intervals_read_as_they_came() {
     let added =
         "select sum(one) from totxegun.intervals, unnest(buckets::numeric[]) as one where start_ns = 1000";
     assert_eq!(server.ask(added), "70309");
-    let counts = "select count(*) from totxegun.interval_row where count is not null";
+    let counts = "select count(*) from totxegun.interval_rows where count is not null";
     assert_eq!(server.ask(counts), "4", "those that are not what the buckets come to");
 }
 
@@ -56,6 +56,6 @@ async fn an_interval_takes_few_bytes() {
         "count":"182","explicitBounds":[1,2,3,4,5,6,7,8,9,10],"startTimeUnixNano":"1","sum":"123456789012","timeUnixNano":"2"}]},
         "name":"h","unit":"ms"}],"scope":{"attributes":[],"name":"s","version":"1"}}]}]}"#;
     taken(&*sink, 2, eleven.into()).await;
-    let bytes = "select (pg_column_size(one) + 7) / 8 * 8 + 4 from totxegun.interval_row as one order by 1";
+    let bytes = "select (pg_column_size(one) + 7) / 8 * 8 + 4 from totxegun.interval_rows as one order by 1";
     assert_eq!(server.ask(bytes), "60\n76");
 }

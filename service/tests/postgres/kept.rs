@@ -37,7 +37,7 @@ fn make_day(server: &Server, ns: u64) -> String {
     ));
     let from = ns / DAY * DAY + 1;
     server.ask(&format!(
-        "create table totxegun.{name} (like totxegun.interval_row); alter table totxegun.interval_row attach partition totxegun.{name} \
+        "create table totxegun.{name} (like totxegun.interval_rows); alter table totxegun.interval_rows attach partition totxegun.{name} \
          for values from ({from}) to ({})",
         from + DAY
     ));
@@ -59,7 +59,7 @@ async fn old_intervals_are_deleted_and_not_counted_again() {
     taken(&*before, 3, sum("b", older, older + 9, 8)).await;
     taken(&*before, 4, sum("a", now() - 10, now(), 16)).await;
     assert_eq!(server.ask(&format!("select count(*) from totxegun.{name}")), "3");
-    let hours = server.ask("select * from totxegun.hour order by series, hour");
+    let hours = server.ask("select * from totxegun.hours order by series, hour");
     drop(before);
     let sink = open_with(&address, Retention { intervals: days(2), ..Retention::default() });
     until(&server, "select count(*) from totxegun.intervals", "1").await;
@@ -71,7 +71,7 @@ async fn old_intervals_are_deleted_and_not_counted_again() {
     refused(&*sink, 14, sum("b", older, older + 9, 8), "is not added").await;
     let found = server.ask("select name, points, total from totxegun.totals order by 1");
     assert_eq!(found, "a|4|23\nb|1|8");
-    assert_eq!(server.ask("select * from totxegun.hour order by series, hour"), hours);
+    assert_eq!(server.ask("select * from totxegun.hours order by series, hour"), hours);
 }
 
 #[tokio::test(flavor = "multi_thread")]
@@ -207,7 +207,7 @@ async fn days_are_made_ahead() {
     for (number, end) in [day, day + 1, day + DAY, day + DAY + 1].into_iter().enumerate() {
         taken(&*sink, 10 + number as u64, sum("b", end - 1, end, 1)).await;
     }
-    let there = "select tableoid::regclass, count(*) from totxegun.interval_row group by 1 order by 1";
+    let there = "select tableoid::regclass, count(*) from totxegun.interval_rows group by 1 order by 1";
     let before = server.ask(there);
     assert!(before.contains("totxegun.interval_other|3"), "{before}");
     drop(sink);
@@ -224,7 +224,7 @@ async fn days_are_made_ahead() {
     until(&server, "select count(*) from totxegun.interval_other", "1").await;
     assert_eq!(server.ask(&format!("select count(*) from totxegun.{today}")), "2");
     refused(&*sink, 30, sum("b", day, day + 1, 1), "is not added").await;
-    assert_eq!(server.ask("select sum(points) from totxegun.hour"), "5");
+    assert_eq!(server.ask("select sum(points) from totxegun.hours"), "5");
 }
 
 /// What was made ahead of it then is no reason to make none of the days that come.

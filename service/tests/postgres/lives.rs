@@ -189,10 +189,10 @@ async fn what_is_late_is_known_under_the_locks() {
         in_order(&**sink, 0, 1, sum("a", 100, 200, 1)).await;
     }
     // A new series needs the row of its metric.
-    let held = server.hold("begin; lock table totxegun.metric in share mode; select pg_sleep(60)");
-    let waits = "select count(*) from pg_locks where not granted and relation = 'totxegun.metric'::regclass";
+    let held = server.hold("begin; lock table totxegun.metrics in share mode; select pg_sleep(60)");
+    let waits = "select count(*) from pg_locks where not granted and relation = 'totxegun.metrics'::regclass";
     let metric_is_held = "select count(*) from pg_locks where granted and mode = 'ShareLock'
-        and relation = 'totxegun.metric'::regclass";
+        and relation = 'totxegun.metrics'::regclass";
     until(&server, metric_is_held).await;
     let letter = request(2, sums(&[("a", 200, 300, 2), ("new", 200, 300, 2)]));
     let letter = tokio::spawn(async move { one.deliver(&letter).await });
@@ -236,7 +236,10 @@ async fn totals_are_read_alike() {
         let lines = tokio::task::spawn_blocking(lines).await.unwrap();
         let found = lines.iter().map(|line| {
             let times = line.times.as_ref().unwrap();
-            format!("{} {} {} {} {}", line.name, line.points, line.billed, times.since, times.until)
+            format!(
+                "{} {} {} {} {}",
+                line.name, line.points, line.total_adjusted, times.first_start, times.last_end
+            )
         });
         assert_eq!(
             found.collect::<Vec<_>>(),

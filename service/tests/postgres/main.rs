@@ -137,7 +137,7 @@ async fn of_a_request_the_points_that_begin_too_early_alone_are_left() {
             let totals = database.ask("select name, points, total from t.totals order by 1");
             assert_eq!(totals, "a|2|5\nb|1|8");
         }
-        assert_eq!(database.ask("select points from t.request where number = 2"), "2");
+        assert_eq!(database.ask("select points from t.requests where number = 2"), "2");
         refused(&*sink, 3, left, "is not added").await;
     }
 }
@@ -254,7 +254,7 @@ async fn a_limit_of_the_server_is_waited_for() {
         "postgres",
         "create function totxegun.limit() returns trigger language plpgsql as $$ begin
             raise exception 'database is not accepting commands' using errcode = '54000'; end $$;
-        create trigger wraparound before insert on totxegun.request execute function totxegun.limit()",
+        create trigger wraparound before insert on totxegun.requests execute function totxegun.limit()",
     );
     match sink.deliver(&request(2, sum("a", 2, 3, 2))).await {
         Fate::Failed { reason, .. } => {
@@ -265,7 +265,7 @@ async fn a_limit_of_the_server_is_waited_for() {
         }
         other => panic!("{other:?}"),
     }
-    server.ask("drop trigger wraparound on totxegun.request");
+    server.ask("drop trigger wraparound on totxegun.requests");
     taken(&*sink, 2, sum("a", 2, 3, 2)).await;
     assert_eq!(server.ask("select points, total from totxegun.totals"), "2|3");
 }
@@ -286,7 +286,7 @@ async fn what_is_lost_on_the_way() {
     assert_eq!(server.ask("select points, total from totxegun.totals"), "2|3");
     // A lock that somebody keeps is given up, and leaves nothing.
     let direct = open(&server.by_socket("postgres"));
-    let held = server.hold("begin; select * from totxegun.series_total for update; select pg_sleep(13)");
+    let held = server.hold("begin; select * from totxegun.series_totals for update; select pg_sleep(13)");
     tokio::time::sleep(Duration::from_secs(1)).await;
     again(&*direct, 3, sum("a", 3, 4, 4), "took too long").await;
     drop(held);

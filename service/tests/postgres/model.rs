@@ -62,7 +62,7 @@ impl Database<'_> {
 pub struct Counted {
     pub points: u64,
     pub total: i128,
-    pub corrections: i64,
+    pub adjustments: i64,
     pub buckets: Option<[u64; 3]>,
 }
 
@@ -82,7 +82,7 @@ impl Counted {
     pub fn merge(&mut self, other: &Counted) {
         self.points += other.points;
         self.total += other.total;
-        self.corrections += other.corrections;
+        self.adjustments += other.adjustments;
         if let Some(buckets) = &other.buckets {
             let all = self.buckets.get_or_insert([0; 3]);
             all.iter_mut().zip(buckets).for_each(|(all, one)| *all += one);
@@ -90,10 +90,10 @@ impl Counted {
     }
 
     pub fn line(&self, key: &str) -> String {
-        let Counted { points, total, corrections, buckets } = self;
-        let billed = total + i128::from(*corrections);
+        let Counted { points, total, adjustments, buckets } = self;
+        let total_adjusted = total + i128::from(*adjustments);
         let buckets = buckets.map_or(String::new(), |buckets| format!("{buckets:?}").replace(' ', ""));
-        format!("{key}|{points}|{total}|{corrections}|{billed}|{buckets}")
+        format!("{key}|{points}|{total}|{adjustments}|{total_adjusted}|{buckets}")
     }
 }
 
@@ -153,7 +153,7 @@ impl Model {
         };
         let ask = |view: &str| {
             let query = format!(
-                "select name, HOUR({view}) /H, points, total, corrections, billed, LIST(buckets) from t.by_{view} order by 1, 2"
+                "select name, HOUR({view}) /H, points, total, adjustments, total_adjusted, LIST(buckets) from t.by_{view} order by 1, 2"
             );
             database.ask(&query)
         };
@@ -166,17 +166,17 @@ impl Model {
         assert_eq!(ask("month"), lines(self.by(month)), "{what}");
         let no_buckets = |(key, counted): (_, Counted)| (key, Counted { buckets: None, ..counted });
         let metrics = self.by(|hour| hour).into_iter().map(no_buckets).collect();
-        let found = "select name, HOUR(hour) /H, points, total, corrections, billed, '' from t.totals_by_hour order by 1, 2";
+        let found = "select name, HOUR(hour) /H, points, total, adjustments, total_adjusted, '' from t.totals_by_hour order by 1, 2";
         assert_eq!(database.ask(found), lines(metrics), "{what}");
         let all = self.by(|_| 0);
         let found =
-            "select name, 0, points, total, corrections, billed, LIST(buckets) from t.totals order by 1";
+            "select name, 0, points, total, adjustments, total_adjusted, LIST(buckets) from t.totals order by 1";
         assert_eq!(database.ask(found), lines(all), "{what}");
         self.late_agrees(database, what);
     }
 
     pub fn late_agrees(&self, database: &Database, what: &str) {
-        let found = "select name, HOUR(belongs_to) /H, HOUR(hour) /H, sum(points), sum(total), sum(corrections), sum(billed), ''
+        let found = "select name, HOUR(belongs_to) /H, HOUR(hour) /H, sum(points), sum(total), sum(adjustments), sum(total_adjusted), ''
             from t.late group by 1, 2, 3 order by 1, 2, 3";
         let line = |((name, of, hour), counted): (&(&str, u64, u64), &Counted)| {
             Counted { buckets: None, ..counted.clone() }.line(&format!("{name}|{of}|{hour}"))

@@ -56,7 +56,7 @@ async fn senders_are_written_down_behind_new_series() {
         Arc::new(Names([("a", "ann"), ("m", "mia")].map(|(of, name)| (key(of).digest(), name)).into()));
     one.owners().expect("a database has them").put(0, &names);
     // Somebody has the hour of a metric, for which a request waits with its series made.
-    let _held = server.hold("begin; select from totxegun.metric_hour for update; select pg_sleep(60)");
+    let _held = server.hold("begin; select from totxegun.metric_hours for update; select pg_sleep(60)");
     let (sleeping, waiting) = (
         "from pg_stat_activity where query like '%pg_sleep(60)' and pid <> pg_backend_pid()",
         "select count(*) from pg_locks where not granted",

@@ -176,7 +176,7 @@ async fn what_no_standby_has_is_not_closed() {
         server.ask(&format!("select {cut}(pid) {waiting}"));
         let told = closing.await.unwrap();
         assert!(matches!(told, Told::Later(_)), "{cut}: {told:?}");
-        let closed = format!("select count(*) from totxegun.closed where from_hour = {hour}");
+        let closed = format!("select count(*) from totxegun.closed_periods where from_hour = {hour}");
         assert_eq!(server.ask(&closed), "1", "it can be read");
         let soon = tokio::time::timeout(Duration::from_secs(3), sink.settle("alice", &deed)).await;
         assert!(soon.is_err(), "{cut}: {soon:?}");
@@ -210,10 +210,10 @@ async fn what_can_t_be_done_is_named_and_changes_nothing() {
         not_done(&*sink, adjustment(1, old, i64::MIN, "y"), "may come to").await;
         let told = done(&*sink, adjustment(1, old, i64::MAX / 2, "x")).await;
         assert!(told.contains("is there already, by alice"), "{told}");
-        assert_eq!(database.ask("select count(*) from t.corrections"), "1");
+        assert_eq!(database.ask("select count(*) from t.adjustments"), "1");
         let half = i64::MAX / 2;
         assert_eq!(
-            database.ask("select total, corrections, billed from t.totals"),
+            database.ask("select total, adjustments, total_adjusted from t.totals"),
             format!("5|{half}|{}", half + 5)
         );
     }
@@ -236,15 +236,15 @@ async fn an_hour_that_is_deleted_is_adjusted_only_while_it_is_closed() {
     drop(before);
     let two_days = Some(Duration::from_secs(2 * 86_400));
     let sink = open_with(&address, Retention { hours: two_days, ..Retention::default() });
-    let billed = "select sum(total), sum(corrections) from totxegun.by_hour";
-    until(&server, billed, "2|0").await;
+    let of_all = "select sum(total), sum(adjustments) from totxegun.by_hour";
+    until(&server, of_all, "2|0").await;
     let adjust = || Deed::Adjust(by_hand(Which::Number(1), hour, -1, "by hand"));
     not_done(&*sink, adjust(), "were deleted (--keep-hours)").await;
-    assert_eq!(server.ask(billed), "2|0");
+    assert_eq!(server.ask(of_all), "2|0");
     // What is closed is adjusted where that counts.
     done(&*sink, Deed::Close(period(hour, 1))).await;
     done(&*sink, adjust()).await;
-    assert_eq!(server.ask(billed), "2|-1");
+    assert_eq!(server.ask(of_all), "2|-1");
 }
 
 /// As by a clock that was ahead once: what came late then counts far behind all intervals.
@@ -347,8 +347,8 @@ async fn deeds_and_late_points_over_cut_connections() {
         let one = request(number, sum("a", start, start + 10, 100));
         while sink.deliver(&one).await != Fate::Taken {}
     }
-    // Four corrections of 1, and twelve intervals of 100, of which eight came while the hour was closed.
-    let found = "select sum(total), sum(corrections), sum(billed) from totxegun.";
+    // Four adjustments of 1, and twelve intervals of 100, of which eight came while the hour was closed.
+    let found = "select sum(total), sum(adjustments), sum(total_adjusted) from totxegun.";
     assert_eq!(server.ask(&format!("{found}totals")), "1201|4|1205");
     assert_eq!(server.ask(&format!("{found}by_hour")), "1201|4|1205");
     assert_eq!(server.ask(&format!("{found}by_month")), "1201|4|1205");

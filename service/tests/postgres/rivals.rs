@@ -151,7 +151,7 @@ async fn series_that_are_gone_are_made_anew() {
     let Some(server) = Server::start() else { return };
     let sink = open(&server.by_socket("postgres"));
     taken(&*sink, 1, sum("a", 1, 2, 1)).await;
-    server.ask("truncate totxegun.series, totxegun.series_total, totxegun.interval_row");
+    server.ask("truncate totxegun.series, totxegun.series_totals, totxegun.interval_rows");
     taken(&*sink, 2, sum("a", 2, 3, 2)).await;
     assert_eq!(server.ask("select points, total from totxegun.totals"), "1|2");
 }

@@ -31,9 +31,9 @@ async fn all_of_them_are_taken_each_under_its_key() {
             database.ask("select count(*), count(distinct hour) from t.by_hour where name <> 'other'"),
             "120|40"
         );
-        assert_eq!(database.ask("select count(*), sum(points) from t.request"), "41|121");
+        assert_eq!(database.ask("select count(*), sum(points) from t.requests"), "41|121");
         if let Database::Lite(_) = database {
-            let brought = "select count(*) from request cross join (select request, count(*) as count from intervals group by 1)
+            let brought = "select count(*) from requests cross join (select request, count(*) as count from intervals group by 1)
                 as of on of.request = id and of.count = points where id > 1";
             assert_eq!(database.ask(brought), "40");
         }
@@ -61,7 +61,7 @@ async fn where_one_can_not_be_taken_whole_nothing_is() {
             all.insert(5, request(90, wrong));
             assert!(!sink.deliver_together(&all, None).await);
             assert_eq!(database.ask("select name, points from t.totals"), "a|1");
-            assert_eq!(database.ask("select count(*) from t.request"), "1");
+            assert_eq!(database.ask("select count(*) from t.requests"), "1");
         }
         // Two that overlap each other.
         let mut all = of_hours(2, 2);

@@ -125,16 +125,16 @@ fn late_data_is_booked_once() {
     }
     let (code, said) = service.ended_by(&["adjust", "c", "1970-01-01T03", "1", "--reason", "x"]);
     assert!(code == Some(1) && said.contains("the sink has no series named c"), "{said}");
-    let query = "select name, hour, total, billed from by_hour order by name, hour";
+    let query = "select name, hour, total, total_adjusted from by_hour order by name, hour";
     let file = sink.strip_prefix("sqlite:").unwrap();
     let rows = Command::new("sqlite3").args(["-separator", " ", file, query]).output().unwrap();
     let rows = String::from_utf8(rows.stdout).unwrap();
     let wanted = [
-        "a 1970-01-01 02:00 0 7",
-        "a 1970-01-01 03:00 0 -2",
-        "a 1970-01-01 04:00 5 5",
-        "b 1970-01-01 03:00 0 4",
-        "b 1970-01-01 04:00 5 6",
+        "a 1970-01-01 02:00Z 0 7",
+        "a 1970-01-01 03:00Z 0 -2",
+        "a 1970-01-01 04:00Z 5 5",
+        "b 1970-01-01 03:00Z 0 4",
+        "b 1970-01-01 04:00Z 5 6",
     ];
     assert_eq!(rows.lines().collect::<Vec<_>>(), wanted);
     let acts = std::fs::read_to_string(place.data().join("acts.jsonl")).unwrap();

@@ -12,7 +12,7 @@ use totxegun::store::postgres::{Copies, PostgresStore};
 const TABLES: [&str; 6] = ["cluster", "instance", "slot", "delivered", "file", "piece"];
 const TOTALS: &str =
     "select coalesce(string_agg(name || '=' || total, ' ' order by name), '') from totxegun.totals";
-const EPOCHS: &str = "select count(distinct epoch) || ' ' || count(distinct id) from totxegun.life";
+const EPOCHS: &str = "select count(distinct epoch) || ' ' || count(distinct id) from totxegun.lives";
 
 /// The tables as they are, beside the others.
 fn dump(server: &Server) {

@@ -22,21 +22,21 @@ const PATIENCE: Duration = Duration::from_secs(30);
 const ALONE: &str = "select pg_advisory_xact_lock($1::int8)";
 
 /// Where its hour is later than the last one of the series, that one is over.
-const LAST_HOUR: &str = "select hour from totxegun.series_total where series = $1::int8 for no key update";
-const BEGIN_HOUR: &str = "update totxegun.series_total set hour = $2::int4, before_points = points,
+const LAST_HOUR: &str = "select hour from totxegun.series_totals where series = $1::int8 for no key update";
+const BEGIN_HOUR: &str = "update totxegun.series_totals set hour = $2::int4, before_points = points,
         before_total = total, before_count = count, before_without_sum = without_sum, before_buckets = buckets,
-        hour_corrections = null
+        hour_adjustments = null
     where series = $1::int8";
-const TO_LAST_HOUR: &str = "update totxegun.series_total
-        set hour_corrections = coalesce(hour_corrections, 0) + $2::int8 where series = $1::int8";
+const TO_LAST_HOUR: &str = "update totxegun.series_totals
+        set hour_adjustments = coalesce(hour_adjustments, 0) + $2::int8 where series = $1::int8";
 const TO_PAST_HOUR: &str =
-    "insert into totxegun.past_hour as h (series, hour, points, total, count, without_sum, corrections)
+    "insert into totxegun.past_hours as h (series, hour, points, total, count, without_sum, adjustments)
     values ($1::int8, $2::int4, 0, 0, 0, 0, $3::int8)
-    on conflict (series, to_timestamp(hour * 3600::double precision)) do update set corrections = h.corrections + excluded.corrections";
+    on conflict (series, to_timestamp(hour * 3600::double precision)) do update set adjustments = h.adjustments + excluded.adjustments";
 const TO_METRIC: &str =
-    "insert into totxegun.metric_hour as h (metric, hour, points, total, count, corrections)
+    "insert into totxegun.metric_hours as h (metric, hour, points, total, count, adjustments)
     select metric, $2::int4, 0, 0, 0, $3::int8 from totxegun.series where id = $1::int8
-    on conflict (metric, hour) do update set corrections = coalesce(h.corrections, 0) + excluded.corrections";
+    on conflict (metric, hour) do update set adjustments = coalesce(h.adjustments, 0) + excluded.adjustments";
 
 /// Carries a deed out, or leaves all as it was, unless the answer to the commit was lost: the same may be asked again.
 pub(super) async fn settle(server: &Server, memory: &dyn Memory, who: &str, deed: &Deed) -> Told {

@@ -5,7 +5,7 @@ use super::values::{row, NewRow, Numeric};
 use crate::otlp::series::{ForwardedPoint, Value};
 use crate::sinks::sql::{by_metric, sums_of, Adding, InHour, Sums};
 
-/// A row of `interval_row`. Times from 2^63 on, in the year 2262, are less 2^64.
+/// A row of `interval_rows`. Times from 2^63 on, in the year 2262, are less 2^64.
 pub(super) fn interval_row(series: i64, point: &ForwardedPoint) -> NewRow<'_> {
     row(move |write| {
         let (value, count, sum, counts) = match &point.value {
@@ -52,7 +52,7 @@ fn earlier<'a>(adding: &'a Adding<'_, Known>) -> &'a [InHour<'a>] {
     &adding.hours[..adding.hours.partition_point(|hour| hour.hour < last)]
 }
 
-/// What a row of `series_total` gets more, as such a row.
+/// What a row of `series_totals` gets more, as such a row.
 pub(super) fn total_row<'a>(adding: &'a Adding<'a, Known>) -> NewRow<'a> {
     row(move |write| {
         let (points, all, before) = (&adding.of.points, adding.sums(), sums_of(earlier(adding)));
@@ -78,7 +78,7 @@ pub(super) fn total_row<'a>(adding: &'a Adding<'a, Known>) -> NewRow<'a> {
     })
 }
 
-/// Rows of `past_hour`, for what counts in earlier hours than the last one.
+/// Rows of `past_hours`, for what counts in earlier hours than the last one.
 pub(super) fn hour_rows<'a>(adding: &'a Adding<'a, Known>) -> impl Iterator<Item = NewRow<'a>> {
     let hours = earlier(adding).chunk_by(|one, next| one.hour == next.hour);
     hours.map(move |hours| {
@@ -98,7 +98,7 @@ pub(super) fn hour_rows<'a>(adding: &'a Adding<'a, Known>) -> impl Iterator<Item
     })
 }
 
-/// Rows of `late_hour`, for what belongs to closed hours.
+/// Rows of `late_hours`, for what belongs to closed hours.
 pub(super) fn late_rows<'a>(adding: &'a Adding<'a, Known>) -> impl Iterator<Item = NewRow<'a>> {
     adding.late().map(move |late| {
         row(move |write| {
@@ -117,7 +117,7 @@ pub(super) fn late_rows<'a>(adding: &'a Adding<'a, Known>) -> impl Iterator<Item
     })
 }
 
-/// Rows of `metric_hour`.
+/// Rows of `metric_hours`.
 pub(super) fn metric_rows<'a>(all: &'a [Adding<'a, Known>]) -> Vec<NewRow<'a>> {
     let of_row = |((metric, hour), sums): ((&'a [u8], i64), Sums)| {
         row(move |write| {

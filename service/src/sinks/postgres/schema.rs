@@ -69,7 +69,7 @@ async fn explain(transaction: &Transaction<'_>) -> Result<(), Error> {
 /// Says so where the tables are made although there were some: these are under another name, or gone.
 async fn tell_of_lost(client: &impl GenericClient, server: &Server, was_there: bool) -> Result<(), Error> {
     let query = "select nspname::text from pg_namespace where nspname <> 'totxegun' and 5 = (select count(*) from pg_class
-        where relnamespace = pg_namespace.oid and relname in ('version', 'request', 'series', 'series_total', 'interval_row'))
+        where relnamespace = pg_namespace.oid and relname in ('version', 'requests', 'series', 'series_totals', 'interval_rows'))
         order by nspname limit 1";
     let found = client.query_opt(query, &[]).await?;
     let how = match found.map(|row| row.get::<_, String>(0)) {

@@ -118,7 +118,7 @@ impl Writing<'_> {
         let ids: Vec<i64> = places.iter().map(|place| stored[*place].row.id).collect();
         let rows = self.rows(&self.statements.lock, &[&ids]).await?;
         if rows.len() != ids.len() {
-            return Err(Fault::told("a series has no row in series_total").into());
+            return Err(Fault::told("a series has no row in series_totals").into());
         }
         for row in rows {
             let one = &mut stored[places[row.get::<_, i64>(0) as usize - 1]];
@@ -133,5 +133,5 @@ impl Writing<'_> {
 fn time(row: &Row, column: usize) -> Result<u64, Fault> {
     let text: Option<&str> = row.get(column);
     let time = text.and_then(|text| text.parse().ok());
-    time.ok_or_else(|| Fault::told("a row of series_total has no time of 64 bits"))
+    time.ok_or_else(|| Fault::told("a row of series_totals has no time of 64 bits"))
 }

@@ -26,9 +26,9 @@ macro_rules! added {
 
 /// The last hours of these series are over: it is written down what they come to.
 pub(super) const HOURS_OVER: &str =
-    "insert into totxegun.past_hour (series, hour, points, total, count, without_sum, buckets, corrections)
-    select series, hour, points, total, count, without_sum, buckets, coalesce(corrections, 0)
-    from totxegun.last_hour where series = any($1::int8[]) and hour is not null";
+    "insert into totxegun.past_hours (series, hour, points, total, count, without_sum, buckets, adjustments)
+    select series, hour, points, total, count, without_sum, buckets, coalesce(adjustments, 0)
+    from totxegun.last_hours where series = any($1::int8[]) and hour is not null";
 
 macro_rules! statements {
     ($($(#[$doc:meta])* $name:ident: $text:expr,)*) => {
@@ -51,43 +51,43 @@ statements! {
     /// Makes the rows of requests of one slot, in order; fewer come where one was there. It waits for another transaction that has
     /// the same key. None comes for a schema of another version either. With each comes the life of their slot and epoch.
     make_requests: "with made as (
-            insert into totxegun.request (slot, epoch, number, points, digest)
+            insert into totxegun.requests (slot, epoch, number, points, digest)
             select $1::int4, $2::text, new.number, new.points, new.digest
             from unnest($3::numeric[], $4::int8[], $5::bytea[]) as new(number, points, digest)
             join totxegun.version on version = $6::int4 order by new.number
             on conflict (slot, epoch, number) do nothing returning id
         )
-        select made.id, (select id from totxegun.life where slot = $1::int4 and epoch = $2::text)
+        select made.id, (select id from totxegun.lives where slot = $1::int4 and epoch = $2::text)
         from made order by made.id",
-    first_life: "insert into totxegun.life (slot, epoch) values ($1::int4, $2::text)
+    first_life: "insert into totxegun.lives (slot, epoch) values ($1::int4, $2::text)
         on conflict (slot, epoch) do update set epoch = excluded.epoch returning id",
     /// Of an epoch that was seen before.
-    life_of: "select id from totxegun.life where slot = $1::int4 and epoch = $2::text",
+    life_of: "select id from totxegun.lives where slot = $1::int4 and epoch = $2::text",
     /// What a life has beyond a request, but for those of an epoch: how many, and when the first and the last came.
     beyond: "select count(*),
             coalesce(to_char(min(taken_at), 'YYYY-MM-DD HH24:MI:SS'), ''), coalesce(to_char(max(taken_at), 'YYYY-MM-DD HH24:MI:SS'), '')
-        from totxegun.life join totxegun.request on request.slot = life.slot and request.epoch = life.epoch
-        where life.slot = $1::int4 and life.id = $2::int8 and request.number > $3::numeric and life.epoch <> $4::text",
+        from totxegun.lives join totxegun.requests on requests.slot = lives.slot and requests.epoch = lives.epoch
+        where lives.slot = $1::int4 and lives.id = $2::int8 and requests.number > $3::numeric and lives.epoch <> $4::text",
     /// An epoch that goes on with a life.
-    go_on: "insert into totxegun.life (slot, epoch, id) values ($1::int4, $2::text, $3::int8)",
-    begin_life: "insert into totxegun.life (slot, epoch) values ($1::int4, $2::text)
+    go_on: "insert into totxegun.lives (slot, epoch, id) values ($1::int4, $2::text, $3::int8)",
+    begin_life: "insert into totxegun.lives (slot, epoch) values ($1::int4, $2::text)
         on conflict (slot, epoch) do update set id = default",
     /// Whether a later request of its life was there, and the places of series that a later one has put back. Of series that are
     /// locked: else what was added to them meanwhile would not be known here.
     late: "with same as materialized (
-            select epoch from totxegun.life where slot = $1::int4
-                and id = (select id from totxegun.life where slot = $1::int4 and epoch = $2::text)
+            select epoch from totxegun.lives where slot = $1::int4
+                and id = (select id from totxegun.lives where slot = $1::int4 and epoch = $2::text)
         )
-        select exists (select from totxegun.request
+        select exists (select from totxegun.requests
                 where slot = $1::int4 and epoch in (select epoch from same) and number > $3::numeric),
             array(select place from unnest($4::bytea[]) with ordinality as wanted(digest, place)
-                join totxegun.rewind on rewind.slot = $1::int4 and rewind.epoch in (select epoch from same)
-                    and rewind.digest = wanted.digest and number > $3::numeric)",
+                join totxegun.rewinds on rewinds.slot = $1::int4 and rewinds.epoch in (select epoch from same)
+                    and rewinds.digest = wanted.digest and number > $3::numeric)",
     /// A row that is locked makes the commit behind it a write, which waits for the standby.
-    is_taken: "select digest, left_out from totxegun.request
+    is_taken: "select digest, left_out from totxegun.requests
         where slot = $1::int4 and epoch = $2::text and number = $3::numeric for update",
     /// Of a request of which not all was added.
-    set_left_out: "update totxegun.request set points = $2::int8, left_out = $3::text where id = $1::int8",
+    set_left_out: "update totxegun.requests set points = $2::int8, left_out = $3::text where id = $1::int8",
     /// Makes the rows of new series, in the order of the array, which is that of their digests. One that another
     /// transaction has made is left, and not returned; one that it is making is waited for.
     make: "insert into totxegun.series (digest, identity, is_exact, name, name_json, unit, kind,
@@ -97,7 +97,7 @@ statements! {
         from unnest($1::totxegun.series[])
         on conflict (digest) do nothing returning digest, id, metric",
     /// Makes the rows of the metrics of new series.
-    metrics: "insert into totxegun.metric (id, name, kind, unit)
+    metrics: "insert into totxegun.metrics (id, name, kind, unit)
         select distinct on (metric) metric, name, kind, unit from totxegun.series where id = any($1::int8[]) order by metric
         on conflict (id) do nothing",
     /// Which series are there. It locks nothing.
@@ -114,28 +114,28 @@ statements! {
     /// Locks the totals of these series, so nobody else adds to them until the transaction ends.
     lock: "select wanted.place, cardinality(t.buckets), t.hour, t.life, t.floor_ns::text, t.last_end_ns::text
         from unnest($1::int8[]) with ordinality as wanted(series, place)
-        join totxegun.series_total as t on t.series = wanted.series
+        join totxegun.series_totals as t on t.series = wanted.series
         order by t.series for no key update of t",
-    intervals: "insert into totxegun.interval_row select * from unnest($1::totxegun.interval_row[])",
+    intervals: "insert into totxegun.interval_rows select * from unnest($1::totxegun.interval_rows[])",
     /// Of series that are new.
-    first_totals: "insert into totxegun.series_total select * from unnest($1::totxegun.series_total[])",
+    first_totals: "insert into totxegun.series_totals select * from unnest($1::totxegun.series_totals[])",
     /// Adds to hours that are not the last ones of their series.
     past_hours: concat!(
-        "insert into totxegun.past_hour as h select * from unnest($1::totxegun.past_hour[])
+        "insert into totxegun.past_hours as h select * from unnest($1::totxegun.past_hours[])
         on conflict (series, to_timestamp(hour * 3600::double precision)) do update set ",
         added!()
     ),
     /// To which closed hours it belongs, beside the hours in which it counts.
     late_hours: concat!(
-        "insert into totxegun.late_hour as h select * from unnest($1::totxegun.late_hour[])
+        "insert into totxegun.late_hours as h select * from unnest($1::totxegun.late_hours[])
         on conflict (series, of_hour, hour) do update set ",
         added!()
     ),
-    metric_hours: "insert into totxegun.metric_hour as h select * from unnest($1::totxegun.metric_hour[])
+    metric_hours: "insert into totxegun.metric_hours as h select * from unnest($1::totxegun.metric_hours[])
         on conflict (metric, hour) do update set
             points = h.points + excluded.points, total = h.total + excluded.total, count = h.count + excluded.count",
     /// Where a later hour begins, all so far is before it.
-    totals: "update totxegun.series_total as t set
+    totals: "update totxegun.series_totals as t set
             points = t.points + n.points,
             first_start_ns = least(t.first_start_ns, n.first_start_ns),
             last_end_ns = n.last_end_ns,
@@ -162,19 +162,19 @@ statements! {
                 when n.hour = t.hour then t.before_buckets
                 else t.buckets
             end,
-            hour_corrections = case when n.hour = t.hour then t.hour_corrections end
-        from unnest($1::totxegun.series_total[]) as n where t.series = n.series",
+            hour_adjustments = case when n.hour = t.hour then t.hour_adjustments end
+        from unnest($1::totxegun.series_totals[]) as n where t.series = n.series",
     /// Series end there, where they ended later, and what earlier requests have for them is known by the number of this one.
     rewind: "with noted as (
-            insert into totxegun.rewind as r (slot, epoch, digest, number)
+            insert into totxegun.rewinds as r (slot, epoch, digest, number)
             select distinct $4::int4, $5::text, digest, $6::numeric from unnest($1::bytea[]) as digest order by digest
             on conflict (slot, epoch, digest) do update set number = greatest(r.number, excluded.number)
         ), known as materialized (
             select t.series, least(t.last_end_ns, $2::numeric) as last_end_ns
-            from totxegun.series join totxegun.series_total as t on t.series = series.id
+            from totxegun.series join totxegun.series_totals as t on t.series = series.id
             where series.digest = any($1::bytea[]) order by t.series for no key update of t
         )
-        update totxegun.series_total as t
+        update totxegun.series_totals as t
         set last_end_ns = known.last_end_ns, floor_ns = known.last_end_ns, life = $3::int8
         from known where t.series = known.series",
     /// The time that it is, and what is closed.

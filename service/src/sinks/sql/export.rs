@@ -20,8 +20,8 @@ pub struct Line {
     pub scope_attributes: Box<RawValue>,
     pub points: i64,
     pub total: String,
-    pub corrections: String,
-    pub billed: String,
+    pub adjustments: String,
+    pub total_adjusted: String,
     /// Of a histogram, as the next two.
     pub count: Option<String>,
     pub bounds: Option<Box<RawValue>>,
@@ -33,8 +33,8 @@ pub struct Line {
 /// When the first of its points began and the last one ended: `2026-11-05T13:30:15Z`.
 #[derive(Debug, PartialEq, Eq, Serialize)]
 pub struct Times {
-    pub since: String,
-    pub until: String,
+    pub first_start: String,
+    pub last_end: String,
 }
 
 /// What is read.

@@ -177,7 +177,7 @@ pub fn booked(sink: &Address) -> Result<HashSet<String>> {
         return Ok(HashSet::new());
     }
     let Some(mut opened) = Opened::of(sink, PATIENCE)? else { return Ok(HashSet::new()) };
-    let query = "select late_key from corrections where late_key <> ''";
+    let query = "select late_key from adjustments where late_key <> ''";
     Ok(opened.all(query, |row| row.text(0).map(String::from))?.into_iter().collect())
 }
 
@@ -194,7 +194,7 @@ pub fn read(sink: &Address, what: &What, each: Each<'_>) -> Result<Closed> {
     let (times, view, order) = match what {
         What::Totals => {
             let order = "order by of.name, cast(of.attributes as text), cast(of.resource as text), of.series";
-            ("since, until", "totals", order.to_string())
+            ("first_start, last_end", "totals", order.to_string())
         }
         What::Of(period) => {
             let (view, time, at) = match period.is_month() {
@@ -205,7 +205,7 @@ pub fn read(sink: &Address, what: &What, each: Each<'_>) -> Result<Closed> {
         }
     };
     let query = format!(
-        "select of.series, identity, points, total, corrections, billed, count, of.buckets, {times}
+        "select of.series, identity, points, total, adjustments, total_adjusted, count, of.buckets, {times}
         from {view} as of join series on series.id = of.series {order}"
     );
     opened.each(&query, |row| line(&row), each)?;
@@ -230,11 +230,11 @@ fn line(row: &Row) -> Result<Line> {
         scope_attributes: to_raw_value(&of.scope_attributes)?,
         points: row.number(2)?,
         total: number(3)?,
-        corrections: number(4)?,
-        billed: number(5)?,
+        adjustments: number(4)?,
+        total_adjusted: number(5)?,
         count: row.some(6).map(|_| number(6)).transpose()?,
         bounds: of.histogram.map(|histogram| to_raw_value(&histogram.bounds)).transpose()?,
         buckets: row.list(7).map(RawValue::from_string).transpose()?,
-        times: time(8).zip(time(9)).map(|(since, until)| Times { since, until }),
+        times: time(8).zip(time(9)).map(|(first_start, last_end)| Times { first_start, last_end }),
     })
 }

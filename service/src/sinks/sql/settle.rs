@@ -18,7 +18,7 @@ pub(in crate::sinks) trait Periods {
 /// The time that it is, in each row, and what is closed.
 pub(in crate::sinks) const CLOSED: &str =
     "select cast(current_timestamp as text), period, cast(from_hour as text), cast(to_hour as text), who, cast(closed_at as text)
-    from (select 1) as one left join closed on true order by closed.from_hour, closed.to_hour";
+    from (select 1) as one left join closed_periods as closed on true order by closed.from_hour, closed.to_hour";
 
 pub(super) const NO_HORIZON: &str =
     "the table `horizon` has no row, so nobody knows how far back its hours go";
@@ -47,14 +47,15 @@ pub(in crate::sinks) async fn settle<P: Periods>(
         Deed::Close(period) => match all.close(period) {
             Err(told) => return Ok(told),
             Ok(()) => {
-                let insert = "insert into closed (from_hour, to_hour, period, who) values (?1, ?2, ?3, ?4)";
+                let insert =
+                    "insert into closed_periods (from_hour, to_hour, period, who) values (?1, ?2, ?3, ?4)";
                 (insert, period, Told::Done(closed(period)))
             }
         },
         Deed::Open(period) => match all.open(period) {
             Err(told) => return Ok(told),
             Ok(()) => {
-                let delete = "delete from closed where from_hour = ?1 and to_hour = ?2";
+                let delete = "delete from closed_periods where from_hour = ?1 and to_hour = ?2";
                 (delete, period, Told::Done(all.opened(period)))
             }
         },
@@ -76,11 +77,11 @@ async fn adjust<P: Periods>(
     // Only of what has points.
     let rows = match &adjustment.series {
         Which::Number(number) => {
-            let query = "select cast(series as text) from series_total where series = ?1";
+            let query = "select cast(series as text) from series_totals where series = ?1";
             periods.rows(query, &[Cell::Number(*number)]).await?
         }
         Which::Identified(series) => {
-            let query = "select cast(series.id as text) from series join series_total on series_total.series = series.id where digest = ?1";
+            let query = "select cast(series.id as text) from series join series_totals on series_totals.series = series.id where digest = ?1";
             periods.rows(query, &[Cell::Bytes(&series.digest)]).await?
         }
     };
@@ -88,7 +89,7 @@ async fn adjust<P: Periods>(
         return Ok(adjustment.has_no_series());
     };
     let series = row.number(0)?;
-    let before = "select who, cast(made_at as text) from corrections where late_key = ?5
+    let before = "select who, cast(made_at as text) from adjustments where late_key = ?5
         and (late_key <> '' or (series = ?1 and of_hour = ?2 and value = ?3 and reason = ?4))";
     let mut made = vec![
         Cell::Number(series),
@@ -100,7 +101,7 @@ async fn adjust<P: Periods>(
     if let Some(row) = periods.rows(before, &made).await?.first() {
         return Ok(adjustment.was_there(row.text(0)?, row.time(1)?));
     }
-    let so_far = "select cast((select coalesce(sum(abs(value)), 0) from corrections) as text), cast(hours_from as text)
+    let so_far = "select cast((select coalesce(sum(abs(value)), 0) from adjustments) as text), cast(hours_from as text)
         from horizon";
     let rows = periods.rows(so_far, &[]).await?;
     let row = rows.first().context(NO_HORIZON)?;
@@ -110,7 +111,7 @@ async fn adjust<P: Periods>(
         Err(told) => return Ok(told),
     };
     if !adjustment.is_dry {
-        let insert = "insert into corrections (series, of_hour, value, reason, late_key, hour, who)
+        let insert = "insert into adjustments (series, of_hour, value, reason, late_key, hour, who)
             values (?1, ?2, ?3, ?4, ?5, ?6, ?7)";
         made.extend([Cell::Number(counted_in), Cell::Text(who)]);
         periods.rows(insert, &made).await?;

@@ -21,11 +21,12 @@ struct Table {
 
 impl Table {
     fn of(time: &str, written: &str) -> Table {
+        let table = format!("{time}s");
         Table {
-            buckets: format!("select buckets from {time} where {time} = ?1 and metric = ?2 and series = ?3"),
-            add: add(time, &[time, "metric", "series"]),
-            adjust: adjust_in(time, time, ", series, without_sum", ", series.id, 0"),
-            name: format!("insert or ignore into utc_{time} values (?1, {written})"),
+            buckets: format!("select buckets from {table} where {time} = ?1 and metric = ?2 and series = ?3"),
+            add: add(&table, &[time, "metric", "series"]),
+            adjust: adjust_in(&table, time, ", series, without_sum", ", series.id, 0"),
+            name: format!("insert or ignore into utc_{table} values (?1, {written})"),
         }
     }
 }
@@ -55,24 +56,24 @@ fn add(table: &str, key: &[&str]) -> String {
 /// Adds an adjustment (?3) of a series (?2), to a row that is made where nothing was counted.
 fn adjust_in(table: &str, time: &str, more: &str, values: &str) -> String {
     format!(
-        "insert into {table} as old ({time}, metric, points, total_high, total_low, count_high, count_low{more}, corrections)
-         select ?1, metric.id, 0, 0, 0, 0, 0{values}, ?3 from series join metric
-            on metric.name = series.name and metric.kind = series.kind and metric.unit = series.unit
+        "insert into {table} as old ({time}, metric, points, total_high, total_low, count_high, count_low{more}, adjustments)
+         select ?1, metrics.id, 0, 0, 0, 0, 0{values}, ?3 from series join metrics
+            on metrics.name = series.name and metrics.kind = series.kind and metrics.unit = series.unit
          where series.id = ?2
-         on conflict do update set corrections = old.corrections + excluded.corrections"
+         on conflict do update set adjustments = old.adjustments + excluded.adjustments"
     )
 }
 
 static HOUR: LazyLock<Table> =
-    LazyLock::new(|| Table::of("hour", "strftime('%Y-%m-%d %H:00', ?1 * 3600, 'unixepoch')"));
+    LazyLock::new(|| Table::of("hour", "strftime('%Y-%m-%d %H:00Z', ?1 * 3600, 'unixepoch')"));
 static DAY: LazyLock<Table> = LazyLock::new(|| Table::of("day", "date(?1 * 86400, 'unixepoch')"));
 static MONTH: LazyLock<Table> =
     LazyLock::new(|| Table::of("month", "date('1970-01-01', '+' || ?1 || ' months')"));
-static METRIC_HOUR: LazyLock<String> = LazyLock::new(|| add("metric_hour", &["hour", "metric"]));
+static METRIC_HOUR: LazyLock<String> = LazyLock::new(|| add("metric_hours", &["hour", "metric"]));
 
 /// Of what came late: by its series, the hour to which it belongs, and that in which it counts.
-const LATE_BUCKETS: &str = "select buckets from late_hour where series = ?1 and of_hour = ?2 and hour = ?3";
-static LATE: LazyLock<String> = LazyLock::new(|| add("late_hour", &["series", "of_hour", "hour"]));
+const LATE_BUCKETS: &str = "select buckets from late_hours where series = ?1 and of_hour = ?2 and hour = ?3";
+static LATE: LazyLock<String> = LazyLock::new(|| add("late_hours", &["series", "of_hour", "hour"]));
 
 /// By time, metric and series; of what came late, by series, the hour to which it belongs and that in which it counts.
 type Rows = BTreeMap<(i64, i64, i64), Sums>;
@@ -179,7 +180,7 @@ pub(super) fn adjust(transaction: &Transaction, series: i64, hour: i64, value: i
         transaction.execute(&table.adjust, [time, series, value])?;
         transaction.execute(&table.name, [time])?;
     }
-    let of_metric = adjust_in("metric_hour", "hour", "", "");
+    let of_metric = adjust_in("metric_hours", "hour", "", "");
     transaction.execute(&of_metric, [hour, series, value]).map(drop)
 }
 

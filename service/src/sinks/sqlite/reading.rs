@@ -43,7 +43,7 @@ impl sql::Reader for Reader {
         let (total, count) = schema::totals();
         format!(
             "select identity, points, first_start_ns, last_end_ns, {total}, {count}, without_sum, buckets
-            from series join series_total on series_total.series = series.id order by name, attributes, resource, series.id"
+            from series join series_totals on series_totals.series = series.id order by name, attributes, resource, series.id"
         )
     }
 

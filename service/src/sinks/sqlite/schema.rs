@@ -59,16 +59,19 @@ pub(super) fn totals() -> (String, String) {
 /// The statements that make it, with the columns of views that the file names alone.
 fn schema() -> String {
     let (total, count) = totals();
-    let low = "((total_low + corrections) % 1000000000000 + 1000000000000) % 1000000000000";
-    let high = format!("(total_high + (total_low + corrections - {low}) / 1000000000000)");
-    let corrected = exact(&high, low);
+    let low = "((total_low + adjustments) % 1000000000000 + 1000000000000) % 1000000000000";
+    let high = format!("(total_high + (total_low + adjustments - {low}) / 1000000000000)");
+    let adjusted = exact(&high, low);
     SCHEMA
         .replace(
-            "COUNT_OF(metric.kind)",
-            &format!("case when metric.kind = 'histogram' then {count} end as count"),
+            "COUNT_OF(metrics.kind)",
+            &format!("case when metrics.kind = 'histogram' then {count} end as count"),
         )
         .replace("COUNT_OF(kind)", &format!("case when kind = 'histogram' then {count} end as count"))
-        .replace("BILLED", &format!("case corrections when 0 then {total} else {corrected} end as billed"))
+        .replace(
+            "TOTAL_ADJUSTED",
+            &format!("case adjustments when 0 then {total} else {adjusted} end as total_adjusted"),
+        )
         .replace("TOTAL", &format!("{total} as total"))
 }
 

@@ -2,7 +2,7 @@
 -- are texts of 20 digits, which SQLite sorts behind all integers. So columns of them have no type. Totals may be larger still:
 -- they are two integers, total = high * 1000000000000 + low, with 0 <= low < 1000000000000.
 --
--- TOTAL, COUNT_OF(..) and BILLED of views are columns that `schema.rs` writes out: an integer, or a text where no integer of
+-- TOTAL, COUNT_OF(..) and TOTAL_ADJUSTED of views are columns that `schema.rs` writes out: an integer, or a text where no integer of
 -- SQLite holds it.
 --
 -- What stands behind the first line of a table or view, and behind the line that a column begins, explains it in the table
@@ -20,7 +20,7 @@ create table sink ( -- One row: by which this file is told from others
 );
 insert into sink values (lower(hex(randomblob(16))));
 
-create table request ( -- A row for each request that was taken, for ever: its key is never taken again
+create table requests ( -- A row for each request that was taken, for ever: its key is never taken again
     id integer primary key, -- In the order in which they were taken
     slot integer not null, -- With epoch and number, the key
     epoch text not null, -- Drawn once, when the folder of the service is made
@@ -34,7 +34,7 @@ create table request ( -- A row for each request that was taken, for ever: its k
     unique (slot, epoch, number)
 );
 -- The intervals of a request are deleted together.
-create index request_by_end on request (last_end_ns) where last_end_ns is not null;
+create index requests_by_end on requests (last_end_ns) where last_end_ns is not null;
 
 create table series ( -- A row for each series
     id integer primary key, -- Its number in this file
@@ -53,28 +53,28 @@ create table series ( -- A row for each series
 );
 create index series_by_name on series (name);
 
-create table metric ( -- A row for each name, kind and unit of series
+create table metrics ( -- A row for each name, kind and unit of series
     id integer primary key, -- Its number in this file
     name text not null, kind text not null, unit text not null,
     unique (name, kind, unit)
 );
 
 -- A life of a folder: no two of its requests have points of a series that overlap, unless the series was put back between them.
-create table life ( -- A row for each slot and epoch of keys
+create table lives ( -- A row for each slot and epoch of keys
     id integer primary key, -- Which life their requests are of: another one since a copy of the folder sent another request under a key
-    slot integer not null, -- As in request
-    epoch text not null, -- As in request
+    slot integer not null, -- As in requests
+    epoch text not null, -- As in requests
     unique (slot, epoch)
 );
 
-create table rewind ( -- A row for each series that an order has put back, or has had forgotten
+create table rewinds ( -- A row for each series that an order has put back, or has had forgotten
     slot integer not null, epoch text not null,
     digest blob not null, -- As in series
     number not null, -- Of the last request that did so: what requests of lower numbers have is added from the end of the series on
     primary key (slot, epoch, digest)
 ) without rowid;
 
-create table series_total ( -- What all intervals of a series come to, also those that were deleted
+create table series_totals ( -- What all intervals of a series come to, also those that were deleted
     series integer primary key references series, -- Whose it is
     points integer not null, -- How many intervals, which are flushes and not what senders posted
     first_start_ns not null, -- The first start, in nanoseconds since 1970
@@ -90,8 +90,8 @@ create table series_total ( -- What all intervals of a series come to, also thos
 );
 
 -- Times are short, since they are told from their request's first start. Rows are appended in the order in which requests come.
-create table interval_row ( -- The rows of intervals: with times told from those of their requests
-    request integer not null references request, -- Which brought it
+create table interval_rows ( -- The rows of intervals: with times told from those of their requests
+    request integer not null references requests, -- Which brought it
     series integer not null references series,
     after_ns not null, -- Its start, in nanoseconds after the first_start_ns of its request
     length_ns not null, -- From its start to its end
@@ -105,57 +105,57 @@ create table interval_row ( -- The rows of intervals: with times told from those
 create view intervals ( -- A row for each point: what was counted from its start to its end; kept for --keep-intervals
     request, series,
     start_ns, -- Nanoseconds since 1970: what was counted after then
-    end_ns, -- Nanoseconds since 1970: until then. From the year 2262 on a fraction: interval_row is exact
+    end_ns, -- Nanoseconds since 1970: until then. From the year 2262 on a fraction: interval_rows is exact
     value, count, sum, buckets
 ) as select request, series, first_start_ns + after_ns, first_start_ns + after_ns + length_ns, value, count, sum, buckets
-from request cross join interval_row on interval_row.request = request.id;
+from requests cross join interval_rows on interval_rows.request = requests.id;
 
 -- Hours, days and months beside the intervals, each in the transaction that takes a request. An interval counts where it ends; one that
 -- ends at a full hour, in the hour before. Series of one metric lie together: who asks for a metric reads its rows alone.
-create table hour ( -- What a series counted in an hour of UTC; kept for --keep-hours
+create table hours ( -- What a series counted in an hour of UTC; kept for --keep-hours
     hour integer not null, -- Hours since 1970
-    metric integer not null references metric, -- Of which metric that is: metric.id
+    metric integer not null references metrics, -- Of which metric that is: metrics.id
     series integer not null references series, points integer not null,
     total_high integer not null, total_low integer not null, count_high integer not null, count_low integer not null,
     without_sum integer not null, buckets text,
-    corrections integer not null default 0, -- What corrections that count in it come to
+    adjustments integer not null default 0, -- What adjustments that count in it come to
     primary key (hour, metric, series)
 ) without rowid;
 
-create table day ( -- What a series counted in a day of UTC; kept for --keep-hours
+create table days ( -- What a series counted in a day of UTC; kept for --keep-hours
     day integer not null, -- Days since 1970
-    metric integer not null references metric, series integer not null references series, points integer not null,
+    metric integer not null references metrics, series integer not null references series, points integer not null,
     total_high integer not null, total_low integer not null, count_high integer not null, count_low integer not null,
-    without_sum integer not null, buckets text, corrections integer not null default 0,
+    without_sum integer not null, buckets text, adjustments integer not null default 0,
     primary key (day, metric, series)
 ) without rowid;
 
-create table month ( -- What a series counted in a month of UTC; kept for --keep-hours
+create table months ( -- What a series counted in a month of UTC; kept for --keep-hours
     month integer not null, -- Months since 1970
-    metric integer not null references metric, series integer not null references series, points integer not null,
+    metric integer not null references metrics, series integer not null references series, points integer not null,
     total_high integer not null, total_low integer not null, count_high integer not null, count_low integer not null,
-    without_sum integer not null, buckets text, corrections integer not null default 0,
+    without_sum integer not null, buckets text, adjustments integer not null default 0,
     primary key (month, metric, series)
 ) without rowid;
 
-create table metric_hour ( -- What all series of a metric counted in an hour of UTC; kept for --keep-hours
-    hour integer not null, metric integer not null references metric, points integer not null,
+create table metric_hours ( -- What all series of a metric counted in an hour of UTC; kept for --keep-hours
+    hour integer not null, metric integer not null references metrics, points integer not null,
     total_high integer not null, total_low integer not null, count_high integer not null, count_low integer not null,
-    corrections integer not null default 0,
+    adjustments integer not null default 0,
     primary key (hour, metric)
 ) without rowid;
 
 -- A view that is asked by these texts reads the rows of that time alone. What is deleted goes here first, so no view has a part
 -- of it. Views begin with them: `cross join` keeps that order.
-create table utc_hour ( -- How an hour is written; what is not here is in no view
+create table utc_hours ( -- How an hour is written; what is not here is in no view
     hour integer primary key,
-    at text not null unique -- 2026-11-27 13:00
+    at text not null unique -- 2026-11-27 13:00Z
 );
-create table utc_day ( -- How a day is written; what is not here is in no view
+create table utc_days ( -- How a day is written; what is not here is in no view
     day integer primary key,
     at text not null unique -- 2026-11-27
 );
-create table utc_month ( -- How a month is written; what is not here is in no view
+create table utc_months ( -- How a month is written; what is not here is in no view
     month integer primary key,
     at text not null unique -- Its first day: 2026-11-01
 );
@@ -165,7 +165,7 @@ create table horizon ( -- How far back the file goes: one row
 );
 insert into horizon values (0);
 
-create table closed ( -- A row for each period that is closed: what comes for it later counts elsewhere
+create table closed_periods ( -- A row for each period that is closed: what comes for it later counts elsewhere
     from_hour integer not null, -- Hours since 1970: from this one
     to_hour integer not null, -- to before that one
     period text not null, -- As it was written: 2026-11
@@ -174,7 +174,7 @@ create table closed ( -- A row for each period that is closed: what comes for it
     primary key (from_hour, to_hour)
 ) without rowid;
 
-create table late_hour ( -- What came for an hour that was closed; it is counted in the row of another hour too
+create table late_hours ( -- What came for an hour that was closed; it is counted in the row of another hour too
     series integer not null references series, -- Whose it is
     of_hour integer not null, -- To which hour it belongs, in hours since 1970
     hour integer not null, -- In which it is counted
@@ -183,9 +183,9 @@ create table late_hour ( -- What came for an hour that was closed; it is counted
     without_sum integer not null, buckets text,
     primary key (series, of_hour, hour)
 ) without rowid;
-create index late_by_hour on late_hour (hour);
+create index late_by_hour on late_hours (hour);
 
-create table corrections ( -- A row for each adjustment by hand: nothing that was counted is changed by it
+create table adjustments ( -- A row for each adjustment by hand: nothing that was counted is changed by it
     id integer primary key, -- In the order in which they were made
     series integer not null references series, of_hour integer not null,
     hour integer not null, -- In which it counts: a later one where its own was closed
@@ -196,11 +196,11 @@ create table corrections ( -- A row for each adjustment by hand: nothing that wa
     made_at integer not null default (cast(strftime('%s', 'now') as integer)), -- When, in seconds since 1970
     unique (series, of_hour, value, reason, late_key)
 );
-create unique index correction_of_late_data on corrections (late_key) where late_key <> '';
+create unique index adjustment_of_late_data on adjustments (late_key) where late_key <> '';
 
 -- A row a series and time. What is of a series alone is looked up where it is asked for.
 create view by_hour ( -- What each series counted in each hour
-    hour, -- Its beginning, as a time of UTC: 2026-11-27 13:00
+    hour, -- Its beginning, as a time of UTC: 2026-11-27 13:00Z
     name, -- Of the metric
     attributes, -- Of its points, as a JSON object
     kind, -- sum, monotonic or histogram
@@ -210,112 +210,112 @@ create view by_hour ( -- What each series counted in each hour
     count, -- Of a histogram: how many values. A text where no integer of SQLite holds it
     buckets, resource, scope_name, scope_version, scope_attributes,
     series, -- Its number: series.id
-    corrections, -- What corrections come to
-    billed -- total + corrections. A text where no integer of SQLite holds it
-) as select at, metric.name, attributes, metric.kind, metric.unit, points, TOTAL, COUNT_OF(metric.kind), buckets,
-    resource, scope_name, scope_version, scope_attributes, of.series, corrections, BILLED
-from utc_hour cross join metric cross join hour as of on of.hour = utc_hour.hour and of.metric = metric.id
+    adjustments, -- What adjustments come to
+    total_adjusted -- total + adjustments. A text where no integer of SQLite holds it
+) as select at, metrics.name, attributes, metrics.kind, metrics.unit, points, TOTAL, COUNT_OF(metrics.kind), buckets,
+    resource, scope_name, scope_version, scope_attributes, of.series, adjustments, TOTAL_ADJUSTED
+from utc_hours cross join metrics cross join hours as of on of.hour = utc_hours.hour and of.metric = metrics.id
 left join series on series.id = of.series;
 
 create view by_day ( -- What each series counted in each day of UTC
     day, -- 2026-11-27
     name, attributes, kind, unit, points, total, count, buckets, resource, scope_name, scope_version, scope_attributes, series,
-    corrections, billed
-) as select at, metric.name, attributes, metric.kind, metric.unit, points, TOTAL, COUNT_OF(metric.kind), buckets,
-    resource, scope_name, scope_version, scope_attributes, of.series, corrections, BILLED
-from utc_day cross join metric cross join day as of on of.day = utc_day.day and of.metric = metric.id
+    adjustments, total_adjusted
+) as select at, metrics.name, attributes, metrics.kind, metrics.unit, points, TOTAL, COUNT_OF(metrics.kind), buckets,
+    resource, scope_name, scope_version, scope_attributes, of.series, adjustments, TOTAL_ADJUSTED
+from utc_days cross join metrics cross join days as of on of.day = utc_days.day and of.metric = metrics.id
 left join series on series.id = of.series;
 
 create view by_month ( -- What each series counted in each month of UTC
     month, -- Its first day: 2026-11-01
     name, attributes, kind, unit, points, total, count, buckets, resource, scope_name, scope_version, scope_attributes, series,
-    corrections, billed
-) as select at, metric.name, attributes, metric.kind, metric.unit, points, TOTAL, COUNT_OF(metric.kind), buckets,
-    resource, scope_name, scope_version, scope_attributes, of.series, corrections, BILLED
-from utc_month cross join metric cross join month as of on of.month = utc_month.month and of.metric = metric.id
+    adjustments, total_adjusted
+) as select at, metrics.name, attributes, metrics.kind, metrics.unit, points, TOTAL, COUNT_OF(metrics.kind), buckets,
+    resource, scope_name, scope_version, scope_attributes, of.series, adjustments, TOTAL_ADJUSTED
+from utc_months cross join metrics cross join months as of on of.month = utc_months.month and of.metric = metrics.id
 left join series on series.id = of.series;
 
 create view totals_by_hour as -- What all series of a name, kind and unit counted in each hour
-select at as hour, name, kind, unit, points, TOTAL, COUNT_OF(kind), corrections, BILLED
-from utc_hour cross join metric_hour on metric_hour.hour = utc_hour.hour
-cross join metric on metric.id = metric_hour.metric;
+select at as hour, name, kind, unit, points, TOTAL, COUNT_OF(kind), adjustments, TOTAL_ADJUSTED
+from utc_hours cross join metric_hours on metric_hours.hour = utc_hours.hour
+cross join metrics on metrics.id = metric_hours.metric;
 
 create view totals ( -- What each series counted, in all
     name, attributes, kind, unit, points, total, count,
     bounds, -- Of a histogram: the upper bounds of all buckets but the last, as a JSON array
     buckets, without_sum,
-    since, -- The first start, as a time of UTC
-    until, -- The last end, as a time of UTC
-    resource, scope_name, scope_version, scope_attributes, series, corrections, billed
+    first_start, -- The first start, as a time of UTC: 2026-11-27 13:00:15Z
+    last_end, -- The last end, as a time of UTC: 2026-11-27 13:00:15Z
+    resource, scope_name, scope_version, scope_attributes, series, adjustments, total_adjusted
 ) as select name, attributes, kind, unit, points, TOTAL, COUNT_OF(kind), bounds, buckets, without_sum,
-    datetime(first_start_ns / 1000000000, 'unixepoch'), datetime(last_end_ns / 1000000000, 'unixepoch'),
-    resource, scope_name, scope_version, scope_attributes, series, corrections, BILLED
+    strftime('%Y-%m-%d %H:%M:%SZ', first_start_ns / 1000000000, 'unixepoch'), strftime('%Y-%m-%d %H:%M:%SZ', last_end_ns / 1000000000, 'unixepoch'),
+    resource, scope_name, scope_version, scope_attributes, series, adjustments, TOTAL_ADJUSTED
 from (
-    select series_total.*, (select coalesce(sum(value), 0) from corrections where corrections.series = series_total.series)
-        as corrections
-    from series_total
+    select series_totals.*, (select coalesce(sum(value), 0) from adjustments where adjustments.series = series_totals.series)
+        as adjustments
+    from series_totals
 ) join series on series.id = series;
 
 create view totals_by_name ( -- What all series of a name, kind and unit counted, in all
     name, kind, unit,
     series, -- How many series
-    points, total, count, corrections, billed
-) as select name, kind, unit, series, points, TOTAL, COUNT_OF(kind), corrections, BILLED
+    points, total, count, adjustments, total_adjusted
+) as select name, kind, unit, series, points, TOTAL, COUNT_OF(kind), adjustments, TOTAL_ADJUSTED
 from (
     select name, kind, unit, count(*) as series, sum(points) as points,
         sum(total_high) + sum(total_low) / 1000000000000 as total_high,
         sum(total_low) % 1000000000000 as total_low,
         sum(count_high) + sum(count_low) / 1000000000000 as count_high,
         sum(count_low) % 1000000000000 as count_low,
-        sum((select coalesce(sum(value), 0) from corrections where corrections.series = series.id)) as corrections
-    from series_total join series on series.id = series_total.series group by name, kind, unit
+        sum((select coalesce(sum(value), 0) from adjustments where adjustments.series = series.id)) as adjustments
+    from series_totals join series on series.id = series_totals.series group by name, kind, unit
 );
 
 -- A count that no integer of SQLite holds is a text, as written.
 create view buckets ( -- A row for each bucket of a histogram, with its count in all
     series, -- Its number: series.id
     name, attributes,
-    "from", -- Values in the bucket are greater; null in the first
-    up_to, -- and not greater than this; null in the last
+    lower_bound, -- Values in the bucket are greater; null in the first
+    upper_bound, -- and not greater than this; null in the last
     count -- How many values
 ) as select series.id, name, attributes,
     case when key > 0 then json_extract(bounds, '$[' || (key - 1) || ']') end,
     json_extract(bounds, '$[' || key || ']'),
     case typeof(value) when 'integer' then value else buckets -> ('$[' || key || ']') end
-from series_total join series on series.id = series_total.series join json_each(buckets);
+from series_totals join series on series.id = series_totals.series join json_each(buckets);
 
 -- Rows of an hour are deleted one after another, behind the horizon: so an hour is here whole or not at all.
-create view late ( -- What came for closed hours, and corrections of them: a part of what by_hour has in their rows
-    hour, -- In which it is counted: 2026-12-03 05:00
-    belongs_to, -- The hour of which it is: 2026-11-30 23:00
+create view late ( -- What came for closed hours, and adjustments of them: a part of what by_hour has in their rows
+    hour, -- In which it is counted: 2026-12-03 05:00Z
+    belongs_to, -- The hour of which it is: 2026-11-30 23:00Z
     name, attributes, kind, unit, points, total,
     count, -- Of a histogram: how many values. A text where no integer of SQLite holds it
     buckets, resource, series,
-    corrections, -- Of a correction: its value
-    billed
-) as select strftime('%Y-%m-%d %H:00', hour * 3600, 'unixepoch'), strftime('%Y-%m-%d %H:00', of_hour * 3600, 'unixepoch'),
-    name, attributes, kind, unit, points, TOTAL, COUNT_OF(kind), buckets, resource, series, corrections, BILLED
+    adjustments, -- Of an adjustment: its value
+    total_adjusted
+) as select strftime('%Y-%m-%d %H:00Z', hour * 3600, 'unixepoch'), strftime('%Y-%m-%d %H:00Z', of_hour * 3600, 'unixepoch'),
+    name, attributes, kind, unit, points, TOTAL, COUNT_OF(kind), buckets, resource, series, adjustments, TOTAL_ADJUSTED
 from (
-    select series, of_hour, hour, points, total_high, total_low, count_high, count_low, buckets, 0 as corrections
-    from late_hour
+    select series, of_hour, hour, points, total_high, total_low, count_high, count_low, buckets, 0 as adjustments
+    from late_hours
     union all
-    select series, of_hour, hour, 0, 0, 0, 0, 0, null, value from corrections where hour <> of_hour
+    select series, of_hour, hour, 0, 0, 0, 0, 0, null, value from adjustments where hour <> of_hour
 ) join series on series.id = series
 where hour >= (select hours_from from horizon);
 
 create view series_seen ( -- When each series was seen, by the intervals that came: when it was posted is not known here
-    series, name, attributes, kind, unit, resource, since,
-    last_seen -- The last end, as a time of UTC
+    series, name, attributes, kind, unit, resource, first_start,
+    last_end -- The last end, as a time of UTC: 2026-11-27 13:00:15Z
 ) as select series, name, attributes, kind, unit, resource,
-    datetime(first_start_ns / 1000000000, 'unixepoch'), datetime(last_end_ns / 1000000000, 'unixepoch')
-from series_total join series on series.id = series_total.series;
+    strftime('%Y-%m-%d %H:%M:%SZ', first_start_ns / 1000000000, 'unixepoch'), strftime('%Y-%m-%d %H:%M:%SZ', last_end_ns / 1000000000, 'unixepoch')
+from series_totals join series on series.id = series_totals.series;
 
-create view senders ( -- A row for each resource that was counted: the names by which senders post (x-sender) do not come here
+create view resources_seen ( -- A row for each resource that was counted: the names by which senders post (x-sender) do not come here
     service, -- Its service.name
     instance, -- Its service.instance.id
     resource, -- Its attributes, as a JSON object
     series, -- How many series
-    since, last_seen
+    first_start, last_end
 ) as select resource ->> '$."service.name"', resource ->> '$."service.instance.id"', resource, count(*),
-    datetime(min(first_start_ns) / 1000000000, 'unixepoch'), datetime(max(last_end_ns) / 1000000000, 'unixepoch')
-from series_total join series on series.id = series_total.series group by resource;
+    strftime('%Y-%m-%d %H:%M:%SZ', min(first_start_ns) / 1000000000, 'unixepoch'), strftime('%Y-%m-%d %H:%M:%SZ', max(last_end_ns) / 1000000000, 'unixepoch')
+from series_totals join series on series.id = series_totals.series group by resource;

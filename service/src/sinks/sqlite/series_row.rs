@@ -48,7 +48,7 @@ pub(super) fn known(
     // Most series that are looked for here are new: those of earlier requests are known.
     let is_new = cached::run(transaction, make, row)? == 1;
     if is_new {
-        let make = "insert into metric (name, kind, unit) values (?1, ?2, ?3) on conflict do nothing";
+        let make = "insert into metrics (name, kind, unit) values (?1, ?2, ?3) on conflict do nothing";
         cached::run(transaction, make, params![of.name, kind, of.unit])?;
     }
     if sender.is_some() {
@@ -56,7 +56,7 @@ pub(super) fn known(
         cached::run(transaction, name, params![of.digest, sender])?;
     }
     let find =
-        "select series.id, metric.id from series join metric using (name, kind, unit) where digest = ?1";
+        "select series.id, metrics.id from series join metrics using (name, kind, unit) where digest = ?1";
     let ids = |row: &rusqlite::Row| Ok(SeriesIds { series: row.get(0)?, metric: row.get(1)? });
     Ok((cached::one(transaction, find, [of.digest], ids)?, is_new))
 }

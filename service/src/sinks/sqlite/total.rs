@@ -17,7 +17,7 @@ impl Total {
     pub(super) fn read(transaction: &Transaction, series: i64) -> rusqlite::Result<Option<Total>> {
         let query =
             "select points, first_start_ns, last_end_ns, total_high, total_low, count_high, count_low, without_sum,
-                 buckets, life, floor_ns from series_total where series = ?1";
+                 buckets, life, floor_ns from series_totals where series = ?1";
         cached::find(transaction, query, [series], Total::of_row)
     }
 
@@ -69,7 +69,7 @@ impl Total {
         let [total, count] = parts_of(&self.sums).unwrap_or_default();
         let buckets = self.sums.buckets.as_ref().map(|buckets| list(buckets));
         let replace =
-            "insert or replace into series_total (series, points, first_start_ns, last_end_ns, total_high, total_low,
+            "insert or replace into series_totals (series, points, first_start_ns, last_end_ns, total_high, total_low,
                  count_high, count_low, without_sum, buckets, life, floor_ns)
                  values (?1, ?2, ?3, ?4, ?5, ?6, ?7, ?8, ?9, ?10, ?11, ?12)";
         let row = params![

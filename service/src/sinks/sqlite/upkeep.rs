@@ -61,10 +61,10 @@ impl Upkeep {
 /// Deletes the intervals of requests all of whose intervals ended by then, which is so long ago. The requests' keys stay.
 fn intervals(transaction: &Transaction, until: u64, step: usize) -> rusqlite::Result<bool> {
     let mut next = transaction
-        .prepare_cached("select id from request where last_end_ns <= ?1 order by last_end_ns limit 1")?;
-    let mut delete = transaction.prepare_cached("delete from interval_row where request = ?1")?;
+        .prepare_cached("select id from requests where last_end_ns <= ?1 order by last_end_ns limit 1")?;
+    let mut delete = transaction.prepare_cached("delete from interval_rows where request = ?1")?;
     let mut note = transaction
-        .prepare_cached("update request set first_start_ns = null, last_end_ns = null where id = ?1")?;
+        .prepare_cached("update requests set first_start_ns = null, last_end_ns = null where id = ?1")?;
     let mut done = 0;
     while done < step {
         let found: Option<i64> = next.query_row([Unsigned(until)], |row| row.get(0)).optional()?;
@@ -75,23 +75,23 @@ fn intervals(transaction: &Transaction, until: u64, step: usize) -> rusqlite::Re
 }
 
 const BY_TIME: [&str; 5] = [
-    "delete from hour where (hour, metric, series) in
-     (select hour, metric, series from hour where hour < ?1 limit ?2)",
-    "delete from metric_hour where (hour, metric) in
-     (select hour, metric from metric_hour where hour < ?1 order by hour, metric limit ?2)",
-    "delete from day where (day, metric, series) in
-     (select day, metric, series from day where day < ?1 limit ?2)",
-    "delete from month where (month, metric, series) in
-     (select month, metric, series from month where month < ?1 limit ?2)",
-    "delete from late_hour where (series, of_hour, hour) in
-     (select series, of_hour, hour from late_hour where hour < ?1 limit ?2)",
+    "delete from hours where (hour, metric, series) in
+     (select hour, metric, series from hours where hour < ?1 limit ?2)",
+    "delete from metric_hours where (hour, metric) in
+     (select hour, metric from metric_hours where hour < ?1 order by hour, metric limit ?2)",
+    "delete from days where (day, metric, series) in
+     (select day, metric, series from days where day < ?1 limit ?2)",
+    "delete from months where (month, metric, series) in
+     (select month, metric, series from months where month < ?1 limit ?2)",
+    "delete from late_hours where (series, of_hour, hour) in
+     (select series, of_hour, hour from late_hours where hour < ?1 limit ?2)",
 ];
 
 /// Deletes hours, days and months that ended by then: at first from the views, then their rows. The last hour stays: what
 /// ends before the horizon is left out, and by a clock that was ahead once all that comes would be.
 fn hours(transaction: &Transaction, until: u64, step: usize) -> rusqlite::Result<bool> {
     let so_far = hours_from(transaction)?;
-    let last: Option<i64> = transaction.query_row("select max(hour) from hour", [], |row| row.get(0))?;
+    let last: Option<i64> = transaction.query_row("select max(hour) from hours", [], |row| row.get(0))?;
     let mut from = last.map_or(0, |last| last.min((until / HOUR_NS) as i64));
     if from > so_far {
         from = from.min(last_hour_of_intervals(transaction)?);
@@ -99,9 +99,9 @@ fn hours(transaction: &Transaction, until: u64, step: usize) -> rusqlite::Result
     if from > so_far {
         set_hours_from(transaction, from)?;
         let (day, month) = (day_of(from), month_of(day_of(from)));
-        transaction.execute("delete from utc_hour where hour < ?1", [from])?;
-        transaction.execute("delete from utc_day where day < ?1", [day])?;
-        transaction.execute("delete from utc_month where month < ?1", [month])?;
+        transaction.execute("delete from utc_hours where hour < ?1", [from])?;
+        transaction.execute("delete from utc_days where day < ?1", [day])?;
+        transaction.execute("delete from utc_months where month < ?1", [month])?;
     }
     let from = from.max(so_far);
     let (day, month) = (day_of(from), month_of(day_of(from)));
@@ -133,9 +133,9 @@ fn set_hours_from(transaction: &Transaction, hour: i64) -> rusqlite::Result<()> 
     cached::run(transaction, "update horizon set hours_from = ?1", [hour]).map(drop)
 }
 
-/// What came late, and corrections, count in an hour by the clock, so that one says nothing about it.
+/// What came late, and adjustments, count in an hour by the clock, so that one says nothing about it.
 fn last_hour_of_intervals(transaction: &Transaction) -> rusqlite::Result<i64> {
-    let last = "select max(last_end_ns) from series_total";
+    let last = "select max(last_end_ns) from series_totals";
     let last: Option<Unsigned> = transaction.query_row(last, [], |row| row.get(0))?;
     Ok(last.map_or(0, |end| hour_of(end.0)))
 }

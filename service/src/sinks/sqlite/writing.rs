@@ -48,7 +48,7 @@ impl sql::Transaction for Writing<'_> {
         let life = self.life(all[0].of)?;
         let mut rows = Vec::new();
         for request in all {
-            let insert = "insert into request (slot, epoch, number, taken_at, points, digest)
+            let insert = "insert into requests (slot, epoch, number, taken_at, points, digest)
                 values (?1, ?2, ?3, cast(strftime('%s', 'now') as integer), ?4, ?5)";
             let Forwarded { slot, epoch, number, .. } = request.of;
             let (number, points) = (Unsigned(*number), request.points() as i64);
@@ -64,7 +64,7 @@ impl sql::Transaction for Writing<'_> {
     }
 
     async fn begin_life(&mut self, of: &Forwarded) -> Result<(), NotTaken> {
-        let begin = "insert or replace into life (slot, epoch) values (?1, ?2)";
+        let begin = "insert or replace into lives (slot, epoch) values (?1, ?2)";
         Ok(cached::run(&self.transaction, begin, params![of.slot, of.epoch]).map(drop)?)
     }
 
@@ -75,11 +75,11 @@ impl sql::Transaction for Writing<'_> {
 
     async fn late(&mut self, of: &Forwarded, all: &[OfSeries]) -> Result<Option<Late>, NotTaken> {
         let number = Unsigned(of.number);
-        let later = "select 1 from request where slot = ?1 and epoch = ?2 and number > ?3";
+        let later = "select 1 from requests where slot = ?1 and epoch = ?2 and number > ?3";
         if !self.transaction.prepare_cached(later)?.exists(params![of.slot, of.epoch, number])? {
             return Ok(None);
         }
-        let put_back = "select 1 from rewind where slot = ?1 and epoch = ?2 and digest = ?3 and number > ?4";
+        let put_back = "select 1 from rewinds where slot = ?1 and epoch = ?2 and digest = ?3 and number > ?4";
         let mut put_back = self.transaction.prepare_cached(put_back)?;
         let mut late = Late { put_back: BTreeSet::new() };
         for (place, series) in all.iter().enumerate() {
@@ -107,14 +107,14 @@ impl sql::Transaction for Writing<'_> {
     }
 
     async fn leave_out(&mut self, place: &Place, added: usize, noted: &str) -> Result<(), NotTaken> {
-        let update = "update request set points = ?2, left_out = ?3 where id = ?1";
+        let update = "update requests set points = ?2, left_out = ?3 where id = ?1";
         let values = params![place.rows.values().next(), added as i64, noted];
         Ok(cached::run(&self.transaction, update, values).map(drop)?)
     }
 
     async fn rewind(&mut self, life: i64, of: &Forwarded, rewind: &Rewind) -> Result<(), NotTaken> {
         for key in rewind.keys() {
-            let note = "insert into rewind (slot, epoch, digest, number) values (?1, ?2, ?3, ?4)
+            let note = "insert into rewinds (slot, epoch, digest, number) values (?1, ?2, ?3, ?4)
                 on conflict do update set number = max(number, excluded.number)";
             let digest = key.digest();
             let row = params![of.slot, of.epoch, digest, Unsigned(of.number)];
@@ -147,7 +147,7 @@ impl Writing<'_> {
         request: &Forwarded,
         of: impl FnOnce(&rusqlite::Row<'_>) -> rusqlite::Result<T>,
     ) -> rusqlite::Result<Option<T>> {
-        let query = "select digest, left_out from request where slot = ?1 and epoch = ?2 and number = ?3";
+        let query = "select digest, left_out from requests where slot = ?1 and epoch = ?2 and number = ?3";
         cached::find(
             &self.transaction,
             query,
@@ -159,11 +159,11 @@ impl Writing<'_> {
     /// The life of a request's slot and epoch, begun by the first request of them.
     fn life(&self, request: &Forwarded) -> rusqlite::Result<i64> {
         let key = params![request.slot, request.epoch];
-        let query = "select id from life where slot = ?1 and epoch = ?2";
+        let query = "select id from lives where slot = ?1 and epoch = ?2";
         if let Some(life) = cached::find(&self.transaction, query, key, |row| row.get(0))? {
             return Ok(life);
         }
-        let begin = "insert into life (slot, epoch) values (?1, ?2)";
+        let begin = "insert into lives (slot, epoch) values (?1, ?2)";
         self.transaction.prepare_cached(begin)?.insert(key)
     }
 
@@ -199,7 +199,7 @@ impl Writing<'_> {
             let of_request = times.entry(place.row_of(point)).or_insert((point.start, point.end));
             *of_request = (of_request.0.min(point.start), of_request.1.max(point.end));
         }
-        let update = "update request set first_start_ns = ?2, last_end_ns = ?3 where id = ?1";
+        let update = "update requests set first_start_ns = ?2, last_end_ns = ?3 where id = ?1";
         for (request, (first, last)) in &times {
             cached::run(&self.transaction, update, params![request, Unsigned(*first), Unsigned(*last)])?;
         }
@@ -226,7 +226,7 @@ impl Writing<'_> {
             }
         };
         let insert =
-            "insert into interval_row (request, series, after_ns, length_ns, value, count, sum, buckets)
+            "insert into interval_rows (request, series, after_ns, length_ns, value, count, sum, buckets)
              values (?1, ?2, ?3, ?4, ?5, ?6, ?7, ?8)";
         let (after, length) = (Unsigned(point.start - first), Unsigned(point.end - point.start));
         let values = params![request, series, after, length, value, count, sum, buckets];

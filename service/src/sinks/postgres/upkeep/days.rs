@@ -1,4 +1,4 @@
-//! The partitions of `interval_row`: each has the intervals that end in one day of UTC; one that ends at midnight, in the day before.
+//! The partitions of `interval_rows`: each has the intervals that end in one day of UTC; one that ends at midnight, in the day before.
 
 use tokio_postgres::{Client, Error, GenericClient};
 
@@ -38,7 +38,7 @@ async fn make_one(client: &mut impl GenericClient, day: &str, from: i64) -> Resu
     let transaction = client.transaction().await?;
     let make = format!(
         "lock table totxegun.interval_other in access exclusive mode;
-        create table {name} (like totxegun.interval_row including comments);
+        create table {name} (like totxegun.interval_rows including comments);
         comment on table {name} is 'The intervals that end on this day';
         create index on {name} using brin (end_ns, start_ns) with (pages_per_range = 32, autosummarize = on);
         insert into {name} select * from {of_day} limit {MOVED} + 1"
@@ -50,7 +50,7 @@ async fn make_one(client: &mut impl GenericClient, day: &str, from: i64) -> Resu
     }
     let attach = format!(
         "delete from {of_day};
-        alter table totxegun.interval_row attach partition {name} for values from ({from}) to ({to})"
+        alter table totxegun.interval_rows attach partition {name} for values from ({from}) to ({to})"
     );
     transaction.batch_execute(&attach).await?;
     transaction.commit().await

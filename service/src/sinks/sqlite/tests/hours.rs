@@ -8,7 +8,7 @@ use std::collections::BTreeMap;
 /// Of a time and series: points, total, count, buckets; the last two of a histogram.
 pub(super) type Rows = BTreeMap<(String, i64), (i64, String, Option<String>, Option<String>)>;
 
-const FORMATS: [(&str, &str); 3] = [("hour", "%Y-%m-%d %H:00"), ("day", "%Y-%m-%d"), ("month", "%Y-%m-01")];
+const FORMATS: [(&str, &str); 3] = [("hour", "%Y-%m-%d %H:00Z"), ("day", "%Y-%m-%d"), ("month", "%Y-%m-01")];
 
 /// xorshift64: the same draws in each run.
 struct Random(u64);
@@ -37,7 +37,7 @@ fn spans(trial: &Trial) -> Vec<Span> {
     let mut query = file
         .prepare(
             "select series, value, cast(count as text), cast(sum as text), buckets, first_start_ns, after_ns, length_ns
-             from request join interval_row on interval_row.request = request.id",
+             from requests join interval_rows on interval_rows.request = requests.id",
         )
         .expect("a query");
     let at = |end: u64| {
@@ -133,7 +133,7 @@ pub(super) fn agree(trial: &Trial) {
     assert_eq!(names(trial, "totals_by_hour"), names(trial, "by_hour"));
     let without = |table: &str| trial.ask(&format!("select sum(without_sum) from {table}"));
     for table in ["hour", "day", "month"] {
-        assert_eq!(without(table), without("series_total"), "{table}");
+        assert_eq!(without(table), without("series_totals"), "{table}");
     }
 }
 
@@ -224,8 +224,8 @@ fn a_span_counts_where_it_ends() {
         |unit: &str| trial.ask(&format!("select group_concat({unit} || ' ' || total, ', ') from by_{unit}"));
     assert_eq!(
         rows("hour"),
-        "2016-12-31 23:00 1, 2017-01-01 00:00 2, 2024-02-28 23:00 1, 2024-02-29 00:00 2, 2026-10-31 23:00 1, 2026-11-01 00:00 2, \
-         2026-12-31 23:00 1, 2027-01-01 00:00 2, 2100-02-28 23:00 1, 2100-03-01 00:00 2"
+        "2016-12-31 23:00Z 1, 2017-01-01 00:00Z 2, 2024-02-28 23:00Z 1, 2024-02-29 00:00Z 2, 2026-10-31 23:00Z 1, 2026-11-01 00:00Z 2, \
+         2026-12-31 23:00Z 1, 2027-01-01 00:00Z 2, 2100-02-28 23:00Z 1, 2100-03-01 00:00Z 2"
     );
     assert_eq!(
         rows("day"),
@@ -258,7 +258,9 @@ fn views_of_hours_are_exact_past_64_bits() {
         );
     }
     assert_eq!(
-        trial.ask(r#"select "from", up_to, count from buckets order by up_to is null, up_to"#),
+        trial.ask(
+            "select lower_bound, upper_bound, count from buckets order by upper_bound is null, upper_bound"
+        ),
         format!("|-5|{count}\n-5|10|0\n10||0")
     );
 }

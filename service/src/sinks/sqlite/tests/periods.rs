@@ -51,12 +51,20 @@ fn steps(trial: &mut Trial) {
 
 /// All but when it was done.
 fn found(trial: &Trial) -> String {
-    let tables =
-        ["hour", "day", "month", "metric_hour", "late_hour", "series_total", "by_day", "totals_by_hour"];
+    let tables = [
+        "hours",
+        "days",
+        "months",
+        "metric_hours",
+        "late_hours",
+        "series_totals",
+        "by_day",
+        "totals_by_hour",
+    ];
     let rows = tables.map(|table| format!("select * from {table};")).join(" ");
-    let closed = "select from_hour, to_hour, period, who from closed;";
-    let corrections = "select series, of_hour, hour, value, reason, who from corrections;";
-    trial.ask(&format!("{rows} {closed} {corrections}"))
+    let closed = "select from_hour, to_hour, period, who from closed_periods;";
+    let adjustments = "select series, of_hour, hour, value, reason, who from adjustments;";
+    trial.ask(&format!("{rows} {closed} {adjustments}"))
 }
 
 /// The file as it lies there when its log ends behind any commit: all that is asked for again comes to the same.
@@ -106,15 +114,15 @@ fn what_came_late_is_in_one_hour_and_says_whose_it_is() {
     let mut trial = Trial::new();
     steps(&mut trial);
     for (query, wanted) in [
-        ("select day, total, corrections, billed from by_day where day < '2025' and name = 'a' order by 1",
+        ("select day, total, adjustments, total_adjusted from by_day where day < '2025' and name = 'a' order by 1",
             "2024-02-29|18|0|18\n2024-03-01|11|3|14"),
-        ("select belongs_to, name, sum(total), sum(corrections), max(buckets) from late group by 1, 2 order by 1, 2",
-            "2024-02-29 22:00|a|0|-2|\n2024-02-29 22:00|h|5|0|[1,2,3]\n2024-02-29 23:00|a|7|0|"),
+        ("select belongs_to, name, sum(total), sum(adjustments), max(buckets) from late group by 1, 2 order by 1, 2",
+            "2024-02-29 22:00Z|a|0|-2|\n2024-02-29 22:00Z|h|5|0|[1,2,3]\n2024-02-29 23:00Z|a|7|0|"),
         ("select count(distinct hour) from late", "1"),
-        ("select name, total, corrections, billed from totals_by_name order by 1", "a|36|1|37\nh|5|0|5"),
-        ("select sum(billed) from by_month", "42"),
-        ("select instance is null, series, last_seen from senders", "1|2|2024-03-01 01:00:00"),
-        ("select name, last_seen from series_seen order by 1", "a|2024-03-01 01:00:00\nh|2024-02-29 22:00:00"),
+        ("select name, total, adjustments, total_adjusted from totals_by_name order by 1", "a|36|1|37\nh|5|0|5"),
+        ("select sum(total_adjusted) from by_month", "42"),
+        ("select instance is null, series, last_end from resources_seen", "1|2|2024-03-01 01:00:00Z"),
+        ("select name, last_end from series_seen order by 1", "a|2024-03-01 01:00:00Z\nh|2024-02-29 22:00:00Z"),
     ] {
         assert_eq!(trial.ask(query), wanted, "{query}");
     }
@@ -136,15 +144,15 @@ fn an_hour_that_is_deleted_is_adjusted_only_while_it_is_closed() {
     let told = trial.writer.settle("alice", &adjust());
     let part = "were deleted (--keep-hours), so no view would have it in 2024-02-29 23:00";
     assert!(matches!(&told, Told::Refused(why) if why.contains(part)), "{told:?}");
-    let billed = "select count(distinct name), sum(total), sum(corrections) from by_";
+    let of_all = "select count(distinct name), sum(total), sum(adjustments) from by_";
     for view in ["hour", "day", "month"] {
-        assert_eq!(trial.ask(&format!("{billed}{view}")), "2|7|0", "{view}");
+        assert_eq!(trial.ask(&format!("{of_all}{view}")), "2|7|0", "{view}");
     }
     // What is closed is adjusted where that counts.
     trial.done(Deed::Close(day()));
     trial.done(adjust());
     for view in ["hour", "day", "month"] {
-        assert_eq!(trial.ask(&format!("{billed}{view}")), "2|7|-2", "{view}");
+        assert_eq!(trial.ask(&format!("{of_all}{view}")), "2|7|-2", "{view}");
     }
 }
 
@@ -180,7 +188,7 @@ fn what_came_late_in_an_hour_that_is_being_deleted_is_there_whole_or_not_at_all(
     let mut rows = Vec::new();
     while trial.step(later) {
         assert_eq!(count(&trial, "late"), "0");
-        rows.push(count(&trial, "late_hour"));
+        rows.push(count(&trial, "late_hours"));
     }
     assert!(["10", "3", "0"].iter().all(|number| rows.iter().any(|found| found == number)), "{rows:?}");
 }
@@ -201,7 +209,7 @@ fn what_is_billed_is_exact() {
         2 * i128::from(i64::MIN) - 7_000_000_000_001,
     ];
     for view in ["by_hour", "by_day", "by_month", "totals", "totals_by_name", "totals_by_hour"] {
-        let found = trial.ask(&format!("select billed from {view} order by name"));
-        assert_eq!(found, wanted.map(|billed| billed.to_string()).join("\n"), "{view}");
+        let found = trial.ask(&format!("select total_adjusted from {view} order by name"));
+        assert_eq!(found, wanted.map(|total| total.to_string()).join("\n"), "{view}");
     }
 }

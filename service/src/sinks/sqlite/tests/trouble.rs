@@ -10,7 +10,9 @@ fn a_transaction_that_was_cut_is_not_there() {
     trial.taken(1, sum("a", 10, 20, 1));
     let other = Connection::open(trial.path()).expect("open");
     other
-        .execute_batch("begin immediate; insert into request values (99, 0, 'e', 2, 0, 1, x'00', null, 1, 2)")
+        .execute_batch(
+            "begin immediate; insert into requests values (99, 0, 'e', 2, 0, 1, x'00', null, 1, 2)",
+        )
         .expect("a row");
     drop(other);
     trial.taken(2, sum("a", 20, 30, 2));
@@ -66,7 +68,7 @@ fn a_lock_holds_up_the_upkeep_alone() {
 fn another_writer_is_noticed() {
     let mut trial = Trial::new();
     trial.taken(1, sum("a", 10, 20, 1));
-    let emptied = "pragma foreign_keys = off; delete from interval_row; delete from series_total; delete from series; delete from request";
+    let emptied = "pragma foreign_keys = off; delete from interval_rows; delete from series_totals; delete from series; delete from requests";
     trial.ask(emptied);
     trial.taken(2, sum("b", 10, 20, 2));
     trial.taken(3, sum("a", 10, 20, 4));

@@ -101,11 +101,11 @@ fn hours_that_are_too_old_are_deleted_and_stay_away() {
     let now = NOVEMBER + 10 * DAY + 5 * HOUR + HOUR / 2;
     assert!(trial.keep_up(now) > 1);
     let (hours, day, month) =
-        ("2026-11-01 05:00|1\n2026-11-02 00:00|1", "2026-11-01|2\n2026-11-02|1", "2026-11-01|3");
+        ("2026-11-01 05:00Z|1\n2026-11-02 00:00Z|1", "2026-11-01|2\n2026-11-02|1", "2026-11-01|3");
     let all = |trial: &Trial| [rows(trial, "hour"), rows(trial, "day"), rows(trial, "month")];
     assert_eq!(all(&trial), [hours, day, month]);
     assert_eq!(trial.ask("select hour, total from totals_by_hour"), hours);
-    for table in ["hour", "metric_hour"] {
+    for table in ["hours", "metric_hours"] {
         assert_eq!(trial.ask(&format!("select count(*) from {table}")), "2");
     }
     // Late, of an hour that is gone: its day and month are not yet.
@@ -154,11 +154,11 @@ fn a_clock_that_was_ahead_leaves_out_nothing_that_comes() {
     trial.keep(Retention { hours: days(10), ..Retention::default() });
     trial.keep_up(NOVEMBER + 4000 * DAY);
     let hours = "select hour, total from by_hour order by 1";
-    assert_eq!(trial.ask(hours), "2026-11-02 23:00|48");
+    assert_eq!(trial.ask(hours), "2026-11-02 23:00Z|48");
     let (start, end) = (NOVEMBER + 2 * DAY, NOVEMBER + 2 * DAY + HOUR);
     trial.taken(100, sum("a", start, end, 1000));
     trial.keep_up(end);
-    assert_eq!(trial.ask(hours), "2026-11-02 23:00|48\n2026-11-03 00:00|1000");
+    assert_eq!(trial.ask(hours), "2026-11-02 23:00Z|48\n2026-11-03 00:00Z|1000");
 }
 
 /// Whoever posted shared it: so there are hours of its time. A month of which something was deleted is not there.
@@ -177,7 +177,7 @@ fn a_clock_that_all_shared_and_was_ahead_leaves_out_nothing_of_the_next_month() 
         trial.taken(number, sum("b", start, start + 1, 7));
         trial.keep_up(now);
     }
-    for (unit, first) in [("hour", "2026-12-01 00:00"), ("day", "2026-12-01"), ("month", "2026-12-01")] {
+    for (unit, first) in [("hour", "2026-12-01 00:00Z"), ("day", "2026-12-01"), ("month", "2026-12-01")] {
         let found = trial.ask(&format!("select {unit}, total from by_{unit} where name = 'b'"));
         assert_eq!(found, format!("{first}|7"));
     }
