@@ -53,7 +53,7 @@ class Series:
         place = number // len(NAMES)
         self.shop, self.customer = f"s{place % 10}", f"c{place // 10}"
         self.instance = f"i{place % 7}"
-        self.kind = "histogram" if self.name == "shop.wait" else "monotonic"
+        self.kind = "histogram" if self.name == "shop.wait" else "sum"
         self.attributes = {"customer": self.customer, "shop": self.shop}
         self.resource = {"service.instance.id": self.instance, "service.name": "shop"}
 
@@ -168,7 +168,7 @@ class Plain:
         day = [hour for hour in HOURS if at(hour).date() == datetime.date(2026, 11, 15)]
         rows = []
         for name in NAMES:
-            of_one = [one for one in self.of(name) if one.customer == "c3" and one.kind == "monotonic"]
+            of_one = [one for one in self.of(name) if one.customer == "c3" and one.kind == "sum"]
             rows += [(at(hour).strftime("%Y-%m-%d %H:00Z"), name, sum(one.value(hour) for one in of_one)) for hour in day if of_one]
         return sorted(rows)
 
@@ -212,14 +212,14 @@ class Lite:
     def series(self, count: int) -> None:
         rows = [
             (
-                one.number, one.name, "1", one.kind, json.dumps(list(BOUNDS) if one.kind == "histogram" else []),
+                one.number, one.name, "1", one.kind, one.kind == "sum", json.dumps(list(BOUNDS) if one.kind == "histogram" else []),
                 json.dumps(one.attributes, separators=(",", ":")), json.dumps(one.resource, separators=(",", ":")), "shop", "1", "{}",
             )
             for one in map(Series, range(1, count + 1))
         ]
-        self.file.executemany("insert into series values (?, randomblob(32), '', ?, ?, ?, ?, ?, ?, ?, ?, ?, null)", rows)
-        metrics = [(place + 1, name, "histogram" if place == WAIT else "monotonic") for place, name in enumerate(NAMES)]
-        self.file.executemany("insert into metrics values (?, ?, ?, '1')", metrics)
+        self.file.executemany("insert into series values (?, randomblob(32), '', ?, ?, ?, ?, ?, ?, ?, ?, ?, ?, null)", rows)
+        metrics = [(place + 1, name, "histogram" if place == WAIT else "sum", place != WAIT) for place, name in enumerate(NAMES)]
+        self.file.executemany("insert into metrics values (?, ?, ?, ?, '1')", metrics)
 
     def hours(self, count: int) -> None:
         """An hour after the other, as they are taken."""
@@ -306,15 +306,15 @@ class Added:
 FILL = f"""
 set search_path to totxegun;
 set timezone to 'UTC';
-insert into series (digest, identity, is_exact, name, unit, kind, bounds, attributes, resource, scope_name, scope_version,
+insert into series (digest, identity, is_exact, name, unit, kind, is_monotonic, bounds, attributes, resource, scope_name, scope_version,
     scope_attributes)
 select sha256(n::text::bytea), n::text, true, (array[{", ".join(f"'{name}'" for name in NAMES)}])[n % 5 + 1], '1',
-    case n % 5 when {WAIT} then 'histogram' else 'monotonic' end,
+    case n % 5 when {WAIT} then 'histogram' else 'sum' end, n % 5 <> {WAIT},
     case n % 5 when {WAIT} then array[{", ".join(map(str, BOUNDS))}]::bigint[] end,
     jsonb_build_object('shop', 's' || n / 5 % 10, 'customer', 'c' || n / 50),
     jsonb_build_object('service.instance.id', 'i' || n / 5 % 7, 'service.name', 'shop'), 'shop', '1', '{{}}'
 from generate_series(1::bigint, :count) as numbers(n);
-insert into metrics select distinct on (metric) metric, name, kind, unit from series;
+insert into metrics select distinct on (metric) metric, name, kind, is_monotonic, unit from series;
 alter table past_hours disable trigger add_to_day;
 insert into past_hours
 select n, 360, 0, h, {VALUE}, case n % 5 when {WAIT} then {COUNT} else 0 end,

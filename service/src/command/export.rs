@@ -15,7 +15,7 @@ use std::borrow::Cow;
 use std::io::{BufWriter, Write};
 
 const COLUMNS: &str =
-    "series,name,kind,unit,attributes,resource,scope_name,scope_version,scope_attributes,points,total,\
+    "series,name,kind,is_monotonic,unit,attributes,resource,scope_name,scope_version,scope_attributes,points,total,\
     adjustments,total_adjusted,count,bounds,buckets";
 
 #[derive(Args)]
@@ -153,10 +153,11 @@ const UNWRITTEN: &str = "standard output can't be written: what is there is not 
 fn csv(line: &Line) -> String {
     let [bounds, buckets] =
         [&line.bounds, &line.buckets].map(|list| list.as_ref().map_or("", |list| list.get()));
-    let cells: [Cow<str>; 16] = [
+    let cells: [Cow<str>; 17] = [
         line.series.to_string().into(),
         cell(&line.name),
         line.kind.name().into(),
+        line.kind.is_monotonic().to_string().into(),
         cell(&line.unit),
         cell(line.attributes.get()),
         cell(line.resource.get()),

@@ -2,7 +2,6 @@
 
 use super::with_end;
 use crate::sinks::sql::export::{Line, Times};
-use crate::sinks::sql::totals::Kind;
 use anyhow::{Context, Result};
 use serde::Serialize;
 use serde_json::value::RawValue;
@@ -12,7 +11,8 @@ use serde_json::value::RawValue;
 struct Object<'a> {
     series: String,
     name: &'a str,
-    kind: Kind,
+    kind: &'a str,
+    is_monotonic: bool,
     unit: &'a str,
     attributes: &'a RawValue,
     resource: &'a RawValue,
@@ -35,7 +35,8 @@ pub fn object(line: &Line) -> Result<Vec<u8>> {
     let object = Object {
         series: line.series.to_string(),
         name: &line.name,
-        kind: line.kind,
+        kind: line.kind.name(),
+        is_monotonic: line.kind.is_monotonic(),
         unit: &line.unit,
         attributes: &line.attributes,
         resource: &line.resource,
@@ -65,6 +66,7 @@ fn texts(list: Option<&RawValue>) -> Result<Option<Vec<String>>> {
 #[cfg(test)]
 mod tests {
     use super::*;
+    use crate::sinks::sql::totals::Kind;
 
     fn raw(text: &str) -> Box<RawValue> {
         RawValue::from_string(text.into()).unwrap()
@@ -94,7 +96,7 @@ mod tests {
 
     #[test]
     fn numbers_are_texts_and_attributes_are_objects() {
-        let written = r#"{"series":"7","name":"wait","kind":"histogram","unit":"us","attributes":{"code":200,"route":"/"},"resource":{},"scope_name":"lib","scope_version":"","scope_attributes":{},"points":"3","total":"9223372036854775810","adjustments":"-5","total_adjusted":"9223372036854775805","count":"9007199254740993","bounds":["-1","5"],"buckets":["0","9007199254740993","0"]"#;
+        let written = r#"{"series":"7","name":"wait","kind":"histogram","is_monotonic":false,"unit":"us","attributes":{"code":200,"route":"/"},"resource":{},"scope_name":"lib","scope_version":"","scope_attributes":{},"points":"3","total":"9223372036854775810","adjustments":"-5","total_adjusted":"9223372036854775805","count":"9007199254740993","bounds":["-1","5"],"buckets":["0","9007199254740993","0"]"#;
         assert_eq!(object(&line()).unwrap(), format!("{written}}}\n").into_bytes());
         let times =
             Times { first_start: "2026-11-05T13:30:15Z".into(), last_end: "2026-11-05T14:00:00Z".into() };

@@ -52,7 +52,7 @@ fn shown(line: &Line) -> [String; COLUMNS.len()] {
     let all = [
         &*line.name,
         line.attributes.get(),
-        line.kind.name(),
+        line.kind.shown(),
         &line.unit,
         &points,
         &line.total,

@@ -99,9 +99,9 @@ async fn totals_are_locked_behind_new_series() {
     taken(&*one, 0, sum("first", 1, 2, 1)).await;
     // Somebody makes the second series: the other waits for that with the first one made, and has not come to the third.
     let _held = server.hold(&format!(
-        "begin; insert into totxegun.series (digest, identity, is_exact, name, unit, kind, attributes, resource,
-            scope_name, scope_version, scope_attributes)
-        values ('{}', '', true, '', '', 'sum', '{{}}', '{{}}', '', '', '{{}}'); select pg_sleep(60)",
+        "begin; insert into totxegun.series (digest, identity, is_exact, name, unit, kind, is_monotonic,
+            attributes, resource, scope_name, scope_version, scope_attributes)
+        values ('{}', '', true, '', '', 'sum', false, '{{}}', '{{}}', '', '', '{{}}'); select pg_sleep(60)",
         names[1].1
     ));
     wait_until(&server, &format!("select count(*) {sleeping}"), "1").await;

@@ -10,7 +10,7 @@ use crate::operate::status::Shown;
 use crate::operate::totals::{identity, Totals};
 use crate::sinks::sql::exact::Exact;
 use crate::sinks::sql::totals::Hour;
-use crate::sinks::sql::totals::{text, Histogram, Kind, SeriesTotal};
+use crate::sinks::sql::totals::{text, Histogram, SeriesTotal};
 use serde_json::{Map, Value};
 
 /// How many are shown at most.
@@ -170,15 +170,10 @@ fn one(html: &mut Html, series: &SeriesTotal) {
 }
 
 fn facts(series: &SeriesTotal) -> Vec<(&'static str, String)> {
-    let kind = match series.kind {
-        Kind::Sum => "sum",
-        Kind::Monotonic => "monotonic sum",
-        Kind::Histogram => "histogram",
-    };
     let (scope, version) = (&series.scope_name, &series.scope_version);
     let of_scope = joined(&series.scope_attributes);
     let mut facts = vec![
-        ("kind", kind.to_string()),
+        ("kind", series.kind.shown().to_string()),
         ("attributes", joined(&series.attributes)),
         ("resource", joined(&series.resource)),
         ("scope", format!("{scope} {version} {of_scope}")),
@@ -242,6 +237,7 @@ fn time(nanoseconds: u64) -> String {
 mod tests {
     use super::*;
     use crate::operate::totals::tests;
+    use crate::sinks::sql::totals::Kind;
     use serde_json::json;
 
     fn series(name: &str, attributes: Value) -> SeriesTotal {

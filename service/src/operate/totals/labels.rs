@@ -42,7 +42,7 @@ pub fn identity(series: &SeriesTotal) -> String {
     let all = json!([
         series.name,
         series.unit,
-        series.kind.name(),
+        series.kind,
         series.attributes,
         series.resource,
         series.scope_name,

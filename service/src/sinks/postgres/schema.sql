@@ -54,7 +54,8 @@ create table totxegun.series ( -- A row for each series
     name text collate "C" not null, -- Of the metric
     name_json text, -- The name as JSON, where it has U+0000
     unit text not null, -- Of the metric
-    kind text not null check (kind in ('sum', 'monotonic', 'histogram')), -- sum, monotonic or histogram; monotonic is a sum that never falls
+    kind text not null check (kind in ('sum', 'histogram')), -- sum or histogram
+    is_monotonic boolean not null, -- Whether it is a sum that never falls
     bounds bigint[], -- Of a histogram: the upper bounds of all buckets but the last
     attributes jsonb not null, -- Of its points
     resource jsonb not null, -- Attributes of the resource
@@ -63,7 +64,7 @@ create table totxegun.series ( -- A row for each series
     scope_attributes jsonb not null, -- Of the library that counted
     sender text, -- Who posts it: the name that its certificate or token proves; without --client-ca and --tokens, the name that it gives itself, or -. Null where the service does not know it
     metric bytea not null generated always as ( -- Of its name, kind and unit: metrics.id
-        decode(md5(kind || length(unit)::text || ' ' || unit || (name_json is null)::text || coalesce(name_json, name)), 'hex')
+        decode(md5(kind || is_monotonic::text || length(unit)::text || ' ' || unit || (name_json is null)::text || coalesce(name_json, name)), 'hex')
     ) stored
 );
 create index on totxegun.series using gin (attributes jsonb_path_ops);
@@ -73,7 +74,7 @@ alter table totxegun.series set (parallel_workers = 4);
 
 create table totxegun.metrics ( -- A row for each name, kind and unit of series
     id bytea primary key, -- Its number
-    name text not null, kind text not null, unit text not null
+    name text not null, kind text not null, is_monotonic boolean not null, unit text not null
 );
 
 -- Who adds to a series has its row here locked. A series and its total are made in one transaction, so no foreign key
@@ -281,12 +282,13 @@ create view totxegun.by_hour ( -- What each series counted in each hour
     hour, -- Its beginning
     name, -- Of the metric
     attributes,
-    kind, -- sum, monotonic or histogram
+    kind, -- sum or histogram
+    is_monotonic, -- Whether it is a sum that never falls
     unit, points, total, count, buckets, resource, scope_name, scope_version, scope_attributes,
     series, -- Its number: series.id
     adjustments, -- What adjustments come to
     total_adjusted -- total + adjustments
-) as select to_timestamp(hours.hour * 3600::double precision), name, attributes, kind, unit, points, total,
+) as select to_timestamp(hours.hour * 3600::double precision), name, attributes, kind, is_monotonic, unit, points, total,
     case when kind = 'histogram' then hours.count end, buckets, resource, scope_name, scope_version, scope_attributes, series,
     coalesce(adjustments, 0), case when adjustments <> 0 then total + adjustments else total end
 from totxegun.hours join totxegun.series on series.id = hours.series
@@ -296,9 +298,9 @@ where hours.hour >= (select hours_from from totxegun.horizon);
 -- metric adds up its days alone.
 create view totxegun.by_day ( -- What each series counted in each day of UTC
     day, -- Its beginning
-    name, attributes, kind, unit, points, total, count, buckets, resource, scope_name, scope_version, scope_attributes, series,
+    name, attributes, kind, is_monotonic, unit, points, total, count, buckets, resource, scope_name, scope_version, scope_attributes, series,
     adjustments, total_adjusted
-) as select to_timestamp(day * 86400::double precision), name, attributes, kind, unit, points, total,
+) as select to_timestamp(day * 86400::double precision), name, attributes, kind, is_monotonic, unit, points, total,
     case when kind = 'histogram' then of_day.count end,
     case when kind <> 'histogram' then null when parts = 1 then buckets else array(
         select sum(bucket) from totxegun.days as d, unnest(d.buckets) with ordinality as one(bucket, place)
@@ -307,7 +309,7 @@ create view totxegun.by_day ( -- What each series counted in each day of UTC
     ) end,
     resource, scope_name, scope_version, scope_attributes, series, coalesce(adjustments, 0), total + coalesce(adjustments, 0)
 from (
-    select series.id as series, name, attributes, kind, unit, resource, scope_name, scope_version, scope_attributes, day,
+    select series.id as series, name, attributes, kind, is_monotonic, unit, resource, scope_name, scope_version, scope_attributes, day,
         sum(points)::bigint as points, sum(total) as total, sum(days.count) as count, sum(adjustments) as adjustments,
         count(*) as parts, max(buckets) as buckets
     from totxegun.days join totxegun.series on series.id = days.series group by series.id, day
@@ -315,9 +317,9 @@ from (
 
 create view totxegun.by_month ( -- What each series counted in each month of UTC
     month, -- Its beginning
-    name, attributes, kind, unit, points, total, count, buckets, resource, scope_name, scope_version, scope_attributes, series,
+    name, attributes, kind, is_monotonic, unit, points, total, count, buckets, resource, scope_name, scope_version, scope_attributes, series,
     adjustments, total_adjusted
-) as select month at time zone 'UTC', name, attributes, kind, unit, points, total,
+) as select month at time zone 'UTC', name, attributes, kind, is_monotonic, unit, points, total,
     case when kind = 'histogram' then of_month.count end,
     case when kind = 'histogram' then array(
         select sum(bucket) from totxegun.days as d, unnest(d.buckets) with ordinality as one(bucket, place)
@@ -335,18 +337,18 @@ cross join totxegun.horizon where extract(epoch from month) >= hours_from * 3600
 
 create view totxegun.totals_by_hour ( -- What all series of a name, kind and unit counted in each hour
     hour, -- Its beginning
-    name, kind, unit, points, total, count, adjustments, total_adjusted
-) as select to_timestamp(hour * 3600::double precision), name, kind, unit, points, total,
+    name, kind, is_monotonic, unit, points, total, count, adjustments, total_adjusted
+) as select to_timestamp(hour * 3600::double precision), name, kind, is_monotonic, unit, points, total,
     case when kind = 'histogram' then metric_hours.count end, coalesce(adjustments, 0), total + coalesce(adjustments, 0)
 from totxegun.metric_hours join totxegun.metrics on metrics.id = metric_hours.metric
 where hour >= (select hours_from from totxegun.horizon);
 
 create view totxegun.totals ( -- What each series counted, in all
-    name, attributes, kind, unit, points, total, count, bounds, buckets, without_sum,
+    name, attributes, kind, is_monotonic, unit, points, total, count, bounds, buckets, without_sum,
     first_start, -- The first start
     last_end, -- The last end
     resource, scope_name, scope_version, scope_attributes, is_exact, series, adjustments, total_adjusted
-) as select name, attributes, kind, unit, points, total, case when kind = 'histogram' then count end, bounds, buckets, without_sum,
+) as select name, attributes, kind, is_monotonic, unit, points, total, case when kind = 'histogram' then count end, bounds, buckets, without_sum,
     to_timestamp((first_start_ns / 1000000000)::double precision), to_timestamp((last_end_ns / 1000000000)::double precision),
     resource, scope_name, scope_version, scope_attributes, is_exact, series_totals.series,
     coalesce(adjustments, 0), total + coalesce(adjustments, 0)
@@ -355,16 +357,16 @@ left join (select series, sum(value) as adjustments from totxegun.adjustments gr
     on adjusted.series = series_totals.series;
 
 create view totxegun.totals_by_name ( -- What all series of a name, kind and unit counted, in all
-    name, kind, unit,
+    name, kind, is_monotonic, unit,
     series, -- How many series
     points, total, count, adjustments, total_adjusted
-) as select name, kind, unit, count(*), sum(points), sum(total),
+) as select name, kind, is_monotonic, unit, count(*), sum(points), sum(total),
     case when kind = 'histogram' then sum(series_totals.count) end,
     coalesce(sum(adjustments), 0), sum(total) + coalesce(sum(adjustments), 0)
 from totxegun.series_totals join totxegun.series on series.id = series_totals.series
 left join (select series, sum(value) as adjustments from totxegun.adjustments group by series) as adjusted
     on adjusted.series = series_totals.series
-group by name, name_json, kind, unit;
+group by name, name_json, kind, is_monotonic, unit;
 
 create view totxegun.buckets ( -- A row for each bucket of a histogram, with its count in all
     series, -- Its number: series.id
@@ -379,13 +381,13 @@ cross join lateral unnest(buckets) with ordinality as one(count, place);
 create view totxegun.late ( -- What came for closed hours, and adjustments of them: a part of what by_hour has in their rows
     hour, -- In which it is counted
     belongs_to, -- The hour of which it is
-    name, attributes, kind, unit, points, total,
+    name, attributes, kind, is_monotonic, unit, points, total,
     count, -- Of a histogram: how many values
     buckets, resource, series,
     adjustments, -- Of an adjustment: its value
     total_adjusted
 ) as select to_timestamp(hour * 3600::double precision), to_timestamp(of_hour * 3600::double precision),
-    name, attributes, kind, unit, points, total, case when kind = 'histogram' then one.count end, buckets, resource, series,
+    name, attributes, kind, is_monotonic, unit, points, total, case when kind = 'histogram' then one.count end, buckets, resource, series,
     adjustments, total + adjustments
 from (
     select series, of_hour, hour, points, total, count, buckets, 0::numeric as adjustments from totxegun.late_hours
@@ -395,9 +397,9 @@ from (
 where hour >= (select hours_from from totxegun.horizon);
 
 create view totxegun.series_seen ( -- When each series was seen, by the intervals that came: when it was posted is not known here
-    series, name, attributes, kind, unit, resource, first_start,
+    series, name, attributes, kind, is_monotonic, unit, resource, first_start,
     last_end -- The last end
-) as select series, name, attributes, kind, unit, resource,
+) as select series, name, attributes, kind, is_monotonic, unit, resource,
     to_timestamp((first_start_ns / 1000000000)::double precision), to_timestamp((last_end_ns / 1000000000)::double precision)
 from totxegun.series_totals join totxegun.series on series.id = series_totals.series;
 

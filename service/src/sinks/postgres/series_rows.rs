@@ -34,6 +34,7 @@ pub(super) fn series_row(series: &OfSeries, sender: Option<String>) -> Result<Ne
             &name_json,
             &unit,
             &kind.name(),
+            &kind.is_monotonic(),
             &bounds,
             &attributes,
             &resource,

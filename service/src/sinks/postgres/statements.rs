@@ -91,14 +91,15 @@ statements! {
     /// Makes the rows of new series, in the order of the array, which is that of their digests. One that another
     /// transaction has made is left, and not returned; one that it is making is waited for.
     make: "insert into totxegun.series (digest, identity, is_exact, name, name_json, unit, kind,
-            bounds, attributes, resource, scope_name, scope_version, scope_attributes, sender)
-        select digest, identity, is_exact, name, name_json, unit, kind, bounds, attributes, resource, scope_name, scope_version,
-            scope_attributes, sender
+            is_monotonic, bounds, attributes, resource, scope_name, scope_version, scope_attributes, sender)
+        select digest, identity, is_exact, name, name_json, unit, kind, is_monotonic, bounds, attributes, resource, scope_name,
+            scope_version, scope_attributes, sender
         from unnest($1::totxegun.series[])
         on conflict (digest) do nothing returning digest, id, metric",
     /// Makes the rows of the metrics of new series.
-    metrics: "insert into totxegun.metrics (id, name, kind, unit)
-        select distinct on (metric) metric, name, kind, unit from totxegun.series where id = any($1::int8[]) order by metric
+    metrics: "insert into totxegun.metrics (id, name, kind, is_monotonic, unit)
+        select distinct on (metric) metric, name, kind, is_monotonic, unit from totxegun.series
+        where id = any($1::int8[]) order by metric
         on conflict (id) do nothing",
     /// Which series are there. It locks nothing.
     find: "select wanted.place, series.id, series.metric, series.sender is null

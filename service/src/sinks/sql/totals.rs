@@ -61,10 +61,23 @@ impl Kind {
         }
     }
 
+    /// As databases and exports have it, beside `is_monotonic`.
     pub fn name(self) -> &'static str {
         match self {
+            Kind::Sum | Kind::Monotonic => "sum",
+            Kind::Histogram => "histogram",
+        }
+    }
+
+    pub fn is_monotonic(self) -> bool {
+        self == Kind::Monotonic
+    }
+
+    /// As people read it.
+    pub fn shown(self) -> &'static str {
+        match self {
             Kind::Sum => "sum",
-            Kind::Monotonic => "monotonic",
+            Kind::Monotonic => "monotonic sum",
             Kind::Histogram => "histogram",
         }
     }

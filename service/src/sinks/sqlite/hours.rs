@@ -58,7 +58,8 @@ fn adjust_in(table: &str, time: &str, more: &str, values: &str) -> String {
     format!(
         "insert into {table} as old ({time}, metric, points, total_high, total_low, count_high, count_low{more}, adjustments)
          select ?1, metrics.id, 0, 0, 0, 0, 0{values}, ?3 from series join metrics
-            on metrics.name = series.name and metrics.kind = series.kind and metrics.unit = series.unit
+            on metrics.name = series.name and metrics.kind = series.kind
+                and metrics.is_monotonic = series.is_monotonic and metrics.unit = series.unit
          where series.id = ?2
          on conflict do update set adjustments = old.adjustments + excluded.adjustments"
     )

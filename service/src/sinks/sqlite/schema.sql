@@ -42,7 +42,8 @@ create table series ( -- A row for each series
     identity text not null, -- What it is, exactly, as JSON: [resource,scope name,version,attributes,name,unit,kind,attributes]
     name text not null, -- Of the metric
     unit text not null, -- Of the metric
-    kind text not null check (kind in ('sum', 'monotonic', 'histogram')), -- sum, monotonic (a sum that never falls) or histogram
+    kind text not null check (kind in ('sum', 'histogram')), -- sum or histogram
+    is_monotonic integer not null, -- 1 for a sum that never falls, else 0
     bounds text not null, -- Of a histogram: the upper bounds of all buckets but the last, as a JSON array
     attributes text not null, -- Of its points, as a JSON object with keys in order
     resource text not null, -- Attributes of the resource, as a JSON object
@@ -55,8 +56,8 @@ create index series_by_name on series (name);
 
 create table metrics ( -- A row for each name, kind and unit of series
     id integer primary key, -- Its number in this file
-    name text not null, kind text not null, unit text not null,
-    unique (name, kind, unit)
+    name text not null, kind text not null, is_monotonic integer not null, unit text not null,
+    unique (name, kind, is_monotonic, unit)
 );
 
 -- A life of a folder: no two of its requests have points of a series that overlap, unless the series was put back between them.
@@ -203,7 +204,8 @@ create view by_hour ( -- What each series counted in each hour
     hour, -- Its beginning, as a time of UTC: 2026-11-27 13:00Z
     name, -- Of the metric
     attributes, -- Of its points, as a JSON object
-    kind, -- sum, monotonic or histogram
+    kind, -- sum or histogram
+    is_monotonic, -- 1 for a sum that never falls, else 0
     unit, -- Of the metric
     points,
     total, -- What was counted; of a histogram, its sum. A text where no integer of SQLite holds it
@@ -212,42 +214,42 @@ create view by_hour ( -- What each series counted in each hour
     series, -- Its number: series.id
     adjustments, -- What adjustments come to
     total_adjusted -- total + adjustments. A text where no integer of SQLite holds it
-) as select at, metrics.name, attributes, metrics.kind, metrics.unit, points, TOTAL, COUNT_OF(metrics.kind), buckets,
+) as select at, metrics.name, attributes, metrics.kind, metrics.is_monotonic, metrics.unit, points, TOTAL, COUNT_OF(metrics.kind), buckets,
     resource, scope_name, scope_version, scope_attributes, of.series, adjustments, TOTAL_ADJUSTED
 from utc_hours cross join metrics cross join hours as of on of.hour = utc_hours.hour and of.metric = metrics.id
 left join series on series.id = of.series;
 
 create view by_day ( -- What each series counted in each day of UTC
     day, -- 2026-11-27
-    name, attributes, kind, unit, points, total, count, buckets, resource, scope_name, scope_version, scope_attributes, series,
+    name, attributes, kind, is_monotonic, unit, points, total, count, buckets, resource, scope_name, scope_version, scope_attributes, series,
     adjustments, total_adjusted
-) as select at, metrics.name, attributes, metrics.kind, metrics.unit, points, TOTAL, COUNT_OF(metrics.kind), buckets,
+) as select at, metrics.name, attributes, metrics.kind, metrics.is_monotonic, metrics.unit, points, TOTAL, COUNT_OF(metrics.kind), buckets,
     resource, scope_name, scope_version, scope_attributes, of.series, adjustments, TOTAL_ADJUSTED
 from utc_days cross join metrics cross join days as of on of.day = utc_days.day and of.metric = metrics.id
 left join series on series.id = of.series;
 
 create view by_month ( -- What each series counted in each month of UTC
     month, -- Its first day: 2026-11-01
-    name, attributes, kind, unit, points, total, count, buckets, resource, scope_name, scope_version, scope_attributes, series,
+    name, attributes, kind, is_monotonic, unit, points, total, count, buckets, resource, scope_name, scope_version, scope_attributes, series,
     adjustments, total_adjusted
-) as select at, metrics.name, attributes, metrics.kind, metrics.unit, points, TOTAL, COUNT_OF(metrics.kind), buckets,
+) as select at, metrics.name, attributes, metrics.kind, metrics.is_monotonic, metrics.unit, points, TOTAL, COUNT_OF(metrics.kind), buckets,
     resource, scope_name, scope_version, scope_attributes, of.series, adjustments, TOTAL_ADJUSTED
 from utc_months cross join metrics cross join months as of on of.month = utc_months.month and of.metric = metrics.id
 left join series on series.id = of.series;
 
 create view totals_by_hour as -- What all series of a name, kind and unit counted in each hour
-select at as hour, name, kind, unit, points, TOTAL, COUNT_OF(kind), adjustments, TOTAL_ADJUSTED
+select at as hour, name, kind, is_monotonic, unit, points, TOTAL, COUNT_OF(kind), adjustments, TOTAL_ADJUSTED
 from utc_hours cross join metric_hours on metric_hours.hour = utc_hours.hour
 cross join metrics on metrics.id = metric_hours.metric;
 
 create view totals ( -- What each series counted, in all
-    name, attributes, kind, unit, points, total, count,
+    name, attributes, kind, is_monotonic, unit, points, total, count,
     bounds, -- Of a histogram: the upper bounds of all buckets but the last, as a JSON array
     buckets, without_sum,
     first_start, -- The first start, as a time of UTC: 2026-11-27 13:00:15Z
     last_end, -- The last end, as a time of UTC: 2026-11-27 13:00:15Z
     resource, scope_name, scope_version, scope_attributes, series, adjustments, total_adjusted
-) as select name, attributes, kind, unit, points, TOTAL, COUNT_OF(kind), bounds, buckets, without_sum,
+) as select name, attributes, kind, is_monotonic, unit, points, TOTAL, COUNT_OF(kind), bounds, buckets, without_sum,
     strftime('%Y-%m-%d %H:%M:%SZ', first_start_ns / 1000000000, 'unixepoch'), strftime('%Y-%m-%d %H:%M:%SZ', last_end_ns / 1000000000, 'unixepoch'),
     resource, scope_name, scope_version, scope_attributes, series, adjustments, TOTAL_ADJUSTED
 from (
@@ -257,18 +259,18 @@ from (
 ) join series on series.id = series;
 
 create view totals_by_name ( -- What all series of a name, kind and unit counted, in all
-    name, kind, unit,
+    name, kind, is_monotonic, unit,
     series, -- How many series
     points, total, count, adjustments, total_adjusted
-) as select name, kind, unit, series, points, TOTAL, COUNT_OF(kind), adjustments, TOTAL_ADJUSTED
+) as select name, kind, is_monotonic, unit, series, points, TOTAL, COUNT_OF(kind), adjustments, TOTAL_ADJUSTED
 from (
-    select name, kind, unit, count(*) as series, sum(points) as points,
+    select name, kind, is_monotonic, unit, count(*) as series, sum(points) as points,
         sum(total_high) + sum(total_low) / 1000000000000 as total_high,
         sum(total_low) % 1000000000000 as total_low,
         sum(count_high) + sum(count_low) / 1000000000000 as count_high,
         sum(count_low) % 1000000000000 as count_low,
         sum((select coalesce(sum(value), 0) from adjustments where adjustments.series = series.id)) as adjustments
-    from series_totals join series on series.id = series_totals.series group by name, kind, unit
+    from series_totals join series on series.id = series_totals.series group by name, kind, is_monotonic, unit
 );
 
 -- A count that no integer of SQLite holds is a text, as written.
@@ -288,13 +290,13 @@ from series_totals join series on series.id = series_totals.series join json_eac
 create view late ( -- What came for closed hours, and adjustments of them: a part of what by_hour has in their rows
     hour, -- In which it is counted: 2026-12-03 05:00Z
     belongs_to, -- The hour of which it is: 2026-11-30 23:00Z
-    name, attributes, kind, unit, points, total,
+    name, attributes, kind, is_monotonic, unit, points, total,
     count, -- Of a histogram: how many values. A text where no integer of SQLite holds it
     buckets, resource, series,
     adjustments, -- Of an adjustment: its value
     total_adjusted
 ) as select strftime('%Y-%m-%d %H:00Z', hour * 3600, 'unixepoch'), strftime('%Y-%m-%d %H:00Z', of_hour * 3600, 'unixepoch'),
-    name, attributes, kind, unit, points, TOTAL, COUNT_OF(kind), buckets, resource, series, adjustments, TOTAL_ADJUSTED
+    name, attributes, kind, is_monotonic, unit, points, TOTAL, COUNT_OF(kind), buckets, resource, series, adjustments, TOTAL_ADJUSTED
 from (
     select series, of_hour, hour, points, total_high, total_low, count_high, count_low, buckets, 0 as adjustments
     from late_hours
@@ -304,9 +306,9 @@ from (
 where hour >= (select hours_from from horizon);
 
 create view series_seen ( -- When each series was seen, by the intervals that came: when it was posted is not known here
-    series, name, attributes, kind, unit, resource, first_start,
+    series, name, attributes, kind, is_monotonic, unit, resource, first_start,
     last_end -- The last end, as a time of UTC: 2026-11-27 13:00:15Z
-) as select series, name, attributes, kind, unit, resource,
+) as select series, name, attributes, kind, is_monotonic, unit, resource,
     strftime('%Y-%m-%d %H:%M:%SZ', first_start_ns / 1000000000, 'unixepoch'), strftime('%Y-%m-%d %H:%M:%SZ', last_end_ns / 1000000000, 'unixepoch')
 from series_totals join series on series.id = series_totals.series;
 

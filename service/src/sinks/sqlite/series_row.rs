@@ -25,19 +25,20 @@ pub(super) fn known(
     of: &SeriesTotal,
     sender: Option<&str>,
 ) -> rusqlite::Result<(SeriesIds, bool)> {
-    let (kind, bounds) =
-        (of.kind.name(), list(of.histogram.as_ref().map_or(&[], |histogram| &histogram.bounds)));
+    let (kind, is_monotonic) = (of.kind.name(), of.kind.is_monotonic());
+    let bounds = list(of.histogram.as_ref().map_or(&[], |histogram| &histogram.bounds));
     let [attributes, resource, scope_attributes] = [&of.attributes, &of.resource, &of.scope_attributes]
         .map(|object| serde_json::to_string(object).unwrap_or_default()); // each object is written
-    let make = "insert into series (digest, identity, name, unit, kind, bounds, attributes, resource, scope_name, scope_version,
-            scope_attributes)
-        values (?1, ?2, ?3, ?4, ?5, ?6, ?7, ?8, ?9, ?10, ?11) on conflict do nothing";
+    let make = "insert into series (digest, identity, name, unit, kind, is_monotonic, bounds, attributes, resource, scope_name,
+            scope_version, scope_attributes)
+        values (?1, ?2, ?3, ?4, ?5, ?6, ?7, ?8, ?9, ?10, ?11, ?12) on conflict do nothing";
     let row = params![
         of.digest,
         &*key.0,
         of.name,
         of.unit,
         kind,
+        is_monotonic,
         bounds,
         attributes,
         resource,
@@ -48,15 +49,16 @@ pub(super) fn known(
     // Most series that are looked for here are new: those of earlier requests are known.
     let is_new = cached::run(transaction, make, row)? == 1;
     if is_new {
-        let make = "insert into metrics (name, kind, unit) values (?1, ?2, ?3) on conflict do nothing";
-        cached::run(transaction, make, params![of.name, kind, of.unit])?;
+        let make = "insert into metrics (name, kind, is_monotonic, unit) values (?1, ?2, ?3, ?4)
+            on conflict do nothing";
+        cached::run(transaction, make, params![of.name, kind, is_monotonic, of.unit])?;
     }
     if sender.is_some() {
         let name = "update series set sender = ?2 where digest = ?1 and sender is null";
         cached::run(transaction, name, params![of.digest, sender])?;
     }
-    let find =
-        "select series.id, metrics.id from series join metrics using (name, kind, unit) where digest = ?1";
+    let find = "select series.id, metrics.id from series join metrics using (name, kind, is_monotonic, unit)
+        where digest = ?1";
     let ids = |row: &rusqlite::Row| Ok(SeriesIds { series: row.get(0)?, metric: row.get(1)? });
     Ok((cached::one(transaction, find, [of.digest], ids)?, is_new))
 }
