@@ -96,7 +96,7 @@ def as_over_http(checks: Checks, service: Service, client: Client) -> None:
     status, text = ask(service.listen, "POST", "/v1/metrics", first, headers)
     checks.same("over HTTP too", (200, b""), (status, text))
     found = client.call(in_protobuf(one_point(0, 6)))
-    checks.true("what is late is refused", found[0] == "INVALID_ARGUMENT" and "out of order" in found[1], found)
+    checks.true("what is late is refused", found[0] == "INVALID_ARGUMENT" and "duplicate or late" in found[1], found)
     checks.same("a packed call is taken", ("OK", b""),
                 client.call(in_protobuf(one_point(1, 7)), packing=grpc.Compression.Gzip))
     service.order("/flush")

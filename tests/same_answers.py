@@ -16,8 +16,9 @@ that their series refuse, since one wrong clock may not cost others their points
 first time, since else nobody could tell it from a loss. What it has to take is asked of the gateway point by point, which then
 has the same.
 
-The service's texts may go on where the gateway's end: with the causes of foreign points, with a series, with a limit. Where it
-reads JSON by the protobuf mapping, its text is another (`wrong shape`, `not JSON`): of these the status alone is compared.
+The service's texts may go on where the gateway's end: with the causes of foreign points, with a series, with a limit. For `out of
+order` it says `duplicate or late` (`RENAMED`). Where it reads JSON by the protobuf mapping, its text is another (`wrong shape`,
+`not JSON`): of these the status alone is compared.
 
 Each line is one check; the last line counts those that passed and failed, and the status is 0 where none failed.
 """
@@ -49,6 +50,8 @@ DELTA = 1
 OWN_TEXTS = ("not JSON", "wrong shape")
 # What the gateway refuses a whole post for, and what the service says of the points that are refused so.
 DIFFERENT = {"out of order: ": "late, or a duplicate", "other writer: ": "refused alone"}
+# How the gateway calls a point that begins before its series ends, and how the service does.
+RENAMED = ("out of order", "duplicate or late")
 # The data of a metric, in the order in which its points are read.
 KINDS = ("gauge", "exponentialHistogram", "summary", "sum", "histogram")
 LINE = re.compile(r"^(series .*) accepted \S+ acknowledged \S+ dropped \S+ in-flight \S+ (stored \S+ quarantined \S+)$")
@@ -259,6 +262,7 @@ def is_same(wanted: Answer, found: Answer) -> bool:
 
 
 def goes_on(text: str, longer: str) -> bool:
+    text = text.replace(*RENAMED) if text.startswith(RENAMED[0]) else text
     return longer == text or longer.startswith(f"{text}: ")
 
 

@@ -273,7 +273,7 @@ mod tests {
         let found = explained((1, 6));
         let told = text(&found);
         assert_eq!((found.status, found.taken, found.foreign), (200, 5, 0));
-        assert!(told.contains("5 points taken, 0 foreign\nanswered 200: 1 point is refused: out of order: point 4, frontier 9: the post has `a`"), "{told}");
+        assert!(told.contains("5 points taken, 0 foreign\nanswered 200: 1 point is refused: duplicate or late: point 4, frontier 9: the post has `a`"), "{told}");
         assert!(told.contains("twice over one time") && told.matches("\nrefused ").count() == 1, "{told}");
         // The second one is equal to the one ahead of it, and a duplicate; or it is of another series.
         for fourth in [(1, 5), (4, 5)] {

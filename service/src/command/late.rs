@@ -16,7 +16,7 @@ pub struct Options {
     /// Of this sender
     #[arg(long, value_name = "NAME", value_parser = sender)]
     sender: Option<String>,
-    /// For this reason: out_of_order, of a point that begins before its series ends, or other_writer
+    /// For this reason: duplicate_or_late, of a point that begins before its series ends, or other_writer
     #[arg(long, value_name = "REASON")]
     reason: Option<String>,
     /// That ended after then, of UTC: 2026-11-05T13:30:15

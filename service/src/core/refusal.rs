@@ -13,7 +13,7 @@ pub enum Refused {
     Full,
     #[error("other writer: point {point}")]
     OtherWriter { point: u64 },
-    #[error("out of order: point {point}, frontier {frontier}")]
+    #[error("duplicate or late: point {point}, frontier {frontier}")]
     OutOfOrder { point: u64, frontier: u64 },
     #[error("too many series")]
     TooManySeries,
@@ -161,7 +161,7 @@ mod tests {
             (403, "quarantined"),
             (503, "full"),
             (400, "other writer: point 2"),
-            (400, "out of order: point 2, frontier 50"),
+            (400, "duplicate or late: point 2, frontier 50"),
             (503, "too many series"),
             (503, "too large"),
             (503, "no memory"),

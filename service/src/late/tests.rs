@@ -43,7 +43,7 @@ fn read(folder: &Path) -> Vec<u64> {
 fn a_point_is_a_line_of_json() {
     let text = String::from_utf8(line(3)).unwrap();
     let wanted = format!(
-        r#"{{"key":"0000000000000003","at":5,"sender":"shop-1","reason":"out_of_order","series":{SERIES},"start_ns":3,"end_ns":4,"value":-7,"series_end_ns":9}}"#
+        r#"{{"key":"0000000000000003","at":5,"sender":"shop-1","reason":"duplicate_or_late","series":{SERIES},"start_ns":3,"end_ns":4,"value":-7,"series_end_ns":9}}"#
     );
     assert_eq!(text, wanted + "\n");
     let histogram = r#"{"count":3,"sum":null,"buckets":[1,2]}"#;

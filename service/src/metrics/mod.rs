@@ -351,7 +351,7 @@ mod tests {
         let page = page(&metrics);
         for line in [
             "totxegun_requests_total{code=\"200\",reason=\"\"} 2",
-            "totxegun_requests_total{code=\"400\",reason=\"out_of_order\"} 1",
+            "totxegun_requests_total{code=\"400\",reason=\"duplicate_or_late\"} 1",
             "totxegun_request_duration_seconds_count{code=\"200\",encoding=\"json\"} 1",
             "totxegun_request_duration_seconds_count{code=\"200\",encoding=\"protobuf\"} 1",
             "totxegun_request_duration_seconds_bucket{code=\"400\",encoding=\"json\",le=\"+Inf\"} 1",

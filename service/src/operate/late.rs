@@ -55,7 +55,7 @@ impl Wanted {
         };
         let reason = |text: String| {
             Reason::labelled(&text)
-                .ok_or_else(|| format!("`{text}` is no reason: out_of_order or other_writer"))
+                .ok_or_else(|| format!("`{text}` is no reason: duplicate_or_late or other_writer"))
         };
         let limit = |text: String| {
             let limit = text.parse().ok().filter(|limit| (1..=MAX_LISTED).contains(limit));

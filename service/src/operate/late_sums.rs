@@ -175,7 +175,7 @@ mod tests {
         assert_eq!(rows.collect::<Vec<_>>(), wanted);
         let text = not_counted(&listed);
         assert!(
-            text.starts_with("9223372036854775814 in 3 points of a by s (out_of_order), of 1 of which "),
+            text.starts_with("9223372036854775814 in 3 points of a by s (duplicate_or_late), of 1 of which "),
             "{text}"
         );
         let many = vec![listed[1].clone(); SHOWN + 2];

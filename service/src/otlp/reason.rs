@@ -90,7 +90,7 @@ reasons! {
     Other "other" Points(["point of another form", "points of another form"]),
         "`totxegun explain FILE` says of each point of a captured body why";
 
-    OutOfOrder "out_of_order" Request(400, "out of order"),
+    OutOfOrder "duplicate_or_late" Request(400, "duplicate or late"),
         "it begins before its series ends, and is no repeat of what the last two posts had: the sender's clock was set back, it sends a series twice, or what is old comes after what is newer";
     OtherWriter "other_writer" Request(400, "other writer"),
         "OTEL_RESOURCE_ATTRIBUTES=service.instance.id=NAME, another name for each process";

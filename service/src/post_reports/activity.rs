@@ -135,15 +135,15 @@ mod tests {
         let activity = SenderActivity::default();
         assert_eq!(activity.note_at("A", &Outcome::taken(2), 5), None);
         for (sender, message, now) in [
-            ("A", "out of order: point 0, frontier 5", 6),
-            ("A", "out of order: point 9, frontier 7", 7),
-            ("B", "out of order: point 9, frontier 7", 6),
+            ("A", "duplicate or late: point 0, frontier 5", 6),
+            ("A", "duplicate or late: point 9, frontier 7", 7),
+            ("B", "duplicate or late: point 9, frontier 7", 6),
         ] {
             assert_eq!(activity.note_at(sender, &late(message), now), Some(Reason::OutOfOrder));
         }
         let last = activity.last(9);
         assert_eq!(last.iter().map(|(name, _)| &**name).collect::<Vec<_>>(), ["A", "B"]);
-        let wanted = OfReason { posts: 2, last: 7, text: "out of order: point 9, frontier 7".into() };
+        let wanted = OfReason { posts: 2, last: 7, text: "duplicate or late: point 9, frontier 7".into() };
         assert_eq!(
             (last[0].1.taken, last[0].1.last, &last[0].1.refused[&Reason::OutOfOrder]),
             (1, 7, &wanted)

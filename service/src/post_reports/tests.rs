@@ -210,7 +210,7 @@ async fn a_post_with_a_series_twice_over_one_time_is_told_so() {
     let route = r#","attributes":[{"key":"route","value":{"stringValue":"/"}}]"#;
     let points = [point(""), "{}".into(), point(route), point(route)].join(",");
     let metric = format!(r#"{{"name":"m","sum":{{"aggregationTemporality":1,"dataPoints":[{points}]}}}}"#);
-    let twice = "out of order: point 2, frontier 2";
+    let twice = "duplicate or late: point 2, frontier 2";
     let said = answered(&reported(late(2, 2), None, ReportOptions::default()), &metric).await;
     assert_eq!(
         said,
@@ -232,7 +232,7 @@ async fn a_post_with_a_series_twice_over_one_time_is_told_so() {
 async fn a_late_sender_is_told_the_time() {
     let refused = |outcome| reported(outcome, None, ReportOptions::default());
     let said = answered(&refused(late(2, 1795808400500000000)), GAUGES).await;
-    let begin = "out of order: point 2, frontier 1795808400500000000: the point begins before 2026-11-27T19:40:00.500000Z, ";
+    let begin = "duplicate or late: point 2, frontier 1795808400500000000: the point begins before what its series has (until 2026-11-27T19:40:00.500000Z), ";
     assert!(said.starts_with(begin) && said.contains("set the sender's clock"), "{said}");
     assert_eq!(answered(&refused(Reason::NotJson.into()), GAUGES).await, "not JSON");
 }

@@ -59,8 +59,8 @@ pub(super) fn of_other_writer(body: &[u8], profile: Profile, place: u64) -> Opti
 pub(crate) fn late(named: &str, interval: Interval, frontier: u64) -> String {
     let (time, not_counted) = (of_nanoseconds(frontier), not_counted(interval));
     format!(
-        ": {named} begins before {time}, up to where it was taken, and is no repeat of the last two posts{not_counted}: set the sender's \
-         clock, or give each process its own service.instance.id"
+        ": {named} begins before what its series has (until {time}), and is no repeat of the last two posts{not_counted}: set the \
+         sender's clock, or give each process its own service.instance.id"
     )
 }
 

@@ -91,7 +91,7 @@ impl Model {
         for (name, (end, _)) in &self.series {
             let sender = name.split('-').next().unwrap();
             if !self.quarantined.contains(sender) {
-                let late = format!("out of order: point 0, frontier {end}");
+                let late = format!("duplicate or late: point 0, frontier {end}");
                 let (start, value) = self.last[name];
                 for (start, value, wanted) in
                     [(end - 1, MOST_VALUE, (400, late.as_str())), (start, value, (200, ""))]

@@ -18,8 +18,8 @@ async fn posts_and_checkpoints() {
     assert_eq!(run.post("A", point("a", 20, 30, 6)).await, all());
     let refusals = [
         ("B", point("a", 30, 40, 6), (400, "other writer: point 0")),
-        ("A", point("a", 20, 30, 7), (400, "out of order: point 0, frontier 30")),
-        ("A", point("a", 25, 30, 6), (400, "out of order: point 0, frontier 30")),
+        ("A", point("a", 20, 30, 7), (400, "duplicate or late: point 0, frontier 30")),
+        ("A", point("a", 25, 30, 6), (400, "duplicate or late: point 0, frontier 30")),
         ("A", Bytes::from_static(b"x"), (400, "not JSON")),
         ("A", Bytes::from_static(b"[]"), (400, "wrong shape")),
         ("a b", point("a", 30, 40, 6), (400, BAD_SENDER)),
@@ -66,7 +66,7 @@ async fn repeated(run: &Run, after: &str) {
         assert_eq!(run.post("A", repeat).await, all(), "after {after}");
     }
     let late = run.post("A", point("a", 10, 20, 6)).await;
-    assert_eq!(message(&late), (400, "out of order: point 0, frontier 20"), "after {after}");
+    assert_eq!(message(&late), (400, "duplicate or late: point 0, frontier 20"), "after {after}");
     let other = run.post("B", point("a", 20, 30, 5)).await;
     assert_eq!(message(&other), (400, "other writer: point 0"), "after {after}");
 }
@@ -145,7 +145,7 @@ async fn a_replay_that_meets_a_limit_makes_room_and_goes_on() {
     drop((journal, outbox));
     let run = place.run().await;
     let late = run.post("A", point("a", 30, 40, -7)).await;
-    assert_eq!(message(&late), (400, "out of order: point 0, frontier 40"));
+    assert_eq!(message(&late), (400, "duplicate or late: point 0, frontier 40"));
     assert_eq!(run.checkpoint().await, 2);
     has_no_fault(&run);
     assert_eq!(sums(&run.stop().await), [("a", i64::MAX - 2)]);

@@ -39,7 +39,7 @@ fn a_series_is_put_back_and_what_the_sink_has_of_it_is_told() {
     let begun = now();
     let right = points(&["a"], begun, 1);
     let (status, why) = service.post("A", &right).unwrap();
-    assert!(status == 400 && why.contains("out of order"), "{why}");
+    assert!(status == 400 && why.contains("duplicate or late"), "{why}");
     for (words, part) in [
         (&["rewind", "c", "--to", "2026-11-27"][..], "no series is named c"),
         (&["rewind", "a{host=x}", "--to", "2026-11-27"], "no series is named"),

@@ -45,7 +45,7 @@ fn what_a_series_refuses_is_listed_by_series_sender_reason_and_time() {
     let of = |point: &Value| {
         [&point["sender"], &point["reason"], &point["value"], &point["series_sender"]].map(Value::to_string)
     };
-    assert_eq!(of(&all[0]), ["\"shop\"", "\"out_of_order\"", "7", "null"]);
+    assert_eq!(of(&all[0]), ["\"shop\"", "\"duplicate_or_late\"", "7", "null"]);
     assert_eq!(of(&all[1]), ["\"shop\"", "\"other_writer\"", "7", "\"other\""]);
     assert_eq!((&all[2]["end_ns"], &all[2]["temporality"]), (&(hour + 50).into(), &"delta".into()));
     for (words, wanted) in [
@@ -162,7 +162,7 @@ fn a_close_and_an_export_say_what_is_not_counted() {
     let page = "totxegun_late_points_total{outcome=\"kept\"} 3";
     until("all are written", || service.metrics().contains(page));
     let (late_one, stolen) =
-        ("7 in 1 point of a by shop (out_of_order)", "1 in 1 point of a by thief (other_writer)");
+        ("7 in 1 point of a by shop (duplicate_or_late)", "1 in 1 point of a by thief (other_writer)");
     let said = exported();
     for sum in [late_one, stolen] {
         assert!(said.contains(&format!("1970-01: refused, and not counted in it: {sum}")), "{said}");

@@ -46,7 +46,7 @@ fn owners_and_frontiers_outlive_kills_and_other_numbers_of_books() {
                 let last = points(&[sender], end - 10, 1);
                 assert_eq!(service.post(sender, &last).unwrap(), (200, "{}".into()), "a repeat");
                 let late = service.post(sender, &points(&[sender], end - 10, 2)).unwrap();
-                let begin = refused(&format!("out of order: point 0, frontier {}: ", end - 10)).1;
+                let begin = refused(&format!("duplicate or late: point 0, frontier {}: ", end - 10)).1;
                 let begin = begin.trim_end_matches("\"}");
                 assert!(late.0 == 400 && late.1.starts_with(begin), "{late:?}");
             }

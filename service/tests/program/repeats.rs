@@ -55,7 +55,7 @@ fn a_batch_is_answered_as_the_first_time_after_the_next_one() {
     // What came before these is not known any more.
     let (status, text) = service.post("collector", &batch(&["a"], first)).unwrap();
     assert!(
-        status == 400 && text.contains("out of order: point 0, frontier 140: `a` {} begins before "),
+        status == 400 && text.contains("duplicate or late: point 0, frontier 140: `a` {} begins before "),
         "{text}"
     );
     let page = service.metrics();
@@ -90,14 +90,14 @@ fn one_series_that_is_refused_costs_no_other_its_points() {
     let message = partial["errorMessage"].as_str().unwrap();
     for part in [
         "1 point is refused: other writer: point 1: `theirs` {} is another sender's",
-        "1 point is refused: out of order: point 3, frontier 200: `late` {} begins before ",
+        "1 point is refused: duplicate or late: point 3, frontier 200: `late` {} begins before ",
     ] {
         assert!(message.contains(part), "{message}");
     }
     let page = service.metrics();
     for line in [
         "totxegun_rejected_points_total{reason=\"other_writer\",sender=\"collector\"} 1",
-        "totxegun_rejected_points_total{reason=\"out_of_order\",sender=\"collector\"} 1",
+        "totxegun_rejected_points_total{reason=\"duplicate_or_late\",sender=\"collector\"} 1",
         "totxegun_accepted_points_total{sender=\"collector\"} 4",
     ] {
         assert!(page.lines().any(|found| found == line), "{line} in\n{page}");
@@ -106,7 +106,7 @@ fn one_series_that_is_refused_costs_no_other_its_points() {
     assert_eq!(service.post("collector", &body).unwrap(), (status, text));
     until("the log has both", || {
         let log = place.log();
-        ["other writer: point 1: ", "out of order: point 3, "].iter().all(|part| log.contains(part))
+        ["other writer: point 1: ", "duplicate or late: point 3, "].iter().all(|part| log.contains(part))
     });
     service.drain();
     service.has_no_fault();

@@ -155,7 +155,7 @@ async fn each_slot_is_asked_for_its_resources() {
             panic!("{said:?}");
         };
         // Point 3 of the request belongs to shard 2, point 7 to shard 0.
-        let why = "3 points are refused: out of order: point 3, frontier 5; 4 points are refused: out of order: point 7, frontier 5";
+        let why = "3 points are refused: duplicate or late: point 3, frontier 5; 4 points are refused: duplicate or late: point 7, frontier 5";
         assert_eq!((*rejected, said.message().as_deref()), (7, Some(why)));
         let text = String::from_utf8(said.body(Encoding::Json)).unwrap();
         assert!(text.contains(r#""rejectedDataPoints":"7""#), "{text}");

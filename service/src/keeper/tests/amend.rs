@@ -36,10 +36,10 @@ async fn a_series_that_is_put_back_goes_on_from_there() {
         assert_eq!(run.post(number).await, Outcome::taken(0));
         run.flush().await;
     }
-    assert_eq!(refusal(run.post(20).await), "out of order: point 0, frontier 1001");
+    assert_eq!(refusal(run.post(20).await), "duplicate or late: point 0, frontier 1001");
     let series = run.keys();
     assert_eq!(run.amend(Amend::PutBack { series: series.clone(), to: 10 }).await, Ok(()));
-    assert_eq!(refusal(run.post(5).await), "out of order: point 0, frontier 10");
+    assert_eq!(refusal(run.post(5).await), "duplicate or late: point 0, frontier 10");
     assert_eq!(run.post(20).await, Outcome::taken(0));
     assert_eq!(refusal(run.slot.post("B".into(), point("a", 30).into()).await), "other writer: point 0");
     // It never moves the end forward.
@@ -54,7 +54,7 @@ async fn a_series_that_is_put_back_goes_on_from_there() {
     assert_eq!(run.post(20).await, Outcome::taken(0), "a repeat of the one before");
     assert_eq!(
         refusal(run.post(5).await),
-        "out of order: point 0, frontier 22",
+        "duplicate or late: point 0, frontier 22",
         "its end was put back since"
     );
     assert_eq!(run.post(22).await, Outcome::taken(0));

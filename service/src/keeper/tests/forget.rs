@@ -58,7 +58,7 @@ async fn series_are_forgotten_where_there_are_too_many() {
     until_taken(&run, "C", &new, 10).await;
     assert_eq!(run.slot.metrics.forgotten_series.get(), MOST as u64 - 2);
     assert_eq!(post(&run, "A", &used, 20).await, Outcome::taken(0), "a repeat");
-    assert_eq!(refused(&post(&run, "A", &used, 19).await), "out of order: point 0, frontier 30");
+    assert_eq!(refused(&post(&run, "A", &used, 19).await), "duplicate or late: point 0, frontier 30");
     assert_eq!(refused(&post(&run, "C", &used, 30).await), "other writer: point 0");
     assert_eq!(refused(&post(&run, "B", &["held".into()], 30).await), "quarantined");
     assert_eq!(refused(&post(&run, "C", &["held".into()], 30).await), "other writer: point 0");

@@ -265,7 +265,8 @@ async fn delta_points_beside_cumulative_ones_are_refused_alone_and_repeated() {
     let all = [point("m", BEGIN, BEGIN + 20, 6), point("b2", BEGIN, BEGIN + 10, 9)];
     let outcome = run.mixed("A", &deltas, &all).await;
     let Outcome::Taken { rejected: 2, parts, .. } = &outcome else { panic!("{outcome:?}") };
-    let begins = ["other writer: point 1: `b` {} is another sender's", "out of order: point 2, frontier "];
+    let begins =
+        ["other writer: point 1: `b` {} is another sender's", "duplicate or late: point 2, frontier "];
     assert_eq!(parts.len(), 2, "{outcome:?}");
     for begin in begins {
         assert!(

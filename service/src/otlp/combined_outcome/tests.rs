@@ -73,7 +73,7 @@ fn what_may_be_taken_later_makes_all_of_it_to_be_sent_again() {
 fn what_is_taken_in_part_is_taken() {
     let late = refused(Refused::OutOfOrder { point: 1, frontier: 5 });
     let parts = [part(late, &[(0, 3), (2, 4)]), part(Outcome::taken(0), &[(1, 2)])];
-    let wanted = "7 points are refused: out of order: point 1, frontier 5";
+    let wanted = "7 points are refused: duplicate or late: point 1, frontier 5";
     assert_eq!(said(&parts), (200, 7, wanted.into()));
     let quarantined = refused(Refused::Quarantined);
     let one = [part(Outcome::taken(0), &[(0, 2)]), part(quarantined, &[(1, 1)])];
@@ -135,7 +135,7 @@ fn a_refusal_names_the_point_s_place_in_the_request() {
     for (point, place) in [(0, 3), (1, 4), (2, 5), (6, 9)] {
         let parts =
             [part(late(point), &[at(1), at(2), at(3)]), part(refused(Refused::Quarantined), &[at(0)])];
-        let wanted = format!("out of order: point {place}, frontier 5");
+        let wanted = format!("duplicate or late: point {place}, frontier 5");
         assert_eq!(said(&parts), (400, 0, wanted));
     }
     let point = RejectedPoint { place: 1, frontier: None };
@@ -144,9 +144,9 @@ fn a_refusal_names_the_point_s_place_in_the_request() {
     let parts = [part(other.clone(), &[at(3)]), part(late(0), &[at(0), at(1), at(2)])];
     assert_eq!(said(&parts), (400, 0, "other writer: point 6: `m` {} is another's".into()));
     let beyond = [part(late(9), &[at(0)]), part(other, &[at(1)])];
-    assert_eq!(said(&beyond).2, "out of order: point 9, frontier 5", "it is left as it is");
+    assert_eq!(said(&beyond).2, "duplicate or late: point 9, frontier 5", "it is left as it is");
     // What was too long for its slot's memory is not read here either.
     let too_long = Reason::BodyTooLong.into();
     let behind = [part(late(1), &[at(1), at(2)]), part(too_long, &[at(0)])];
-    assert_eq!(said(&behind).2, "out of order: point 1, frontier 5", "nor is this one placed behind it");
+    assert_eq!(said(&behind).2, "duplicate or late: point 1, frontier 5", "nor is this one placed behind it");
 }

@@ -15,7 +15,7 @@ fn labels_are_words_that_name_one_reason_each() {
         assert_eq!(serde_json::to_string(reason).unwrap(), format!("\"{label}\""));
         assert_eq!(reason.is_repeated(), [14, 8].contains(&reason.code()), "{label}");
     }
-    assert_eq!(Reason::labelled("out of order"), None);
+    assert_eq!(Reason::labelled("duplicate or late"), None);
     let of_points: Vec<Reason> = Reason::of_points().collect();
     assert!(of_points.contains(&Reason::Gauge) && !of_points.contains(&Reason::OutOfOrder));
     assert!(of_points.iter().all(|reason| reason.status() == 200));
@@ -101,7 +101,7 @@ fn each_refusal_begins_with_the_text_of_its_reason() {
 fn a_point_has_another_place_in_the_whole() {
     let late = RejectedPoint { place: 9, frontier: Some(5) };
     let late = Rejection::of_point(Reason::OutOfOrder, late).and(": point 9 was taken");
-    assert_eq!(late.placed(1234).message, "out of order: point 1234, frontier 5: point 9 was taken");
+    assert_eq!(late.placed(1234).message, "duplicate or late: point 1234, frontier 5: point 9 was taken");
     let none = Rejection::from(Reason::Full);
     assert_eq!(none.clone().placed(7), none);
 }

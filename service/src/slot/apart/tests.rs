@@ -186,7 +186,7 @@ fn wanted(fates: &[Wanted]) -> (u16, u64, Vec<String>) {
         fates.iter().copied().enumerate().filter(|(_, fate)| is_wanted(fate)).collect()
     };
     let told = |(place, fate): (usize, Wanted)| match fate {
-        Wanted::Late(frontier) => format!("out of order: point {place}, frontier {frontier}"),
+        Wanted::Late(frontier) => format!("duplicate or late: point {place}, frontier {frontier}"),
         _ => format!("other writer: point {place}"),
     };
     let (late, others) =
@@ -299,7 +299,7 @@ async fn the_journal_has_what_was_taken_alone() {
     let points = [(10, 5), (11, 6), (3, 7)];
     let points = points.map(|(start, value)| Point { series: ('A', 0), start, end: start + 1, value });
     let outcome = slot.post("A".into(), body(&points).into()).await;
-    let why = "1 point is refused: out of order: point 2, frontier 12: the post has `A0` {} twice over one time, so \
+    let why = "1 point is refused: duplicate or late: point 2, frontier 12: the post has `A0` {} twice over one time, so \
                1970-01-01T00:00:00.000000Z to 1970-01-01T00:00:00.000000Z is not counted: give each process its own \
                service.instance.id, each instrument its own name";
     assert_eq!((outcome.status(), outcome.message().as_deref()), (200, Some(why)));
@@ -336,8 +336,8 @@ async fn each_reason_is_told_with_its_first_point() {
     let outcome = posted(&slot, 'A', body(&points), false).await;
     let Outcome::Taken { rejected, .. } = &outcome else { panic!("{outcome:?}") };
     let why = "2 points are refused: other writer: point 1: `B1` {} is another sender's, so BEGIN to BEGIN is not counted: give each \
-               process its own service.instance.id; 2 points are refused: out of order: point 2, frontier 11: `A1` {} begins before \
-               BEGIN, up to where it was taken, and is no repeat of the last two posts, so BEGIN to BEGIN is not counted: set the \
+               process its own service.instance.id; 2 points are refused: duplicate or late: point 2, frontier 11: `A1` {} begins before \
+               what its series has (until BEGIN), and is no repeat of the last two posts, so BEGIN to BEGIN is not counted: set the \
                sender's clock, or give each process its own service.instance.id";
     let why = why.replace("BEGIN", "1970-01-01T00:00:00.000000Z");
     assert_eq!((*rejected, outcome.message()), (4, Some(why)));
