@@ -75,7 +75,7 @@ class Runs:
 
     def service(self, folder: str) -> Interrupted:
         return Interrupted(self.program, f"{folder}/data", f"sqlite:{folder}/sink/sink.db", "--flush-interval", "1h", "--admin",
-                           f"unix:{folder}/operate")
+                           f"unix:{folder}/admin.sock")
 
     def fill(self) -> None:
         """What each run begins with."""

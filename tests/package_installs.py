@@ -114,7 +114,7 @@ def serve(checks: Checks, what: str, root: str, folder: str, settings: str | Non
         write(f"{folder}/settings.toml", settings)
         words[words.index("--config") + 1] = f"{folder}/settings.toml"
     listen, operate = free_port(), free_port()
-    places = {"TOTXEGUN_LISTEN": f"127.0.0.1:{listen}", "TOTXEGUN_ADMIN": f"127.0.0.1:{operate}"}
+    places = {"TOTXEGUN_LISTEN": f"127.0.0.1:{listen}", "TOTXEGUN_ADMIN": f"127.0.0.1:{operate}", "TOTXEGUN_LISTEN_GRPC": "off"}
     environment = {**without_settings(), **places}
     log = f"{folder}/log"
     with open(log, "wb") as out:

@@ -132,7 +132,7 @@ class Run:
         os.mkdir(self.shadow)
         self.sink = SqliteSink(f"{folder}/sink.db")
         self.service = Service(program, self.data, self.sink.address, "--durability", durable, "--flush-interval", "1h",
-                               "--admin", f"unix:{folder}/operate")
+                               "--admin", f"unix:{folder}/admin.sock")
         self.senders = {name: Sender(self.service, name, seconds=5) for name in SENDERS}
         self.library = library
         # The call at which each start is interrupted; later starts are without the library.

@@ -48,7 +48,7 @@ CUMULATIVE = 2
 # Of databases: each move has its own.
 NUMBERS = itertools.count(1)
 # What a copy of a folder does not have.
-LEFT = shutil.ignore_patterns("lock", "operate")
+LEFT = shutil.ignore_patterns("lock", "admin.sock")
 # At which request a move is killed, and whether before the server has it or after it.
 Kill = tuple[int, str]
 # The name of a way to kill a move, and the way: at a request, or, by what is added to its environment, at a call.

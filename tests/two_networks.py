@@ -8,7 +8,7 @@ run as they stand, with other folders, and with the machine's name in the place 
 settings that they write. On the other a program on OpenTelemetry's SDK for Go posts over HTTP and gRPC by the certificate
 shop-1, a Python program by the token of shop-2, and Java's own client for HTTP by either, where there is a JDK, for so many
 seconds (4). A sender without either, and one that comes without TLS, is refused. At the end the sink has what they counted,
-each series of its own sender; the operators' address is not reached from there.
+each series of its own sender; the admin address is not reached from there.
 
 It needs openssl, ip, the right to make network namespaces, and what tests/sdk_go.py needs; where one is missing a line says
 so, and the status is 77. Each other line is one check; the last one counts those that passed and failed, and the status is 1
@@ -214,11 +214,11 @@ def run(checks: Checks, totxegun: str, seconds: float, folder: str, stack: conte
     python = subprocess.run(on(shop, *sender), env={**os.environ, "TOKEN": token or ""}, capture_output=True, text=True, check=False)
     java = post_by_java(checks, folder, at, shop, token)
     without = subprocess.run(on(shop, *sender[:-1]), capture_output=True, text=True, timeout=60, check=False).stdout.split("\n")
-    checks.same("without a name; without TLS; the operators' address", ["401", "None", "not reached", ""], without)
+    checks.same("without a name; without TLS; the admin address", ["401", "None", "not reached", ""], without)
     checks.same("the programs in Go end", [0, 0], [one.wait(120) for one in programs])
     said("flush")
     checks.true("all is delivered", wait_until(lambda: json.loads(said("status", "--json"))["slots"][0]["waiting"] == 0), said("status"))
-    report = ask(f"{data}/operate", "GET", "/report")[1].decode()
+    report = ask(f"{data}/admin.sock", "GET", "/report")[1].decode()
     owners = dict(re.findall(r"^series (\S+) .* owner (\S+) ", report, re.MULTILINE))
     taken = int(python.stdout or 0)
     checks.true("Python posted by its token", taken > 20, python.stderr[-800:])

@@ -1,5 +1,5 @@
 #!/usr/bin/env python3
-"""Pages of somebody else in a browser, headless Chromium, at the operators' address: they change nothing and read nothing.
+"""Pages of somebody else in a browser, headless Chromium, at the admin address: they change nothing and read nothing.
 
     tests/web_pages.py TOTXEGUN
 

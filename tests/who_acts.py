@@ -34,13 +34,13 @@ def work(totxegun: str, checks: Checks, stack: contextlib.ExitStack) -> None:
         return
     at = folder(stack)
     os.chmod(at, 0o755)
-    service = Service(totxegun, f"{at}/data", f"sqlite:{at}/sink.db", "--admin", f"unix:{at}/operate", before=users_of_the_unit())
+    service = Service(totxegun, f"{at}/data", f"sqlite:{at}/sink.db", "--admin", f"unix:{at}/admin.sock", before=users_of_the_unit())
     service.start()
     stack.callback(service.kill)
     checks.true("it is ready", service.wait_ready(), service.last_lines())
     without = {name: text for name, text in os.environ.items() if name != "SUDO_USER"}
     for user, sender, behind in ((0, "A", {}), (USER, "B", {"SUDO_USER": "ann"}), (0, "C", {"SUDO_USER": "ann"})):
-        asks = [totxegun, "quarantine", sender, "--admin", f"unix:{at}/operate"]
+        asks = [totxegun, "quarantine", sender, "--admin", f"unix:{at}/admin.sock"]
         said = subprocess.run(["setpriv", f"--reuid={user}", "--regid=0", "--clear-groups", *asks], capture_output=True, text=True,
                               check=False, env=dict(without, **behind))
         wanted = (0, f"done: nothing of {sender} is known yet: its posts will be refused\n")

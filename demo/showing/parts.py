@@ -27,7 +27,7 @@ scrape_configs:
 
 
 class Prometheus:
-    """It scrapes both pages of the operator's address each second, and has the alerts that are shipped."""
+    """It scrapes both pages of the admin address each second, and has the alerts that are shipped."""
 
     def __init__(self, folder: str, operate: int) -> None:
         self.port = free_port()

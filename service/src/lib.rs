@@ -4,7 +4,7 @@
 //! with its journal and outbox (`files`). A `keeper` fills the book at the start, and flushes it. What was flushed
 //! is delivered to one of the `sinks`. `shares` is what each sender may have, `post_reports` tells senders
 //! and operators of posts that were not taken, `late` keeps points that their series refused.
-//! `operate` is the operator's address, `command` the command line, `service` all of it as one process, `log` what it says;
+//! `operate` is the admin address, `command` the command line, `service` all of it as one process, `log` what it says;
 //! `latch` tells a part of it to stop, `work` is done beside the runtime, `postgres` connects.
 //! A `store` has the files of slots that several machines share.
 

@@ -104,7 +104,7 @@ class Service:
         self.settings = {} if sink.startswith("http") else {"TOTXEGUN_KEEP_INTERVALS": "forever"}
         self.log = f"{data}.log"
         elsewhere = [word.removeprefix("unix:") for word in options if word.startswith("unix:")]
-        self.data, self.socket = data, [*elsewhere, f"{data}/operate"][0]
+        self.data, self.socket = data, [*elsewhere, f"{data}/admin.sock"][0]
         self.process: subprocess.Popen[bytes] = None
 
     def start(self, environment: Mapping[str, str] | None = None) -> None:
@@ -116,7 +116,7 @@ class Service:
         return self.process is not None and self.process.poll() is None
 
     def asked(self, method: str, path: str, seconds: float = 20, body: bytes = b"") -> Answer:
-        """What the operators' addresses answer, of which the socket takes orders."""
+        """What the admin addresses answer, of which the socket takes orders."""
         is_order = method == "POST" or path.startswith(("/dead-letters", "/late", "/report"))
         at: int | str = self.socket if is_order and os.path.exists(self.socket) else self.operate
         return ask(at, method, path, body, seconds=seconds, host=self.host)

@@ -164,7 +164,7 @@ fn in_store(data: &Path) -> Option<String> {
         return Some("a store".into()); // its address may have a password
     }
     let has = |name: &str| data.join(name).exists();
-    let is_of_instance = (has("acts.jsonl") || has("operate")) && !is_made(data);
+    let is_of_instance = (has("acts.jsonl") || has(values::SOCKET_NAME)) && !is_made(data);
     is_of_instance.then(|| data.display().to_string())
 }
 

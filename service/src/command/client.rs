@@ -1,4 +1,4 @@
-//! Asks the running service at its operators' addresses.
+//! Asks the running service at its admin addresses.
 
 use super::ask::{Address, Shown};
 use super::{values::SOCKET, with_end};
@@ -24,7 +24,7 @@ const ANSWER: Duration = Duration::from_secs(120);
 const SOON: Duration = Duration::from_secs(3);
 const CONNECT: Duration = Duration::from_secs(5);
 
-/// What who listens says of a path that it does not have: an operators' address has all that are asked for here.
+/// What who listens says of a path that it does not have: an admin address has all that are asked for here.
 const NO_PATH: &str = "no such path";
 
 /// Of an answer that is not as this program reads it.
@@ -178,10 +178,10 @@ fn unreachable(place: &str, error: io::Error) -> anyhow::Error {
             format!("{place} is closed to this user: run this as root (sudo), or as a user of the socket's group")
         }
         io::ErrorKind::NotFound => {
-            format!("there is no {place}: start the service, give its folder by --data, or its operators' address by --admin")
+            format!("there is no {place}: start the service, give its folder by --data, or its admin address by --admin")
         }
         _ => format!(
-            "no service answers at {place}: start it, give its folder by --data, or its operators' address by --admin"
+            "no service answers at {place}: start it, give its folder by --data, or its admin address by --admin"
         ),
     };
     anyhow::Error::new(error).context(what)
@@ -222,7 +222,7 @@ fn part(place: &str, error: hyper::Error) -> anyhow::Error {
 
 /// What is said of somebody else who listens there, such as the service to its senders.
 pub fn another(place: &str) -> String {
-    format!("what listens at {place} is no operators' address of totxegun: give that by --admin")
+    format!("what listens at {place} is no admin address of totxegun: give that by --admin")
 }
 
 /// Why there is no answer. An order goes on in the service though nobody waits for it.
@@ -288,7 +288,7 @@ mod tests {
         for (bytes, why) in [
             (&b""[..], "without an answer"),
             (b"HTTP/1.1 200 OK\r\ncontent-length: 2\r\n\r\n{", "did not answer whole"),
-            (b"SSH-2.0-OpenSSH\r\n", "no operators' address"),
+            (b"SSH-2.0-OpenSSH\r\n", "no admin address"),
         ] {
             let said = format!("{:#}", get(&writes(bytes), ANSWER).unwrap_err());
             assert!(said.contains(why), "{said}");
@@ -384,12 +384,12 @@ mod tests {
     fn who_does_not_answer_is_named_with_what_to_do() {
         for (place, why) in [
             ("127.0.0.1:1", "no service answers at 127.0.0.1:1: start it"),
-            ("unix:/nowhere/operate", "there is no unix:/nowhere/operate: start the service"),
+            ("unix:/nowhere/admin.sock", "there is no unix:/nowhere/admin.sock: start the service"),
         ] {
             let said = format!("{:#}", ask(&at(place), Method::GET, "/status").unwrap_err());
             assert!(said.contains(why) && said.contains("--data") && said.contains("--admin"), "{said}");
         }
-        let closed = unreachable("unix:/d/operate", io::ErrorKind::PermissionDenied.into());
+        let closed = unreachable("unix:/d/admin.sock", io::ErrorKind::PermissionDenied.into());
         assert!(format!("{closed:#}").contains("run this as root"), "{closed:#}");
     }
 }

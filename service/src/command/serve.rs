@@ -79,7 +79,7 @@ pub struct Options {
         value_parser = place_or_off
     )]
     listen_grpc: MayBePlace,
-    /// Where operators read: HOST:PORT; and order: unix:PATH, beside it or alone [default of this: unix:DIR/operate]
+    /// Where operators read: HOST:PORT; and order: unix:PATH, beside it or alone [default of this: unix:DIR/admin.sock]
     #[arg(
         long,
         env = "TOTXEGUN_ADMIN",

@@ -69,17 +69,17 @@ pub fn place_or_off(text: &str) -> Result<MayBePlace, String> {
 /// What a socket's path stands behind.
 pub const SOCKET: &str = "unix:";
 
-/// An operator's address: `127.0.0.1:4319`, or `unix:PATH`.
+/// An admin address: `127.0.0.1:4319`, or `unix:PATH`.
 pub fn operator(text: &str) -> Result<String, String> {
     match text.strip_prefix(SOCKET) {
-        Some("") => Err("write unix:PATH, as unix:/run/totxegun/operate".to_string()),
+        Some("") => Err("write unix:PATH, as unix:/run/totxegun/admin.sock".to_string()),
         Some(_) => Ok(text.to_string()),
         None => place(text).map_err(|why| format!("{why}, or unix:PATH")),
     }
 }
 
 /// What the socket is named in the folder, unless it is elsewhere.
-const SOCKET_NAME: &str = "operate";
+pub const SOCKET_NAME: &str = "admin.sock";
 
 /// Where orders are taken, by the addresses and the folder that the service has.
 pub fn orders_at<'a>(mut operate: impl Iterator<Item = &'a str>, data: &Path) -> PathBuf {

@@ -101,7 +101,7 @@ mod tests {
     #[tokio::test]
     async fn a_socket_that_was_left_is_taken_away_and_no_other() {
         let at = tempfile::tempdir().unwrap();
-        let path = at.path().join("operate");
+        let path = at.path().join("admin.sock");
         let first = listen_at_socket(&path).await.unwrap();
         assert_eq!(std::fs::metadata(&path).unwrap().mode() & 0o777, 0o660);
         let taken = listen_at_socket(&path).await.unwrap_err();

@@ -1,4 +1,4 @@
-//! The operators' addresses: orders to the keeper, what the service says of itself, the dead letters.
+//! The admin addresses: orders to the keeper, what the service says of itself, the dead letters.
 //!
 //! Orders are taken at a socket of this machine, where the system says who may connect. The address of TCP is read, and
 //! takes orders from whoever has a token (`tcp`). What a browser sends for a page of somebody else is turned away by `web`;
@@ -91,7 +91,7 @@ pub struct Desk {
     pub begun: Instant,
 }
 
-/// A route of the operator's address.
+/// A route of the admin address.
 enum Route {
     /// Of all slots.
     Order(Command),

@@ -1,4 +1,4 @@
-//! The operators' address of TCP, which any program of the machine reaches, and a page in a browser: it is read by all, and
+//! The admin address of TCP, which any program of the machine reaches, and a page in a browser: it is read by all, and
 //! takes orders from who has a token. What holds posts up is for nobody there. Of a socket the kernel says who connects.
 
 use super::{is_met, message, Actor, Desk, OverTcp, Route};

@@ -16,7 +16,7 @@ use tokio::sync::watch;
 /// The most connections to the TCP address.
 const READERS: usize = 8;
 
-/// The operators' addresses, as they are configured.
+/// The admin addresses, as they are configured.
 #[derive(Clone)]
 pub struct Operate {
     /// Where everybody may read.

@@ -62,7 +62,7 @@ impl Running {
                     }
                 }
                 end = &mut self.intake => return cause("the intake", end.map(Ok::<(), Fault>)),
-                end = &mut self.operate => return cause("the operator's address", end.map(Ok::<(), Fault>)),
+                end = &mut self.operate => return cause("the admin address", end.map(Ok::<(), Fault>)),
                 cause = of_joined(&mut self.joined) => return cause,
             }
         }

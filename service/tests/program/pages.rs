@@ -1,4 +1,4 @@
-//! What programs may ask of the operator's address, and a web page may not.
+//! What programs may ask of the admin address, and a web page may not.
 
 use crate::support::{points, Place, Service, NO_SINK};
 use std::process::Command;

@@ -231,7 +231,7 @@ fn a_second_service_takes_nobody_s_socket() {
 #[test]
 fn a_socket_may_be_the_only_address() {
     let place = Place::new();
-    let socket = format!("unix:{}", place.folder.path().join("operate").display());
+    let socket = format!("unix:{}", place.folder.path().join("admin.sock").display());
     let mut command = Command::new(PROGRAM);
     command.args(["serve", "--listen", "127.0.0.1:0", "--listen-grpc", "off", "--admin", &socket, "--data"]);
     let mut service = command.arg(place.data()).stderr(std::process::Stdio::null()).spawn().unwrap();

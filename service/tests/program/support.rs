@@ -197,7 +197,7 @@ impl Service {
     }
 
     pub fn socket(&self) -> PathBuf {
-        self.data.join("operate")
+        self.data.join("admin.sock")
     }
 
     /// The socket, from outside of where the service runs.

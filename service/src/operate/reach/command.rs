@@ -30,7 +30,7 @@ pub struct Answer {
     pub status: u16,
     /// JSON, but for a report.
     pub body: String,
-    /// With 307: the operators' address at which the same is asked for.
+    /// With 307: the admin address at which the same is asked for.
     #[serde(default, skip_serializing_if = "Option::is_none")]
     pub location: Option<String>,
 }

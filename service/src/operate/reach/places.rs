@@ -66,7 +66,7 @@ impl Others {
         let ask = match &location {
             Some(at) => format!("ask there, at {at}"),
             None => format!(
-                "ask on its machine ({address}), since its operators' address is reached from no other: --admin can be"
+                "ask on its machine ({address}), since its admin address is reached from no other: --admin can be"
             ),
         };
         Answer { location, ..Answer::told(307, &format!("slot {slot} is at instance {name}: {ask}")) }
