@@ -59,7 +59,7 @@ struct Explanation {
     status: u16,
     answer: Option<String>,
     taken: usize,
-    foreign: usize,
+    rejected: usize,
     /// The places of points that begin before one of their series ends that is ahead of them.
     late: Vec<usize>,
     rounded: BTreeMap<String, Rounding>,
@@ -110,7 +110,7 @@ fn found(
     let prepared = otlp::prepare(encoding, body, reading).map_err(refused)?;
     let (body, profile, window) = (&prepared.body, reading.profile, clock.window());
     let points = otlp::explained(body, profile, window).context("refused with 400: wrong shape")?;
-    let foreign = points.iter().filter(|point| point.foreign.is_some()).count();
+    let rejected = points.iter().filter(|point| point.foreign.is_some()).count();
     let (outcome, late) = otlp::answered(body, profile, window).context("refused with 400: wrong shape")?;
     let outcome = with_twice(outcome, body, profile).with(&prepared.rounded);
     Ok(Explanation {
@@ -126,8 +126,8 @@ fn found(
         bytes,
         status: outcome.status(),
         answer: outcome.message(),
-        taken: points.len() - foreign - late.len(),
-        foreign,
+        taken: points.len() - rejected - late.len(),
+        rejected,
         late,
         rounded: prepared.rounded.by_rule.into_iter().collect(),
         points,
@@ -181,11 +181,11 @@ fn unpacked(body: Vec<u8>) -> anyhow::Result<(bool, Vec<u8>)> {
 fn text(found: &Explanation) -> String {
     let packing = if found.packed { ", gzip" } else { "" };
     let mut text = format!(
-        "{}{packing}, {} bytes: {} taken, {} foreign\n",
+        "{}{packing}, {} bytes: {} taken, {} rejected\n",
         found.encoding,
         found.bytes,
         counted(found.taken as u64, "point"),
-        found.foreign
+        found.rejected
     );
     if found.sender != otlp::NO_NAME {
         text.push_str(&format!("of the sender {}, where no header names another\n", found.sender));
@@ -216,7 +216,7 @@ fn text(found: &Explanation) -> String {
     let mut table = Table::new(&["", "kind", "metric", "attributes", "why"]);
     for (place, point) in found.points.iter().enumerate() {
         let said = match point.foreign {
-            Some(_) => "foreign",
+            Some(_) => "rejected",
             None if found.late.contains(&place) => "refused",
             None => "taken",
         };
@@ -243,7 +243,7 @@ mod tests {
     fn each_point_is_told_of() {
         let found = plain(BODY).unwrap();
         let text = text(&found);
-        assert!(text.starts_with("JSON, ") && text.contains("1 point taken, 1 foreign"), "{text}");
+        assert!(text.starts_with("JSON, ") && text.contains("1 point taken, 1 rejected"), "{text}");
         let lines: Vec<&str> = text.lines().collect();
         assert_eq!(
             lines[1],
@@ -272,8 +272,8 @@ mod tests {
         let explained = |fourth| plain(of(&[(0, 5), (1, 5), (2, 5), (3, 5), fourth, (5, 5)])).unwrap();
         let found = explained((1, 6));
         let told = text(&found);
-        assert_eq!((found.status, found.taken, found.foreign), (200, 5, 0));
-        assert!(told.contains("5 points taken, 0 foreign\nanswered 200: 1 point is refused: duplicate or late: point 4, frontier 9: the post has `a`"), "{told}");
+        assert_eq!((found.status, found.taken, found.rejected), (200, 5, 0));
+        assert!(told.contains("5 points taken, 0 rejected\nanswered 200: 1 point is refused: duplicate or late: point 4, frontier 9: the post has `a`"), "{told}");
         assert!(told.contains("twice over one time") && told.matches("\nrefused ").count() == 1, "{told}");
         // The second one is equal to the one ahead of it, and a duplicate; or it is of another series.
         for fourth in [(1, 5), (4, 5)] {
@@ -290,7 +290,7 @@ mod tests {
         let ahead = BODY.replace("timeUnixNano\":\"2\"", &format!("timeUnixNano\":\"{}\"", u64::MAX));
         let clock = Clock { max_ahead: Some(Duration::from_secs(600)), max_age: None };
         let told = text(&found(ahead.into(), None, &Reading::default(), &clock).unwrap());
-        assert!(told.contains("0 points taken, 2 foreign") && told.contains("d ahead"), "{told}");
+        assert!(told.contains("0 points taken, 2 rejected") && told.contains("d ahead"), "{told}");
         let old = text(&found(BODY.into(), None, &Reading::default(), &clock).unwrap());
         assert!(old.contains("1 point taken"), "{old}");
     }

@@ -113,7 +113,7 @@ pub struct Options {
     /// How long a series is kept that nobody posts to where there are too many, or `never` to forget none
     #[arg(long, env = "TOTXEGUN_SERIES_TTL", value_name = "TIME", default_value = "7d", value_parser = time_or("never"))]
     series_ttl: MayBeNone,
-    /// Writes the first N reasons why points are foreign to the log, for each sender
+    /// Writes the first N reasons why points are rejected to the log, for each sender
     #[arg(long, env = "TOTXEGUN_LOG_REJECTED", value_name = "N", default_value_t = 0, value_parser = value_parser!(u32).range(..=1000))]
     log_rejected: u32,
     /// What is meant to be left out, and so is counted by itself and not alerted on

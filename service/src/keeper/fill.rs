@@ -218,9 +218,9 @@ impl Fresh<'_> {
                 tracing::error!(
                     slot,
                     sender,
-                    foreign,
+                    rejected = foreign,
                     reason,
-                    "slot {slot}: a post of {sender} with {foreign} foreign points was taken before, and comes to {reason} now"
+                    "slot {slot}: a post of {sender} with {foreign} rejected points was taken before, and comes to {reason} now"
                 );
                 self.slot.metrics.faults.with_label_values(&["replay"]).inc();
             }

@@ -26,6 +26,7 @@ pub struct Explained {
     /// The point's attributes, for people.
     pub attributes: String,
     /// Why it is not taken; nothing where it is.
+    #[serde(rename = "rejected")]
     pub foreign: Option<String>,
     /// The same as it is counted.
     #[serde(rename = "reason")]

@@ -16,7 +16,7 @@ const PIECE: usize = 64 << 10;
 struct Line<'a> {
     sender: &'a str,
     /// How many points were not taken.
-    foreign: u64,
+    rejected: u64,
     #[serde(flatten)]
     what: What<'a>,
 }
@@ -97,8 +97,8 @@ impl Series {
             }
             Body::Points(points) => What::Points(self.points(points)?),
         };
-        let (sender, foreign) = (read.post.sender.as_str(), read.post.foreign);
-        serde_json::to_writer(&mut *text, &Line { sender, foreign, what })?;
+        let (sender, rejected) = (read.post.sender.as_str(), read.post.foreign);
+        serde_json::to_writer(&mut *text, &Line { sender, rejected, what })?;
         text.push(b'\n');
         Ok(())
     }

@@ -239,12 +239,12 @@ fn posts_are_told_by_the_names_of_their_series_and_with_their_values() -> Result
     })
     .unwrap();
     let expected = [
-        r#"{"sender":"a","foreign":2,"points":["#,
+        r#"{"sender":"a","rejected":2,"points":["#,
         r#"{"series":[[],"","",[],"m0","","monotonic",[]],"start":10,"end":20,"value":-7},"#,
         r#"{"series":[[],"","",[],"m1","",[5],[]],"start":30,"end":40,"count":3,"sum":12,"buckets":[1,2]},"#,
         r#"{"series":[[],"","",[],"m1","",[5],[]],"start":40,"end":50,"count":1,"buckets":[0,1]}]}"#,
         "\n",
-        r#"{"sender":"b","foreign":2,"body":{   "resourceMetrics": 12345678901234567890123 }}"#,
+        r#"{"sender":"b","rejected":2,"body":{   "resourceMetrics": 12345678901234567890123 }}"#,
         "\n",
     ];
     assert_eq!(String::from_utf8(lines)?, expected.concat());
