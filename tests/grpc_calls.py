@@ -105,7 +105,7 @@ def as_over_http(checks: Checks, service: Service, client: Client) -> None:
 
     def is_told() -> bool:
         with open(service.log, encoding="utf-8", errors="replace") as file:
-            return "posts of B are refused, since the series is A's" in file.read()
+            return any("the series is another sender's" in line and 'sender="B" owner="A"' in line for line in file)
     checks.true("the log names both senders", wait_until(is_told, 10), service.last_lines())
     service.order("/quarantine/A")
     checks.same("a quarantined sender is refused", ("PERMISSION_DENIED", "quarantined"), client.call(in_protobuf(one_point(2))))

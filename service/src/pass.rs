@@ -123,10 +123,10 @@ impl Pass {
             let url = self.url();
             tracing::warn!(
                 url,
+                outcome = name,
                 reason = why,
                 points,
-                "{points} points outside the profile are {name}, and not passed on to {url}: {why}; totxegun_unsupported_points_total \
-                 has how many there are"
+                "points outside the profile are not handed on; totxegun_unsupported_points_total has how many there are"
             );
         }
     }

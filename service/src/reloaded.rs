@@ -138,9 +138,9 @@ impl<T: Send + Sync + 'static> Files<T> {
         match all(contents).and_then(|contents| (self.reader.read)(&contents)) {
             Ok(new) => {
                 match (self.reader.shut)(&new) {
-                    None => tracing::info!(option, "{option} has changed, and was read anew"),
+                    None => tracing::info!(option, "the file of an option has changed, and was read anew"),
                     Some(reason) => {
-                        tracing::warn!(option, reason, "{option} has changed, and was read anew: {reason}")
+                        tracing::warn!(option, reason, "the file of an option has changed, and was read anew")
                     }
                 }
                 into.set(new);
@@ -151,7 +151,7 @@ impl<T: Send + Sync + 'static> Files<T> {
                 tracing::warn!(
                     option,
                     reason,
-                    "{option} has changed, and can't be used, so what it had before is: {reason}"
+                    "the file of an option has changed, and can't be used, so what it had before is"
                 );
             }
         }

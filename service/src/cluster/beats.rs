@@ -173,8 +173,9 @@ fn tell_clock(before: Option<i64>, now: Option<i64>) {
             let seconds = ahead as f64 / 1e6;
             tracing::error!(
                 seconds,
-                "{}: while another's is right this instance takes no slots, and hands over what it has: set it right, by NTP",
-                shown_off(ahead)
+                clock = shown_off(ahead),
+                "this instance's clock is off: while another's is right it takes no slots, and hands over what it has: set \
+                 it right, by NTP"
             );
         }
         (Some(_), None) => tracing::info!("this instance's clock is right again"),
@@ -185,7 +186,8 @@ fn tell_clock(before: Option<i64>, now: Option<i64>) {
 fn tell_cut_off(before: bool, now: bool) {
     match (before, now) {
         (false, true) => tracing::error!(
-            "most of the other instances don't reach this one at its --peer: it takes no slots, and hands over what it has, until they do"
+            "most of the other instances don't reach this one at its --peer: it takes no slots, and hands over what it has, \
+             until they do"
         ),
         (true, false) => tracing::info!("the other instances reach this one again: it takes slots"),
         _ => {}
@@ -195,8 +197,10 @@ fn tell_cut_off(before: bool, now: bool) {
 fn tell(silence: &Silence) {
     let reason = silence.to_string();
     match silence {
-        Silence::Unanswered(_) if SILENT.is_due() => tracing::warn!(reason, "{reason}"),
-        Silence::FewCopies(_) if FEW.is_due() => tracing::error!(reason, "{reason}"),
+        Silence::Unanswered(_) if SILENT.is_due() => tracing::warn!(reason, "the store does not answer"),
+        Silence::FewCopies(_) if FEW.is_due() => {
+            tracing::error!(reason, "the store has too few copies: posts get 503 until it has enough")
+        }
         _ => {}
     }
 }
@@ -215,7 +219,7 @@ impl<T: Terms, U: Units> Work<T, U> {
             Act::Release => self.release(slot, term).await,
             Act::Drop => {
                 self.cluster.counted().lost += 1;
-                tracing::warn!(slot, term, "slot {slot}: another instance has it, behind term {term}");
+                tracing::warn!(slot, term, "another instance has the slot");
                 self.units.drop_lost(slot, term).await;
             }
         }
@@ -230,7 +234,7 @@ impl<T: Terms, U: Units> Work<T, U> {
         self.cluster.owners().taken(slot, taken);
         let Some(term) = taken else { return };
         self.cluster.counted().takeovers += 1;
-        tracing::info!(slot, term, "slot {slot} is taken, under term {term}");
+        tracing::info!(slot, term, "the slot is taken");
         match self.units.open(slot, term).await {
             Ok(()) => {
                 if !self.cluster.owners().opened(slot, term) {
@@ -248,7 +252,7 @@ impl<T: Terms, U: Units> Work<T, U> {
         self.units.hand_over(slot, term).await;
         self.release(slot, term).await;
         self.cluster.counted().hand_overs += 1;
-        tracing::info!(slot, term, "slot {slot} is handed over, behind term {term}");
+        tracing::info!(slot, term, "the slot is handed over");
         self.cluster.owners().released(slot, term)
     }
 
@@ -256,7 +260,9 @@ impl<T: Terms, U: Units> Work<T, U> {
     /// there.
     async fn forget(&self, name: &str, beat: u64) {
         match self.terms.forget(name, beat).await {
-            Ok(true) => tracing::info!(name, "instance {name} has not come back for a day: it is forgotten"),
+            Ok(true) => {
+                tracing::info!(instance = name, "an instance has not come back for a day: it is forgotten")
+            }
             Ok(false) => {}
             Err(silence) => tell(&silence),
         }

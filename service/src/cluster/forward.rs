@@ -204,7 +204,7 @@ impl<H: Here> Forward<H> {
         };
         if peer.is_silent(came, &reason) && TOLD.is_due() {
             let address = peer.address.as_str();
-            tracing::warn!(address, reason, "the instance at {address} has not answered for 10 s: {reason}");
+            tracing::warn!(address, reason, "an instance has not answered for 10 s");
         }
         Some(Reason::OwnerSilent.into())
     }

@@ -150,7 +150,7 @@ impl Cluster {
             true => "another instance takes it",
             false => "no other instance is left that could, so it is tried again",
         };
-        tracing::error!(slot, reason, "slot {slot} can't be kept open here, {then}: {reason}");
+        tracing::error!(slot, then, reason, "the slot can't be kept open here");
         self.publish();
     }
 

@@ -1,6 +1,6 @@
 //! Options of the book: how many series fit, and the memory that it may have.
 
-use super::values::{bytes_shown, size_from};
+use super::values::size_from;
 use crate::core;
 use clap::{value_parser, Args};
 use std::path::Path;
@@ -22,7 +22,7 @@ pub struct OfBook {
 impl OfBook {
     pub fn memory(&self) -> u64 {
         let most = self.max_memory.unwrap_or_else(|| (machine_memory() / 2).max(LEAST_MEMORY));
-        tracing::info!("the book has {} of memory at most", bytes_shown(most));
+        tracing::info!(memory_limit_bytes = most as u64, "the book has so much memory at most");
         most
     }
 }

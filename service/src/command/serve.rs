@@ -239,8 +239,11 @@ impl Options {
         let wanted = u64::from(self.max_connections);
         if most < wanted {
             tracing::warn!(
-                "this process may have {most_files} open files, so senders may have {most} connections at a time and not \
-                 {wanted}: raise its limit (`LimitNOFILE` of systemd, `ulimit -Hn`), or lower --max-connections"
+                open_files = most_files,
+                connections = most,
+                wanted,
+                "this process may have too few open files, so senders may have fewer connections at a time: raise its limit \
+                 (`LimitNOFILE` of systemd, `ulimit -Hn`), or lower --max-connections"
             );
         }
         most.min(wanted) as usize

@@ -111,8 +111,7 @@ impl Folder {
                     tracing::warn!(
                         folder = %path.display(),
                         epoch,
-                        "{} was copied or put back, so its epoch is {epoch} now",
-                        path.display()
+                        "the folder was copied or put back, so it has another epoch now"
                     );
                 }
             }

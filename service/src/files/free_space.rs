@@ -141,10 +141,7 @@ impl FreeSpace {
             }
             Err(error) => {
                 let reason = error.to_string();
-                tracing::error!(
-                    reason,
-                    "the disk can't be asked for its room, so posts are refused: {reason}"
-                );
+                tracing::error!(reason, "the disk can't be asked for its room, so posts are refused");
                 0
             }
         };
@@ -160,11 +157,9 @@ impl FreeSpace {
             true => tracing::warn!(
                 free_bytes = free,
                 kept_bytes = kept,
-                files,
-                "the disk has {} MiB free and room for {files} files: {} MiB and {FILES} files are kept to deliver what was \
-                 taken, so posts get 503 until there is more",
-                free >> 20,
-                kept >> 20
+                free_files = files,
+                kept_files = FILES,
+                "the disk is nearly full: room is kept to deliver what was taken, so posts get 503 until there is more"
             ),
             false => tracing::info!("the disk has room again: posts are taken"),
         }

@@ -69,7 +69,7 @@ async fn accepted<L: Listener>(
             Err(error) => {
                 if TOLD.is_due() {
                     let reason = error.to_string();
-                    tracing::warn!(reason, "no connection could be accepted: {reason}");
+                    tracing::warn!(reason, "no connection could be accepted");
                 }
                 tokio::time::sleep(NO_CONNECTION).await;
             }

@@ -127,7 +127,8 @@ impl ConnectionPermits {
             tracing::warn!(
                 address,
                 connections = most,
-                "all {most} connections are taken that {address} may have: each further one waits until the longest idle one is closed"
+                "all connections are taken that the address may have: each further one waits until the longest idle one is \
+                 closed"
             );
         }
         self.has_waiter.store(true, Relaxed);

@@ -103,12 +103,7 @@ fn written(slot: &Slot, flushed: &mut Flushed) -> Result<Vec<Vec<u8>>, Trouble> 
 fn tell_put_off(slot: &Slot, tries: u32, refused: Refused) {
     let (number, reason) = (slot.number(), refused.to_string());
     slot.metrics.checkpoints.with_label_values(&["failed"]).inc();
-    tracing::error!(
-        slot = number,
-        tries,
-        reason,
-        "slot {number}: a checkpoint is put off for the {tries}. time: {reason}"
-    );
+    tracing::error!(slot = number, tries, reason, "a checkpoint is put off");
 }
 
 /// Flushes everything at once and serialises it without the lock.
@@ -195,7 +190,7 @@ fn tell_unowned(slot: &Slot, (count, one): (usize, Option<SeriesKey>)) {
             slot,
             series_count = count,
             series,
-            "slot {slot}: {count} series were forwarded and are in no post, such as {series}"
+            "series were forwarded and are in no post: one of them is named"
         );
     }
 }

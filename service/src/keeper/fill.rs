@@ -220,7 +220,7 @@ impl Fresh<'_> {
                     sender,
                     rejected = foreign,
                     reason,
-                    "slot {slot}: a post of {sender} with {foreign} rejected points was taken before, and comes to {reason} now"
+                    "a post that was taken before comes to something else now"
                 );
                 self.slot.metrics.faults.with_label_values(&["replay"]).inc();
             }
@@ -260,7 +260,7 @@ impl Fresh<'_> {
         if self.shown.elapsed() >= PROGRESS {
             self.shown = Instant::now();
             let (slot, posts) = (self.slot.number(), self.filled.posts);
-            tracing::info!(slot, posts, "slot {slot}: the book has {posts} posts of the journal so far");
+            tracing::info!(slot, posts, "the book has so many posts of the journal so far");
         }
     }
 }

@@ -36,18 +36,12 @@ impl Keeper {
         let done = self.renew(move |slot| forget_series(slot, age)).await?;
         let slot = self.slot.number();
         match done {
-            Ok(forgotten) => tracing::info!(
-                slot,
-                series_count = forgotten,
-                "slot {slot}: {forgotten} series are forgotten for their age"
-            ),
+            Ok(forgotten) => {
+                tracing::info!(slot, series_count = forgotten, "series are forgotten for their age")
+            }
             Err(refused) => {
                 let reason = refused.to_string();
-                tracing::error!(
-                    slot,
-                    reason,
-                    "slot {slot}: series were to be forgotten, and the book stays as it is: {reason}"
-                );
+                tracing::error!(slot, reason, "series were to be forgotten, and the book stays as it is");
             }
         }
         Ok(())

@@ -35,7 +35,7 @@ impl Keeper {
             Err(Trouble::Lost(_)) => {
                 self.slot.lose();
                 let slot = self.slot.number();
-                tracing::warn!(slot, "slot {slot} is another instance's: it ends here");
+                tracing::warn!(slot, "the slot is another instance's: it ends here");
             }
             _ => self.slot.stop(),
         }
@@ -106,12 +106,7 @@ impl Keeper {
         let took = began.elapsed();
         self.slot.metrics.last_recovery.set(took.as_secs_f64());
         let (slot, series) = (self.slot.number(), self.slot.outbox.series_count());
-        tracing::info!(
-            slot,
-            series_count = series,
-            posts,
-            "slot {slot} goes on after {took:?}; series: {series}, posts of the journal: {posts}"
-        );
+        tracing::info!(slot, seconds = took.as_secs_f64(), series_count = series, posts, "the slot goes on");
         tell_ahead(&self.slot);
         Ok(true)
     }
@@ -177,14 +172,13 @@ impl Keeper {
         let journal = &self.slot.journal;
         journal.durable(journal.now()).await?;
         match flushed {
-            Ok(_) => tracing::info!(slot, "slot {slot}: all that was taken is in the outbox"),
+            Ok(_) => tracing::info!(slot, "all that was taken is in the outbox"),
             Err(refused) => {
                 let reason = refused.to_string();
                 tracing::warn!(
                     slot,
                     reason,
-                    "slot {slot}: the last flush did not come to its end: {reason}. Nothing is lost: the next start puts in \
-                     what the journal has"
+                    "the last flush did not come to its end. Nothing is lost: the next start puts in what the journal has"
                 );
             }
         }
@@ -202,8 +196,8 @@ fn tell_ahead(slot: &Slot) {
             slot,
             series_count,
             series,
-            "slot {slot}: {series_count} series end over an hour ahead of this clock, such as {series}: until then right points of \
-             them are refused; totxegun rewind puts their ends back"
+            "series end over an hour ahead of this clock: until then right points of them are refused; totxegun rewind puts \
+             their ends back"
         );
     }
 }

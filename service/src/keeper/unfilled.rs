@@ -17,7 +17,7 @@ impl Keeper {
     ) -> Result<(), Trouble> {
         self.slot.stay_unfilled();
         let slot = self.slot.number();
-        tracing::error!(slot, why, "slot {slot} takes no posts until the service is started anew: {why}");
+        tracing::error!(slot, reason = why, "the slot takes no posts until the service is started anew");
         loop {
             tokio::select! {
                 biased;

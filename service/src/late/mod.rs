@@ -133,11 +133,7 @@ impl Writer {
     fn warn(&self, error: &io::Error) {
         if self.rate_limit.is_due() {
             let (folder, reason) = (self.segments.folder().display().to_string(), error.to_string());
-            tracing::warn!(
-                folder,
-                reason,
-                "late data can't be written to {folder}, so it is not kept: {reason}; posts go on"
-            );
+            tracing::warn!(folder, reason, "late data can't be written, so it is not kept; posts go on");
         }
     }
 }

@@ -13,9 +13,6 @@ use tracing_subscriber::layer::{Context, Layer};
 /// The environment variable by which journald names the device and the inode that it reads as standard error.
 const JOURNAL: &str = "JOURNAL_STREAM";
 
-/// Targets that begin like this have their fields in their text already.
-const OURS: &str = "totxegun";
-
 /// The name that `tracing` gives to a line's text.
 const TEXT: &str = "message";
 
@@ -39,7 +36,9 @@ impl Form {
     fn event(self, level: Level, said: &Said) -> String {
         match self.is_json {
             true => self.object(level, &said.text, &said.fields),
-            false => self.lines(level, &format!("{} {level:>5} {}", now(), all_shown(&said.text))),
+            false => {
+                self.lines(level, &format!("{} {level:>5} {}{}", now(), all_shown(&said.text), said.shown()))
+            }
         }
     }
 
@@ -95,9 +94,6 @@ impl<S: Subscriber> Layer<S> for Events {
     fn on_event(&self, event: &Event<'_>, _: Context<'_, S>) {
         let mut said = Said::default();
         event.record(&mut said);
-        if !event.metadata().target().starts_with(OURS) {
-            said.tell_fields();
-        }
         let line = self.0.form.event(*event.metadata().level(), &said);
         self.0.put(line.as_bytes());
     }
@@ -119,11 +115,9 @@ impl Said {
         }
     }
 
-    /// Appends the fields to the text of a library's event, which does not contain them.
-    fn tell_fields(&mut self) {
-        for (name, value) in &self.fields {
-            self.text += &format!(" {name}={value}");
-        }
+    /// The fields, as people read them after the text.
+    fn shown(&self) -> String {
+        self.fields.iter().map(|(name, value)| format!(" {name}={value}")).collect()
     }
 }
 
@@ -163,7 +157,7 @@ mod tests {
         let registry = tracing_subscriber::registry().with(Events(log.clone()));
         tracing::subscriber::with_default(registry, || {
             let (sender, reason) = ("a", "x\u{1b}[2J \"y\"");
-            tracing::warn!(sender, reason, points = 7, "points of {sender}\n<3>are not taken: {reason}");
+            tracing::warn!(sender, reason, points = 7, "points are\n<3>not taken");
             tracing::error!(target: "h2::codec", stream = 5, "lost");
         });
         let text = String::from_utf8(locked(&log.state).waiting.text.clone()).unwrap();
@@ -175,7 +169,8 @@ mod tests {
         let text = written(false, false);
         let lines: Vec<&str> = text.lines().collect();
         assert_eq!(lines.len(), 2, "{text}");
-        assert!(lines[0].ends_with("Z  WARN points of a <3>are not taken: x [2J \"y\""), "{text}");
+        let fields = r#" sender="a" reason="x [2J \"y\"" points=7"#;
+        assert!(lines[0].ends_with(&format!("Z  WARN points are <3>not taken{fields}")), "{text}");
         assert!(lines[1].ends_with("Z ERROR lost stream=5"), "{text}");
     }
 
@@ -186,7 +181,7 @@ mod tests {
         let [warning, error] = text.lines().map(read).collect::<Vec<Value>>().try_into().unwrap();
         assert!(text.starts_with("{\"ts\":\"20"), "{text}");
         assert_eq!(warning["level"], "WARN");
-        assert_eq!(warning["msg"], "points of a <3>are not taken: x [2J \"y\"");
+        assert_eq!(warning["msg"], "points are <3>not taken");
         assert_eq!(warning["sender"], "a");
         assert_eq!(warning["reason"], "x [2J \"y\"");
         assert_eq!(warning["points"], 7);

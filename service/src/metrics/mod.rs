@@ -281,7 +281,7 @@ impl Metrics {
         let mut page = Vec::new();
         if let Err(error) = TextEncoder::new().encode(&self.registry.gather(), &mut page) {
             let reason = error.to_string();
-            tracing::warn!(reason, "the metrics page is not whole: {reason}");
+            tracing::warn!(reason, "the metrics page is not whole");
         }
         page
     }

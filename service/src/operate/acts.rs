@@ -154,16 +154,9 @@ impl Acts {
     /// It was carried out, or not, for this reason.
     pub fn ended(&self, act: &Act, outcome: &str) {
         let Act { who, asked: Asked { what, of, given } } = act;
-        let (outcome, given) = (all_shown(cut(outcome, SHOWN)), given.join(" "));
-        let beside = if given.is_empty() { "" } else { " " };
-        tracing::info!(
-            who,
-            action = what,
-            target = of,
-            args = given,
-            outcome,
-            "{what} {of}{beside}{given}, by {who}: {outcome}"
-        );
+        let outcome = all_shown(cut(outcome, SHOWN));
+        let args = (!given.is_empty()).then(|| given.join(" "));
+        tracing::info!(who, action = what, target = of, args, outcome, "an operator's order has ended");
         self.put(act, Some(&outcome));
     }
 
@@ -173,7 +166,7 @@ impl Acts {
         let _one = locked(&self.file);
         if let Err(error) = self.append(&line, outcome.is_none()) {
             let (file, reason) = (self.folder.join(NAME).display().to_string(), error.to_string());
-            tracing::warn!(file, reason, "{file} can't be written: {reason}");
+            tracing::warn!(file, reason, "what operators do can't be written down");
         }
     }
 

@@ -84,7 +84,7 @@ impl Desk {
         let (reason, later) = match self.sink.deliver(&request).await {
             Fate::Taken => {
                 of_dead(unit, key, |dead, key| dead.end(key, Became::Taken)).await?;
-                tracing::info!(key, "the sink has taken {key}, which was put aside");
+                tracing::info!(key, "the sink has taken a dead letter");
                 (None, false)
             }
             Fate::TakenPartly { rejected, reason, left } => {
@@ -185,7 +185,7 @@ fn forwarded(name: &str, body: Vec<u8>) -> Option<Forwarded> {
 fn answered(done: Result<Answer, Fault>) -> Answer {
     done.unwrap_or_else(|fault| {
         let reason = fault.to_string();
-        tracing::warn!(reason, "dead-letters/: {reason}");
+        tracing::warn!(reason, "a dead letter can't be read or written");
         Answer::told(500, &reason)
     })
 }

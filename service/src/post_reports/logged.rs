@@ -1,6 +1,6 @@
 //! Log lines about posts and points that were not taken: one an hour for each sender and reason.
 
-use super::texts::{metric, not_taken, other_writer, reason, SERIES_SHOWN};
+use super::texts::{metric, not_taken, reason, SERIES_SHOWN};
 use super::{Owner, Reporter};
 use crate::log::{shown, OnceAnHour};
 use crate::otlp::series::SeriesKey;
@@ -63,7 +63,7 @@ impl Reporter {
         let status = outcome.status();
         if status < 500 && locked(&self.logged).refusals.is_due(&(sender.to_string(), reason)) {
             let (answer, reason) = (shown(message, ANSWER_SHOWN), reason.label());
-            tracing::warn!(sender, reason, status, "a post of {sender} is refused with {status}: {answer}");
+            tracing::warn!(sender, reason, status, answer, "a post is refused");
         }
     }
 
@@ -95,7 +95,7 @@ impl Reporter {
             let told = not_taken(reason, points, first, off);
             self.activity.note_rejected(sender, reason, first.map(|point| &*point.metric));
             let (reason, metric) = (reason.label(), first.map(metric));
-            tracing::warn!(sender, reason, points, metric, "points of {sender} are not taken: {told}");
+            tracing::warn!(sender, reason, points, metric, told, "points are not taken");
         }
     }
 
@@ -107,12 +107,7 @@ impl Reporter {
         for (points, why) in parts {
             if locked(&self.logged).refusals.is_due(&(sender.to_string(), why.reason)) {
                 let (answer, reason) = (shown(&why.message, ANSWER_SHOWN), why.reason.label());
-                tracing::warn!(
-                    sender,
-                    reason,
-                    points,
-                    "{points} points of a post of {sender} are refused: {answer}"
-                );
+                tracing::warn!(sender, reason, points, answer, "points of a post are refused");
             }
         }
     }
@@ -147,7 +142,7 @@ impl Reporter {
             }
             let (told, reason) = (reason(&point), point.cause.map(Reason::label));
             if reasons.insert(told.clone()) {
-                tracing::warn!(sender, reason, "points of {sender} are not taken: {told}");
+                tracing::warn!(sender, reason, told, "a point is not taken");
             }
             reasons.len() >= self.options.now().log_rejected
         });
@@ -166,8 +161,13 @@ impl Reporter {
             return;
         };
         if locked(&self.logged).series.is_due(&series) {
-            let line = other_writer(sender, &owner, &series);
-            tracing::warn!(sender, owner, series = shown(&series.0, SERIES_SHOWN), "{line}");
+            tracing::warn!(
+                sender,
+                owner,
+                series = shown(&series.0, SERIES_SHOWN),
+                "posts are refused, since the series is another sender's: give each process a name and a \
+                 service.instance.id of its own"
+            );
         }
     }
 }

@@ -4,6 +4,7 @@ use super::logged::*;
 use super::texts::*;
 use super::*;
 use crate::core::Refused;
+use crate::log::shown;
 use crate::otlp::{Clock, OffClock};
 use crate::work::locked;
 use bytes::Bytes;
@@ -87,12 +88,9 @@ async fn what_is_told_of_a_point_is_one_short_line() {
 #[test]
 fn what_is_told_of_another_s_series_is_one_short_line() {
     let key = SeriesKey(format!("[[],\"\u{7f}\u{9b}2J{}\"]", "x".repeat(60_000)).into());
-    let line = other_writer("b", "a", &key);
-    assert!(
-        line.starts_with("posts of b are refused, since the series is a's:") && line.len() < 2200,
-        "{line}"
-    );
-    assert!(line.contains("[[],\"  2Jxx") && !line.contains(char::is_control), "{line}");
+    let series = shown(&key.0, SERIES_SHOWN);
+    assert!(series.len() < 2100 && series.starts_with("[[],\"  2Jxx"), "{series}");
+    assert!(!series.contains(char::is_control), "{series}");
 }
 
 #[tokio::test]

@@ -1,7 +1,6 @@
 //! The texts about points that are not taken, and about series of other senders.
 
 use crate::log::{all_shown, cut, of_nanoseconds, shown};
-use crate::otlp::series::SeriesKey;
 use crate::otlp::{point_at, second_at, Causes, Explained, OffClock, Profile, Reason};
 
 /// How much is shown of a metric's name, and of a series' key, in characters.
@@ -92,13 +91,4 @@ pub(crate) fn named(point: &Explained) -> String {
     let name = shown(&point.metric, NAME_SHOWN);
     let attributes = shown(&point.attributes, ATTRIBUTES_SHOWN);
     format!("`{name}` {{{attributes}}}")
-}
-
-/// That a sender posts to another sender's series, in one line.
-pub(super) fn other_writer(sender: &str, owner: &str, series: &SeriesKey) -> String {
-    let series = shown(&series.0, SERIES_SHOWN);
-    format!(
-        "posts of {sender} are refused, since the series is {owner}'s: give each process a name and a \
-         service.instance.id of its own. The series is {series}"
-    )
 }

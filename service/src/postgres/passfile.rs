@@ -23,7 +23,10 @@ pub(super) fn password(config: &Config, named: Option<&Path>) -> Option<String> 
     if about.mode() & 0o077 != 0 {
         TOLD.call_once(|| {
             let file = file.display();
-            tracing::warn!("{file} has passwords, and others than its owner may read it, so it is not used: `chmod 0600 {file}`");
+            tracing::warn!(
+                %file,
+                "the file has passwords, and others than its owner may read it, so it is not used: `chmod 0600` it"
+            );
         });
         return None;
     }

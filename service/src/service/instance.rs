@@ -226,11 +226,7 @@ impl terms::Units for Instance {
         Box::pin(async move {
             if let Err(ended) = self.units.hand_over(slot).await {
                 let reason = ended.to_string();
-                tracing::warn!(
-                    slot,
-                    reason,
-                    "slot {slot}: its last checkpoint is left to its next owner: {reason}"
-                );
+                tracing::warn!(slot, reason, "the slot's last checkpoint is left to its next owner");
             }
             self.forget(slot, Some(term));
         })

@@ -176,9 +176,13 @@ pub async fn run(settings: Settings) -> Result<(), Ended> {
     };
     let settings = Arc::new(settings);
     let (place, sink) = (settings.place(), parts.sink.name());
-    tracing::info!(place, sink, "data in {place}, sink {sink}");
+    tracing::info!(place, sink, "where data is kept, and the sink");
     tracing::info!("{}", settings.door);
-    tracing::info!("senders post to {}, operators {}", senders.shown(), operators.shown());
+    tracing::info!(
+        senders = senders.shown(),
+        operators = operators.shown(),
+        "senders post, and operators ask"
+    );
     let mut running = parts.start(&settings, senders, operators).await?;
     units.get_or_init(|| running.at_work.units().clone());
     let reloading = tokio::spawn(reload(hangup, settings, running.live.clone()));
@@ -263,6 +267,6 @@ impl Signals {
             _ = self.terminate.recv() => "SIGTERM",
             _ = self.interrupt.recv() => "SIGINT",
         };
-        tracing::info!("{name}: ending");
+        tracing::info!(signal = name, "ending");
     }
 }

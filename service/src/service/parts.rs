@@ -134,7 +134,7 @@ impl Parts {
         });
         let of_operators = Limits { connections: OPERATORS, ..limits(settings) };
         if let Some(pass) = &settings.pass {
-            tracing::info!("points outside the profile are passed on to {}", pass.url());
+            tracing::info!(url = pass.url(), "points outside the profile are handed on");
             tokio::spawn(pass.clone().run());
         }
         let reading = Arc::new(settings.reading.clone());

@@ -110,10 +110,12 @@ impl Remembered {
         self.place.set_sink(now.clone())?;
         if let (Some(act), Some(left)) = (act, left) {
             let waiting = self.place.waiting();
-            let shown = waiting.map_or(String::new(), |waiting| format!(" ({waiting})"));
             tracing::warn!(
-                "--new-sink: from here on all goes into {now}, also the requests that wait{shown}; {left} keeps what it has \
-                 taken"
+                sink = %now,
+                former = %left,
+                waiting,
+                "--new-sink: from here on all goes into this sink, also the requests that wait; the former one keeps what \
+                 it has taken"
             );
             let waited =
                 waiting.map_or(String::new(), |waiting| format!("; requests that waited: {waiting}"));

@@ -246,9 +246,8 @@ impl Shares {
         let (series_count, most) = (self.counted.all(), self.rules.get().map_or(0, |rules| rules.max_series));
         tracing::warn!(
             series_count,
-            most,
-            "posts with new series are refused: there are {series_count} series, and --max-series is {most}; shorten \
-             --series-ttl, drop an attribute, or raise --max-series"
+            max_series = most,
+            "posts with new series are refused: shorten --series-ttl, drop an attribute, or raise --max-series"
         );
     }
 

@@ -198,13 +198,13 @@ impl<S: Store> Run<S> {
             "for {seconds} s the store has not said in time that the slot is still this instance's, so nothing is sent: it is slow, \
              or away"
         );
-        tracing::warn!(slot, reason, "slot {slot}: {reason}");
+        tracing::warn!(slot, reason, "nothing is sent");
         let before = locked(&self.attempts.state).trouble.replace(reason);
         sure.await??;
         locked(&self.attempts.state).trouble = before;
         tracing::info!(
             slot,
-            "slot {slot}: the store says in time that it is this instance's: requests are sent again"
+            "the store says in time that the slot is this instance's: requests are sent again"
         );
         Ok(())
     }
@@ -217,7 +217,11 @@ impl<S: Store> Run<S> {
                 let full = format!(
                     "the disk has no room to keep {key} in dead-letters/, which the sink refused: {reason}"
                 );
-                tracing::warn!(key, reason = full, "{full}; nothing is sent until there is more");
+                tracing::warn!(
+                    key,
+                    reason = full,
+                    "the disk has no room for a dead letter: nothing is sent until there is more"
+                );
                 before = Some(locked(&self.attempts.state).trouble.replace(full));
             }
             self.unless_stopped(tokio::time::sleep(ROOM)).await?;
@@ -234,7 +238,7 @@ impl<S: Store> Run<S> {
             sink,
             key,
             reason,
-            "{sink} refused request {key} for good: {reason}; it is kept in dead-letters/"
+            "the sink refused a request for good: it is kept in dead-letters/"
         );
         self.keep(&key, reason, request.body).await?;
         self.ended("refused");
@@ -280,8 +284,9 @@ impl<S: Store> Run<S> {
         tracing::warn!(
             sink,
             key,
+            rejected,
             reason,
-            "{sink} took request {key} but rejected {rejected} of its points: {reason}; it is kept in dead-letters/"
+            "the sink took a request but rejected points of it: it is kept in dead-letters/"
         );
         let reason = of_part(rejected, &reason, left.is_some());
         let left = left.unwrap_or_else(|| request.body.clone());
@@ -299,12 +304,7 @@ impl<S: Store> Run<S> {
         state.tries += 1;
         if state.trouble.is_none() {
             let sink = self.sink.name();
-            tracing::warn!(
-                sink,
-                key,
-                reason,
-                "{sink} has not taken request {key}: {reason}; it is sent again"
-            );
+            tracing::warn!(sink, key, reason, "the sink has not taken a request: it is sent again");
         }
         state.trouble = Some(reason);
         state.tries
@@ -315,7 +315,7 @@ impl<S: Store> Run<S> {
         let mut state = locked(&self.attempts.state);
         if state.trouble.is_some() {
             let (sink, tries) = (self.sink.name(), state.tries);
-            tracing::info!(sink, tries, "{sink} answers again; attempts that failed: {tries}");
+            tracing::info!(sink, tries, "the sink answers again");
         }
         *state = Delivery::default();
     }

@@ -320,9 +320,9 @@ impl Slot {
                 series,
                 value,
                 series_count,
-                untold,
-                "what {sender} had counted before its first point here is left out of {series_count} series, such as {value} of \
-                 {series}; {untold} more were left out after the line before this"
+                more_series = untold,
+                "what a sender had counted before its first point here is left out: of so many series, of which one is \
+                 named; more were left out after the line before this"
             );
         }
     }

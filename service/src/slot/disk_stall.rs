@@ -23,10 +23,12 @@ impl Slot {
             let disk = if self.journal.is_in_store() { "store" } else { "disk" };
             match stalls {
                 true => tracing::error!(
-                    "the {disk} has not answered a call for {PATIENCE:?}, so posts get 503 until it does; what was taken is \
-                     not lost"
+                    disk,
+                    seconds = PATIENCE.as_secs(),
+                    "the disk has not answered a call for so long, so posts get 503 until it does; what was taken is not \
+                     lost"
                 ),
-                false => tracing::info!("the {disk} answers again: posts are taken"),
+                false => tracing::info!(disk, "the disk answers again: posts are taken"),
             }
         }
         !stalls

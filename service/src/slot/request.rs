@@ -189,7 +189,7 @@ impl Slot {
             tracing::info!(
                 sender,
                 points,
-                "{points} points of a post of {sender} were taken before: they are left out, and it is answered as the first time"
+                "points of a post were taken before: they are left out, and it is answered as the first time"
             );
         }
     }

@@ -64,7 +64,7 @@ impl Tls {
             Some(Err(error)) => {
                 if TOLD.is_due() {
                     let reason = why(&error, self.certificate);
-                    tracing::warn!(peer, reason, "a TLS handshake with {peer} has failed: {reason}");
+                    tracing::warn!(peer, reason, "a TLS handshake has failed");
                 }
                 ("failed", None)
             }

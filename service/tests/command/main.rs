@@ -210,8 +210,7 @@ fn few_open_files_are_few_connections() {
     for (more, connections) in [(" --listen-grpc off", 808), ("", 404)] {
         let output = Command::new("sh").args(["-c", &format!("{line}{more}")]).output();
         let text = String::from_utf8_lossy(&output.unwrap().stderr).into_owned();
-        let told =
-            format!("1000 open files, so senders may have {connections} connections at a time and not 1024");
+        let told = format!("lower --max-connections open_files=1000 connections={connections} wanted=1024");
         assert!(text.contains(&told), "{more}: {text}");
     }
 }

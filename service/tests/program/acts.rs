@@ -48,8 +48,11 @@ fn who_did_what_and_what_came_of_it() {
     assert_eq!(found, wanted);
     assert!(acts.iter().all(|act| act["who"] == who.as_str()), "{text}");
     let log = place.log();
-    assert!(log.contains(&format!("quarantine A, by {who}: done")), "{log}");
-    assert!(!log.contains("flush, by"), "{log}");
+    assert!(
+        log.contains(&format!("who=\"{who}\" action=\"quarantine\" target=\"A\" outcome=\"done\"")),
+        "{log}"
+    );
+    assert!(!log.contains("action=\"flush\""), "{log}");
 }
 
 #[test]

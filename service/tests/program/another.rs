@@ -18,7 +18,7 @@ fn a_lost_setting_delivers_nothing_into_another_sink() {
     let service = place.serve_into_another();
     service.drain();
     assert_eq!(service.end(), Some(0));
-    assert!(place.log().contains("--new-sink: from here on all goes into sqlite "));
+    assert!(place.log().contains("--new-sink: from here on all goes into this sink"));
     assert_eq!(place.totals(), [("a".to_string(), 5)].into());
     assert_eq!(place.serve().end(), Some(0));
 }

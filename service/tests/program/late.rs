@@ -85,7 +85,7 @@ fn late_data_that_can_t_be_written_ends_nothing() {
     let page = "totxegun_late_points_total{outcome=\"not_kept\"} 1";
     until("it is counted", || service.metrics().contains(page));
     assert_eq!(service.post("shop", &points(&["a"], 300, 5)).unwrap().0, 200);
-    assert!(place.log().contains("late data can't be written to"), "{}", place.log());
+    assert!(place.log().contains("late data can't be written"), "{}", place.log());
     service.has_no_fault();
     assert_eq!(service.end(), Some(0));
 }

@@ -158,13 +158,13 @@ fn told_in_json(place: &Place) -> (PathBuf, Vec<Value>) {
     (file, lines.collect())
 }
 
-/// A line of each level, beside its text.
+/// A line of each level: its text is the same for all values.
 #[test]
 fn what_a_line_of_json_names_is_in_its_fields() {
     let place = Place::new();
     let (file, lines) = told_in_json(&place);
     let line = |part: &str| lines.iter().find(|line| line["msg"].as_str().unwrap().contains(part)).unwrap();
-    let begun = line(" goes on after ");
+    let begun = line(" goes on");
     assert_eq!(begun["level"], "INFO");
     assert_eq!(begun["slot"], 0);
     assert_eq!(begun["series_count"], 1);
@@ -172,11 +172,10 @@ fn what_a_line_of_json_names_is_in_its_fields() {
     let copied = line(" was copied or put back");
     assert_eq!(copied["level"], "WARN");
     assert_eq!(copied["folder"], place.data().to_str().unwrap());
-    assert!(copied["msg"].as_str().unwrap().contains(copied["epoch"].as_str().unwrap()));
-    let stopped = line("the delivery of ");
+    assert!(copied["epoch"].is_string(), "{copied}");
+    let stopped = line("the delivery stops");
     assert_eq!(stopped["level"], "ERROR");
     assert_eq!(stopped["folder"], place.data().join("slot-0/outbox").to_str().unwrap());
     let reason = stopped["reason"].as_str().unwrap();
     assert!(reason.contains(file.to_str().unwrap()), "{reason}");
-    assert!(stopped["msg"].as_str().unwrap().ends_with(reason));
 }

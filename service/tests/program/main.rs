@@ -135,7 +135,7 @@ fn there_are_no_more_series_than_may_be() {
     }
     let refused = post(&names[1_990..2_010], 110);
     assert!(refused.0 == 503 && refused.1.contains("too many series"), "{refused:?}");
-    until("the log says that it is met", || place.log().contains("--max-series is 2000"));
+    until("the log says that it is met", || place.log().contains("max_series=2000"));
     for end in [110, 120] {
         assert_eq!(post(&names[..2_000], end).0, 200, "what is there goes on");
         service.drain();

@@ -39,7 +39,13 @@ fn nothing_is_lost_while_settings_change() {
         let points = 1_000_000 + time;
         write(&path, &format!("log-level = \"info\"\nsender-points = {points}\n"));
         signal(service.pid(), "HUP");
-        until("it is read", || place.log().matches("SIGHUP: sender-points changed").count() > time);
+        until("it is read", || {
+            place
+                .log()
+                .matches("SIGHUP: settings changed, and count from now on settings=\"sender-points\"")
+                .count()
+                > time
+        });
     }
     STOP.store(true, Relaxed);
     let taken = senders.map(|sender| sender.join().unwrap());
@@ -62,8 +68,8 @@ fn what_needs_a_restart_is_named_and_a_fault_changes_nothing() {
         signal(service.pid(), "HUP");
         until(wanted, || place.log().contains(wanted));
     };
-    said("threads = 3\nkeep-hours = \"7d\"\n", "SIGHUP: keep-hours, threads changed, which needs a restart");
-    said("threads = 2\nsender-points = 1\n", "SIGHUP: sender-points changed, and count from now on");
+    said("threads = 3\nkeep-hours = \"7d\"\n", "systemctl restart totxegun settings=\"keep-hours, threads\"");
+    said("threads = 2\nsender-points = 1\n", "count from now on settings=\"sender-points\"");
     // A minute's at once.
     let many = |time: u64| {
         asked(&service.listen, "POST", "/v1/metrics", "a", &points(&["a"], 20 + 10 * time, 1)).unwrap().0

@@ -32,7 +32,7 @@ pub fn reload(
         Err(why) => {
             stale.set(1);
             let reason = why.to_string();
-            tracing::warn!(reason, "SIGHUP: the settings can't be used, and stay as they were: {reason}");
+            tracing::warn!(reason, "SIGHUP: the settings can't be used, and stay as they were");
             None
         }
     }))
@@ -59,13 +59,14 @@ fn tell(live: &[String], fixed: &[String]) {
     }
     if !live.is_empty() {
         let settings = live.join(", ");
-        tracing::info!(settings, "SIGHUP: {settings} changed, and count from now on");
+        tracing::info!(settings, "SIGHUP: settings changed, and count from now on");
     }
     if !fixed.is_empty() {
         let settings = fixed.join(", ");
         tracing::warn!(
             settings,
-            "SIGHUP: {settings} changed, which needs a restart: if totxegun config check finds no fault, systemctl restart totxegun"
+            "SIGHUP: settings changed that need a restart: if totxegun config check finds no fault, systemctl restart \
+             totxegun"
         );
     }
 }

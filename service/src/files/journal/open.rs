@@ -143,11 +143,7 @@ fn cut(
         let (number, bytes) = (later.size.number, later.size.bytes);
         let path = segment::path(folder, number);
         let file = path.display().to_string();
-        tracing::warn!(
-            file,
-            bytes,
-            "segment {number} of the journal follows a torn one, so none of it counts"
-        );
+        tracing::warn!(file, bytes, "a segment of the journal follows a torn one, so none of it counts");
         if bytes > 0 {
             dropped.extend(segment::keep_aside(disk, &path, 0)?);
         }

@@ -52,7 +52,13 @@ pub fn keep_aside(disk: &Disk, path: &Path, at: u64) -> Result<Option<Dropped>, 
     }
     let dropped = Dropped { file: path.into(), at, bytes: rest.len() as u64, kept };
     let (file, kept) = (dropped.file.display(), dropped.kept.display());
-    tracing::warn!(%file, offset = at, bytes = dropped.bytes, %kept, "{dropped}");
+    tracing::warn!(
+        %file,
+        offset = at,
+        bytes = dropped.bytes,
+        %kept,
+        "the end of a segment is torn, or not durable: it is left out, and kept beside it"
+    );
     Ok(Some(dropped))
 }
 

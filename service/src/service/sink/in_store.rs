@@ -62,7 +62,8 @@ impl Remembers for InStore {
     /// to both.
     fn may_change(&self) -> Result<(), Ended> {
         tracing::info!(
-            "--new-sink: if there were other instances, it is looked for {STILL:?} whether one runs"
+            seconds = STILL.as_secs(),
+            "--new-sink: if there were other instances, it is looked whether one runs"
         );
         let living = in_place(|| self.store.running(STILL)).context("the store can't be read")?;
         match &living[..] {

@@ -29,9 +29,9 @@ impl<S: Store> Run<S> {
                 requests,
                 since,
                 until,
-                "slot {slot}: the store has gone back: {sink} has {requests} requests of it, taken from {since} to {until}, that the \
-                 store does not have. What was answered in that time, or later, and is not in the sink is lost; what comes, and \
-                 begins before its series ends in the sink, goes to dead-letters/"
+                "the store has gone back: the sink has requests of it that the store does not have. What was answered in \
+                 that time, or later, and is not in the sink is lost; what comes, and begins before its series ends in the \
+                 sink, goes to dead-letters/"
             );
         }
     }

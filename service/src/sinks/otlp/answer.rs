@@ -98,8 +98,9 @@ async fn read(mut body: Body) -> Option<Vec<u8>> {
 fn taken(body: Option<Vec<u8>>, encoding: Encoding) -> Fate {
     let Some(bytes) = body else {
         tracing::warn!(
-            "a sink took a request, but its answer was cut, or is over {LONGEST_ANSWER} bytes: nothing is known of points \
-             that it may have rejected"
+            longest_bytes = LONGEST_ANSWER,
+            "a sink took a request, but its answer was cut, or is too long: nothing is known of points that it may have \
+             rejected"
         );
         return Fate::Taken;
     };
@@ -116,7 +117,7 @@ fn taken(body: Option<Vec<u8>>, encoding: Encoding) -> Fate {
             left: None,
         },
         Some(partial) if !partial.error_message.is_empty() => {
-            tracing::debug!("a sink took a request and says: {}", shown(&partial.error_message));
+            tracing::debug!(said = shown(&partial.error_message), "a sink took a request and says something");
             Fate::Taken
         }
         _ => Fate::Taken,

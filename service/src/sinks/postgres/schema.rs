@@ -43,7 +43,7 @@ async fn make_anew(client: &mut Client, server: &Server, was_there: bool) -> Res
         transaction.batch_execute(SCHEMA).await?;
         explain(&transaction).await?;
         days::make(&mut transaction).await?;
-        tracing::info!("{server}: the schema totxegun of version {KNOWN} was made");
+        tracing::info!(%server, version = KNOWN, "the schema totxegun was made");
     }
     Ok(transaction.commit().await?)
 }
@@ -78,7 +78,9 @@ async fn tell_of_lost(client: &impl GenericClient, server: &Server, was_there: b
         None => return Ok(()),
     };
     tracing::warn!(
-        "{server}: the schema totxegun {how}: a fresh one is made, which lacks what was delivered so far"
+        %server,
+        how,
+        "the schema totxegun is lost: a fresh one is made, which lacks what was delivered so far"
     );
     Ok(())
 }

@@ -72,7 +72,7 @@ impl SqliteSink {
                 return Err(fault.at(path));
             }
             let reason = fault.at(path).to_string();
-            tracing::warn!(reason, "{reason}; it is opened again at each delivery");
+            tracing::warn!(reason, "the sink can't be used: it is opened again at each delivery");
         }
         let (jobs, received) = mpsc::channel::<Job>();
         let write = move || writer.run(&received);
@@ -187,13 +187,15 @@ impl Writer {
             FileState::Intact => return Ok(Some(store)),
             FileState::Gone => {
                 tracing::error!(
-                    "{path} was deleted or replaced: the file of this name lacks what was delivered so far"
+                    %path,
+                    "the sink's file was deleted or replaced: the file of this name lacks what was delivered so far"
                 );
                 self.was_replaced = true;
             }
             FileState::WithoutLog => match store.copy_log() {
                 Ok(()) => tracing::error!(
-                    "{path}-wal or -shm was deleted or replaced: what it had was copied into the file"
+                    %path,
+                    "the -wal or -shm of the sink's file was deleted or replaced: what it had was copied into the file"
                 ),
                 Err(fault) => {
                     self.store = Some(store);
@@ -213,7 +215,7 @@ impl Writer {
         let fault = self.store().err();
         if let Some(fault) = fault.filter(|_| !self.is_told).map(|fault| fault.at(&self.path)) {
             let reason = fault.to_string();
-            tracing::error!(reason, "its -wal was deleted, and can't be saved: {reason}");
+            tracing::error!(reason, "the -wal of the sink's file was deleted, and can't be saved");
         }
         self.is_told = self.is(FileState::WithoutLog);
     }
@@ -253,7 +255,7 @@ impl Writer {
                 self.close_after(&fault);
                 if std::mem::replace(&mut self.is_kept, false) {
                     let reason = fault.at(&self.path).to_string();
-                    tracing::warn!(reason, "{reason}; what is too old there is deleted later");
+                    tracing::warn!(reason, "what is too old in the sink is deleted later");
                 }
                 false
             }

@@ -63,7 +63,7 @@ pub(super) async fn check(client: &Client, server: &Server, copies: Copies) -> R
     match (Settings::from(row).lose(), copies) {
         (None, _) => Ok(()),
         (Some(why), Copies::One) => {
-            tracing::warn!("{server} can lose what it said is durable: {why}");
+            tracing::warn!(%server, reason = why, "the store can lose what it said is durable");
             Ok(())
         }
         (Some(why), Copies::Two) => Err(StoreFault::Copies { server: server.to_string(), why }),

@@ -26,7 +26,7 @@ pub(super) async fn delete(client: &Client, kept: Option<Duration>) -> Result<()
     for row in client.query(OLD_DAYS, &[&from]).await? {
         let day: &str = row.get(0);
         client.batch_execute(&format!("drop table totxegun.{day}")).await?;
-        tracing::info!("the intervals of the day {} were deleted", day.trim_start_matches("interval_"));
+        tracing::info!(day = day.trim_start_matches("interval_"), "the intervals of a day were deleted");
     }
     while client.execute(OTHERS, &[&from, &STEP]).await? == STEP as u64 {}
     Ok(())

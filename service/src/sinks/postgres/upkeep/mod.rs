@@ -82,7 +82,7 @@ async fn rounds(server: &Server, retention: Retention, memory: &dyn Memory, was_
         if let Some(reason) = reason.as_ref().filter(|_| told != reason) {
             tracing::warn!(
                 reason,
-                "{reason}; what is to be made ahead or deleted there waits for the next minute"
+                "what is to be made ahead or deleted in the sink waits for the next minute"
             );
         }
         told = reason;

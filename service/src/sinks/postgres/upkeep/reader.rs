@@ -33,8 +33,9 @@ async fn make(client: &Client, server: &Server) -> Result<(), Error> {
         Err(error) if error.code() == Some(&SqlState::INSUFFICIENT_PRIVILEGE) => {
             TOLD.call_once(|| {
                 tracing::info!(
-                    "{server}: there is no role to read it by: type `CREATE ROLE totxegun_read NOLOGIN` as one who \
-                     may, and the service lets it in"
+                    %server,
+                    "there is no role to read the sink by: type `CREATE ROLE totxegun_read NOLOGIN` as one who may, and the \
+                     service lets it in"
                 )
             });
             Ok(())

@@ -283,8 +283,10 @@ impl<T> Lane<T> {
         counts.vanished.fetch_add(1, Relaxed);
         let slot = owner.slot;
         tracing::error!(
-            "slot {slot}: {server} has lost what it said is durable: it went over to a standby that had not got all, or was put \
-             back from a copy"
+            slot,
+            %server,
+            "the store has lost what it said is durable: it went over to a standby that had not got all, or was put back \
+             from a copy"
         );
         owner.lose();
     }
