@@ -50,6 +50,6 @@ impl Options {
         let hour = hour.map(|hour| hour.to_string().replace(' ', "T"));
         let asked = AskedAdjustment { late, series, hour, value, reason, dry_run };
         let body = serde_json::to_vec(&asked).context("the adjustment can't be written")?;
-        Ok(ask::done(&client::ask_with(&at, Method::POST, ADJUSTMENTS, &body)?))
+        ask::told(&at, &client::ask_with(&at, Method::POST, ADJUSTMENTS, &body)?)
     }
 }

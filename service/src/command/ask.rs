@@ -77,15 +77,22 @@ pub fn sender(text: &str) -> Result<String, String> {
 
 /// Gives an order, and says what there is to say of it.
 pub fn order(at: &Address, path: &str) -> Result<Vec<u8>> {
-    client::ask(at, Method::POST, path).map(|body| done(&body))
+    match &client::ask(at, Method::POST, path)?[..] {
+        b"{}" => Ok(line("done")),
+        body => told(at, body),
+    }
 }
 
-pub fn done(body: &[u8]) -> Vec<u8> {
+/// Gives an order that changes what is counted.
+pub fn change(at: &Address, path: &str) -> Result<Vec<u8>> {
+    told(at, &client::ask(at, Method::POST, path)?)
+}
+
+/// What the service says that it has done. Who answers without it has done nothing.
+pub fn told(at: &Address, body: &[u8]) -> Result<Vec<u8>> {
     let read: serde_json::Value = serde_json::from_slice(body).unwrap_or_default();
-    match read["message"].as_str() {
-        Some(message) => line(format_args!("done: {message}")),
-        None => line("done"),
-    }
+    let message = read["message"].as_str().with_context(|| client::another(&at.place()))?;
+    Ok(line(format_args!("done: {message}")))
 }
 
 /// Gives an order that flushes, and says what came of it.
@@ -113,4 +120,21 @@ fn waits(at: &Address) -> String {
 pub fn waiting_shown(waiting: u64) -> String {
     let verb = if waiting == 1 { "waits" } else { "wait" };
     format!("{} {verb}", counted(waiting, "request"))
+}
+
+#[cfg(test)]
+mod tests {
+    use super::*;
+
+    /// Any server may answer 200.
+    #[test]
+    fn an_answer_without_a_message_is_another_s() {
+        let at = Address { data: PathBuf::new(), admin: Some("h:1".into()), token: None };
+        let said = told(&at, b"{\"message\":\"1 series is forgotten\"}").unwrap();
+        assert_eq!(said, b"done: 1 series is forgotten\n");
+        for body in [&b"{}"[..], b"", b"<html>", b"{\"message\":7}", b"[]"] {
+            let why = told(&at, body).unwrap_err().to_string();
+            assert!(why.contains("what listens at h:1 is no admin address of totxegun"), "{why}");
+        }
+    }
 }

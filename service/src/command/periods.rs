@@ -36,12 +36,12 @@ impl Close {
             (false, true) => format!("?{FORCE}"),
             (false, false) => String::new(),
         };
-        ask::order(&self.at, &format!("/close/{}{query}", written(&self.period)))
+        ask::change(&self.at, &format!("/close/{}{query}", written(&self.period)))
     }
 }
 
 pub fn open(period: &Period, at: &Address) -> Result<Vec<u8>> {
-    ask::order(at, &format!("/reopen/{}", written(period)))
+    ask::change(at, &format!("/reopen/{}", written(period)))
 }
 
 /// In a path.

@@ -27,6 +27,9 @@ pub fn key(option: &str) -> String {
     }
 }
 
+/// It has an address, and no file of headers.
+const STORE: &str = "store";
+
 /// The options that the file may set, in their order.
 pub fn settings(serve: &Command) -> impl Iterator<Item = (&str, &Arg)> {
     let named = serve.get_arguments().filter(|option| option.get_env().is_some());
@@ -103,6 +106,9 @@ fn one(name: &str, option: &str, arg: &Arg, value: &Value) -> Result<OsString, S
     };
     if arg.is_hide_env_values_set() && has_password(&text) {
         let why = match is_of_otlp(&text) {
+            true if option == STORE => {
+                "a query, in which a key may be: write postgres://USER@HOST:PORT/DB".into()
+            }
             true => format!(
                 "a query, in which a key may be: send it as a header, by {}",
                 key(&format!("{option}-header-file"))
@@ -164,6 +170,7 @@ mod tests {
             ("store = \"postgres://u:secret@h/d\"", "?passfile=FILE"),
             ("[sink]\naddress = \"https://h:4318/v1/metrics?key=secret\"", "by sink.header-file"),
             ("forward-unsupported = \"HTTP://h:4318?key=secret\"", "by forward-unsupported-header-file"),
+            ("store = \"http://h:4318?key=secret\"", "in which a key may be: write postgres://"),
             ("threads = ", "no TOML"),
             ("threads = 1\nthreads = 2", "no TOML"),
         ] {
