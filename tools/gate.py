@@ -22,11 +22,13 @@ from service import made
 # The service, as cargo's steps below compile it with its tests: quickly. A release build takes twice what all of that does.
 PROGRAM = made("dev")
 
-# Of the sources alone: the definitions that docs/PROOFS.md counts and lists, what the service declares of the library, the pictures,
-# the Python, the checksums of Cargo.lock, and whether each wrong copy of the service, and each edit of the crates, can still be made.
+# Of the sources alone: the definitions that docs/PROOFS.md counts and lists, what the service declares of the library, the words
+# that users read, the pictures, the Python, the checksums of Cargo.lock, and whether each wrong copy of the service, and each edit
+# of the crates, can still be made.
 TOOL_STEPS = (
     ("promise_is_counted", ["tools/promise.py", "--check"], 2),
     ("library_is_declared", ["tools/declared.py", "--check"], 1),
+    ("words_are_the_fields", ["tools/words.py", "--check"], 5),
     ("pictures_are_drawn", ["tools/pictures.py", "--check"], 2),
     ("python_is_typed", ["tools/python.py", "--check"], 30),
     ("checksums_are_true", ["tools/cargo", "--made-up"], 1),
@@ -78,7 +80,8 @@ SERVICE_STEPS: tuple[tuple[str, list[str], int], ...] = (
 # These compile a program in Go: the second one takes from the first what both use.
 IN_GO = ("sdk_go.py", "demo.py")
 # These run no program.
-WITHOUT_PROGRAM = ("service_model.py", "runs_model.py", "sink_model.py", "cluster_model.py", "releases.py", "library.py", "drawn.py")
+WITHOUT_PROGRAM = ("service_model.py", "runs_model.py", "sink_model.py", "cluster_model.py", "releases.py", "library.py", "drawn.py",
+                   "words.py")
 # Of cargo's: they compile, and have all tests of the service in one step.
 CARGO_LIMIT = 1800
 # Which revision has passed here, wholly: tools/release.py asks.
