@@ -177,7 +177,7 @@ def is_said(one: Service, part: str) -> bool:
 
 # What is gone, how it goes, how that is named, and what an operator says then.
 GONE: Sequence[tuple[str, str, str, Sequence[str]]] = (
-    ("files", "delete from totxegun_store.piece; delete from totxegun_store.file", "and the slot had some", ()),
+    ("files", "delete from totxegun_store.piece; delete from totxegun_store.file", "although the slot had files", ()),
     ("a piece", "delete from totxegun_store.piece where number = (select min(number) from totxegun_store.piece)",
      "totxegun store restored --anew 0", ("--anew", "0")))
 

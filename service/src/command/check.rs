@@ -152,7 +152,7 @@ fn look_at(data: &Path) -> anyhow::Result<()> {
     }
     let files = ["lock", "version"].map(|name| data.join(name));
     match files.iter().find(|file| file.is_dir()) {
-        Some(file) => bail!("{} is a folder, and has to be a file: remove it", file.display()),
+        Some(file) => bail!("{} is a folder, but has to be a file: remove it", file.display()),
         None => Ok(()),
     }
 }

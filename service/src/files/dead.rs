@@ -108,7 +108,7 @@ impl Dead {
     /// key and body.
     pub fn keep(&self, key: &str, reason: &str, body: &[u8]) -> Result<(), Fault> {
         if !is_key(key) {
-            let what = format!("{key:?} is no key of a request");
+            let what = format!("{key:?} is not the key of a request");
             let source = io::Error::new(io::ErrorKind::InvalidInput, what);
             return Err(io_fault(&self.folder)(source));
         }
@@ -284,7 +284,7 @@ impl Known {
 }
 
 fn damaged(path: PathBuf) -> Fault {
-    let what = "is not a request as it was put aside: put a copy of this file in its place, or move it out of this folder";
+    let what = "is not a valid dead letter: restore it from a copy, or move it out of this folder";
     Fault::Damaged { path, at: 0, what: what.into() }
 }
 

@@ -77,7 +77,7 @@ pub struct Tenure {
 
 /// Another instance owns the shard, or may own it: nothing of the shard may be answered or delivered any more.
 #[derive(Clone, Copy, Debug, PartialEq, Eq, thiserror::Error)]
-#[error("another instance has this slot")]
+#[error("another instance owns this slot")]
 pub struct Lost;
 
 /// The error of each call on a fenced shard.

@@ -38,8 +38,8 @@ use version::{Identity, Version};
 /// The folder of the journal and the outbox. A shard store has several shards; a folder has only this one.
 const SLOT: &str = "slot-0";
 const LOST_SLOT: &str =
-    "has no segments, and this folder is not new: put all of the slot's folder back, or move the \
-                         folder away and start with a new one. Nothing was deleted";
+    "has no segments, although this folder is not new. Nothing was deleted: restore all of the slot's folder, or move the \
+     folder away and start with an empty one";
 /// How long to wait for a lock.
 const PATIENCE: Duration = Duration::from_secs(1);
 
@@ -52,8 +52,8 @@ pub enum FolderFault {
     Unusable { path: PathBuf, what: String },
     /// The store recognises the folder by `epoch`.
     #[error(
-        "{0} was moved into the store {store}: start with --store {store}. If the store does not count yet, call `totxegun store \
-         move --from {0} {store}` again",
+        "{0} was moved into the store {store}: start with --store {store}. If that move was interrupted, call `totxegun \
+         store move --from {0} {store}` again",
         path.display()
     )]
     Moved { path: PathBuf, epoch: String, store: String },
@@ -111,7 +111,7 @@ impl Folder {
                     tracing::warn!(
                         folder = %path.display(),
                         epoch,
-                        "the folder was copied or put back, so it has another epoch now"
+                        "the folder was copied or restored, so it has a new epoch"
                     );
                 }
             }
@@ -299,7 +299,7 @@ fn find(disk: &Disk, folder: &Path) -> Result<Option<Version>, FolderFault> {
 fn check_new(disk: &Disk, folder: &Path) -> Result<(), Fault> {
     for name in disk.names(folder)? {
         if name.to_str().is_some_and(|name| name.starts_with("slot-") || name == "dead-letters") {
-            let what = "this file is missing, and the folder is not new: put it back".into();
+            let what = "this file is missing, although the folder is not new: restore it from a copy".into();
             return Err(Fault::Damaged { path: folder.join("version"), at: 0, what });
         }
     }

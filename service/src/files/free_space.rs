@@ -141,7 +141,7 @@ impl FreeSpace {
             }
             Err(error) => {
                 let reason = error.to_string();
-                tracing::error!(reason, "the disk can't be asked for its room, so posts are refused");
+                tracing::error!(reason, "the free space of the disk can't be read, so posts are refused");
                 0
             }
         };
@@ -159,9 +159,10 @@ impl FreeSpace {
                 kept_bytes = kept,
                 free_files = files,
                 kept_files = FILES,
-                "the disk is nearly full: room is kept to deliver what was taken, so posts get 503 until there is more"
+                "the disk is nearly full: the rest is reserved to deliver accepted posts, so posts get 503 until more is \
+                 free"
             ),
-            false => tracing::info!("the disk has room again: posts are taken"),
+            false => tracing::info!("the disk has enough free space again: posts are accepted"),
         }
     }
 }

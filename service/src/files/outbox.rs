@@ -313,8 +313,8 @@ impl Outbox {
         let last = locked(&self.state).facts.next - 1;
         if number > last {
             let what = format!(
-                "ends at request {last}, and the sink has requests up to number {number}: put all of the slot's files back, or \
-                 end all instances and call `totxegun store restored`: it goes on with what there is"
+                "ends at request {last}, but the sink has requests up to number {number}: restore all of the slot's files, \
+                 or end all instances and call `totxegun store restored` to go on with what there is"
             );
             return Err(Fault::Damaged { path: self.folder.clone(), at: 0, what });
         }

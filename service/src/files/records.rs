@@ -146,18 +146,18 @@ impl Reader {
 
     fn check_header(&self, kind: u8, bytes: &[u8], which: Which, number: u64) -> Result<(), Fault> {
         if kind != HEADER || bytes.len() < 10 || &bytes[..8] != MAGIC {
-            return Err(self.damaged(0, "is not a file of totxegun; move it out of this folder"));
+            return Err(self.damaged(0, "is not a file of totxegun: move it out of this folder"));
         }
         let version = u16::from_le_bytes([bytes[8], bytes[9]]);
         if version != VERSION {
             let what = format!(
-                "is of format version {version}, and this totxegun reads {VERSION} alone: start the totxegun that wrote it, or \
+                "has format version {version}, and this totxegun reads only {VERSION}: use the totxegun that wrote it, or \
                  give another --data"
             );
             return Err(self.damaged(0, &what));
         }
         if bytes[10..] != [&[which as u8][..], &number.to_le_bytes()].concat() {
-            return Err(self.damaged(0, "is another file than its name says; put it back in its own place"));
+            return Err(self.damaged(0, "is another file than its name says: put it back in its own place"));
         }
         Ok(())
     }

@@ -149,7 +149,8 @@ pub fn check_row(folder: &Path, numbers: &[u64]) -> Result<(), Fault> {
 }
 
 pub fn missing(folder: &Path, number: u64) -> Fault {
-    let what = "this file is missing. Nothing was deleted: put it back, or move the folder away and start with a new one";
+    let what = "this file is missing. Nothing was deleted: restore it from a copy, or move the folder away and start with \
+        an empty one";
     Fault::Damaged { path: path(folder, number), at: 0, what: what.into() }
 }
 

@@ -15,8 +15,8 @@ const SECTOR: u64 = 512;
 const EFFORT: usize = 1 << 30;
 
 pub const CHANGED: &str =
-    "a record was changed after it was written, and records follow it. Nothing was deleted: \
-    put a copy of this file in its place, or move the folder away and start with a new one";
+    "a record was changed after it was written, and records follow it. Nothing was deleted: restore this file from a copy, \
+     or move the folder away and start with an empty one";
 
 /// Fails if the bytes from `at` on, in the last file of its kind, were changed and not torn.
 pub fn check_torn(disk: &Disk, path: &Path, at: u64) -> Result<(), Fault> {

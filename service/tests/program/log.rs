@@ -121,8 +121,8 @@ fn lines_that_find_no_room_are_counted_where_they_are_missing() {
         assert_eq!(service.post("B", &points(&[name], 100, 5)).unwrap().0, 400);
         lost_lines(&service) > 0
     });
-    let text = pipe.read_until("lines of the log that are missing here");
-    let note = format!("totxegun: lines of the log that are missing here: {}", lost_lines(&service));
+    let text = pipe.read_until(" log lines were dropped here");
+    let note = format!("totxegun: {} log lines were dropped here", lost_lines(&service));
     assert!(text.lines().any(|line| line == note), "no `{note}`");
     let is_whole = |line: &str| line.starts_with("20") || line.starts_with("totxegun: ");
     assert!(text.lines().all(is_whole));
@@ -164,16 +164,16 @@ fn what_a_line_of_json_names_is_in_its_fields() {
     let place = Place::new();
     let (file, lines) = told_in_json(&place);
     let line = |part: &str| lines.iter().find(|line| line["msg"].as_str().unwrap().contains(part)).unwrap();
-    let begun = line(" goes on");
+    let begun = line("the slot is ready");
     assert_eq!(begun["level"], "INFO");
     assert_eq!(begun["slot"], 0);
     assert_eq!(begun["series_count"], 1);
     assert_eq!(begun["posts"], 0);
-    let copied = line(" was copied or put back");
+    let copied = line(" was copied or restored");
     assert_eq!(copied["level"], "WARN");
     assert_eq!(copied["folder"], place.data().to_str().unwrap());
     assert!(copied["epoch"].is_string(), "{copied}");
-    let stopped = line("the delivery stops");
+    let stopped = line("delivery stops");
     assert_eq!(stopped["level"], "ERROR");
     assert_eq!(stopped["folder"], place.data().join("slot-0/outbox").to_str().unwrap());
     let reason = stopped["reason"].as_str().unwrap();

@@ -198,7 +198,7 @@ fn a_disk_without_room_is_told() {
     let why = format!("no room for the journal: make room on the disk of {}", disk.display());
     assert!(lines[1].starts_with("posts get 503") && lines[1].ends_with(&why), "{said}");
     let log = place.log();
-    assert!(log.contains("so posts get 503 until there is more"), "{log}");
+    assert!(log.contains("posts get 503 until more is free"), "{log}");
     std::fs::remove_file(&filling).unwrap();
     until("it is ready again", || service.is_ready());
     let answer = service.post_until_answered("A", &points(&["a"], 120, 5));

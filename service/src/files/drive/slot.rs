@@ -11,7 +11,7 @@ use std::path::Path;
 use std::sync::Arc;
 
 const PUT_BACK: &str =
-    "put all of the slot's files back, or end all instances and call `totxegun store restored`";
+    "restore all of the slot's files, or end all instances and call `totxegun store restored`";
 
 /// Opens the files of a shard that was just taken. The keys of new requests have this owner's epoch. It continues the
 /// previous owner's epoch, and the first one continues the store's, `root`. If the store draws no epochs, the keys have
@@ -53,14 +53,14 @@ fn check_new(
     had_files: bool,
 ) -> Result<(), Fault> {
     let proof = if !segment::numbers(disk, journal)?.is_empty() {
-        "the journal beside it has".to_string()
+        "the journal beside it has some".to_string()
     } else if delivered > 0 {
-        format!("the sink has requests of it up to number {delivered}")
+        format!("the sink has its requests up to number {delivered}")
     } else if had_files {
-        "the slot had some".to_string()
+        "the slot had files".to_string()
     } else {
         return Ok(());
     };
-    let what = format!("has no segments, and {proof}: {PUT_BACK}");
+    let what = format!("has no segments, although {proof}: {PUT_BACK}");
     Err(Fault::Damaged { path: outbox.into(), at: 0, what })
 }

@@ -155,7 +155,7 @@ fn another_or_missing_version_is_refused_by_name() {
         std::fs::write(&version, text.replacen(&of(1), &of(number), 1)).unwrap();
         let why = refused();
         assert!(
-            why.contains(&format!("of format version {number}")) && why.contains("another --data"),
+            why.contains(&format!("has format version {number}")) && why.contains("another --data"),
             "{why}"
         );
     }
@@ -172,7 +172,7 @@ fn another_or_missing_version_is_refused_by_name() {
         r#"{"totxegun":1,"epoch":"0123456789abcdef","lock":{"inode":1},"sink":"x"}"#,
     ] {
         std::fs::write(&version, wrong).unwrap();
-        assert!(refused().contains("put a copy"), "{}", refused());
+        assert!(refused().contains("restore it from a copy"), "{}", refused());
     }
     std::fs::remove_file(&version).unwrap();
     assert!(refused().contains("missing"), "{}", refused());

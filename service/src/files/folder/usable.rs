@@ -13,7 +13,7 @@ use std::path::Path;
 pub fn look_at(folder: &Path) -> Result<(), FolderFault> {
     match std::fs::metadata(folder) {
         Ok(about) if about.is_dir() => {}
-        Ok(_) => return Err(unusable(folder, "is a file, and --data has to name a folder: give another")),
+        Ok(_) => return Err(unusable(folder, "is a file, but --data needs a folder: give another")),
         Err(error) if error.kind() == ErrorKind::NotFound => return Ok(()),
         Err(error) => return Err(named(io_fault(folder)(error), folder)),
     }
@@ -21,7 +21,7 @@ pub fn look_at(folder: &Path) -> Result<(), FolderFault> {
     for name in ["lock", "version"] {
         let path = folder.join(name);
         if path.is_dir() {
-            return Err(unusable(&path, "is a folder, and has to be a file: remove it"));
+            return Err(unusable(&path, "is a folder, but has to be a file: remove it"));
         }
     }
     for name in Disk::default().names(folder)? {
@@ -70,16 +70,17 @@ pub fn named(fault: Fault, folder: &Path) -> FolderFault {
         ErrorKind::PermissionDenied => unusable(
             &path,
             &format!(
-                "can't be read and written by the user of this process (its id is {user}): give it to that user, as by \
-                 `chown -R {user} {}`, or give another --data",
+                "can't be read and written by this process's user (id {user}): change its owner, for example by `chown -R \
+                 {user} {}`, or give another --data",
                 folder.display(),
                 user = std::fs::metadata("/proc/self").map_or(0, |about| about.uid())
             ),
         ),
-        ErrorKind::NotADirectory => unusable(&path, "has a part that is a file, and --data has to name a folder: give another"),
+        ErrorKind::NotADirectory => unusable(&path, "can't be a folder, since a part of its path is a file: give another \
+            --data"),
         ErrorKind::ReadOnlyFilesystem => unusable(
             &path,
-            "is on a file system that can only be read: mount it for writing, or give another --data",
+            "is on a read-only file system: mount it for writing, or give another --data",
         ),
         _ => Fault::Io { path, source }.into(),
     }

@@ -9,13 +9,11 @@ use std::time::UNIX_EPOCH;
 
 /// The version of the folder's layout: which files it has, and where.
 const VERSION: u32 = 1;
-const UNREADABLE: &str =
-    "is no version of a folder of totxegun, or was changed: put a copy of this file in its place";
+const UNREADABLE: &str = "is not a valid version file of totxegun: restore it from a copy";
 /// The first bytes of each earlier version, which was lines of text.
 const LINES: &[u8] = b"totxegun ";
 const OF_LINES: &str =
-    "is of an earlier build of totxegun, which wrote lines here, and this one reads JSON alone: start the totxegun that wrote it, or \
-     give another --data";
+    "was written by an earlier build of totxegun, which this one can't read: use that build, or give another --data";
 
 /// One JSON object.
 #[derive(Clone, Serialize, Deserialize)]
@@ -76,8 +74,8 @@ impl Version {
         let what = match (of_any, serde_json::from_slice::<Version>(&text)) {
             (Ok(VERSION), Ok(version)) if version.has_epoch() => return Ok(Some(version)),
             (Ok(number), _) if number != VERSION => format!(
-                "the folder is of format version {number}, and this totxegun reads {VERSION} alone: start the totxegun that wrote it, \
-                 or give another --data"
+                "the folder has format version {number}, and this totxegun reads only {VERSION}: use the totxegun that \
+                 wrote it, or give another --data"
             ),
             _ if text.starts_with(LINES) => OF_LINES.into(),
             _ => UNREADABLE.into(),

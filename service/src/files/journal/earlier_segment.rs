@@ -10,8 +10,8 @@ use crate::files::{segment, Fault};
 use std::path::{Path, PathBuf};
 
 const NO_HEADER: &str =
-    "has no header, and had one: it was changed, cut or emptied. Nothing was deleted: put a copy of \
-                         this file in its place, or move the folder away and start with a new one";
+    "the header is gone: the file was changed, cut or emptied. Nothing was deleted: restore it from a copy, or move the \
+     folder away and start with an empty one";
 
 /// A segment of an earlier run, as it was found.
 pub(super) struct EarlierSegment {
@@ -98,9 +98,9 @@ fn is_not_behind(segments: &[EarlierSegment], expected: &Expected) -> Result<(),
     }
     let (path, at) = expected.by.clone();
     let what = format!(
-        "this outbox is older than the journal beside it, or was cut here: by the journal all posts before its segment \
-         {forgotten} are in groups, and the last group here ends before segment {}. Nothing was deleted: put all of the \
-         folder outbox back, or move the folder away and start with a new one",
+        "the outbox is older than the journal beside it, or was cut here: it should have all posts before the journal's \
+         segment {forgotten}, but has only those before segment {}. Nothing was deleted: restore all of the folder outbox, \
+         or move the folder away and start with an empty one",
         expected.reach
     );
     Err(Fault::Damaged { path, at, what })
@@ -119,8 +119,8 @@ impl EarlierSegment {
         if self.length < self.made {
             let (length, made) = (self.length, self.made);
             let what = format!(
-                "is cut here: it had {made} bytes. Nothing was deleted: put a copy of this file in its place, or move the \
-                 folder away and start with a new one"
+                "the file was cut here: it had {made} bytes. Nothing was deleted: restore it from a copy, or move the \
+                 folder away and start with an empty one"
             );
             return damaged(path, length, what);
         }

@@ -36,7 +36,7 @@ pub struct Held {
     pub bytes: u64,
 }
 
-pub(super) const NO_LIST: &str = "is no list that was written here";
+pub(super) const NO_LIST: &str = "is not a valid list of parked posts: restore this file from a copy";
 
 /// Limits on the files that are open at once, and on the bytes that wait for a write.
 const OPEN: usize = 64;
@@ -126,8 +126,9 @@ impl Shared {
                 if self.disk.is_lost() {
                     return Err(Lost.into()); // which is why no segment could be begun
                 }
-                let source =
-                    io::Error::other("the journal turned while posts of quarantined senders were moved");
+                let source = io::Error::other(
+                    "the journal rolled to another segment while posts of quarantined senders were moved",
+                );
                 return Err(io_fault(&place.segment.path)(source));
             }
             place.segment.put(&record).map_err(|fault| self.disk.fail(fault))?; // while nobody else can write
@@ -157,7 +158,9 @@ impl Shared {
             let read = posts.read(kind, bytes);
             if let Some((since, post)) = read.map_err(|what| reader.damaged(at, what))? {
                 if post.post.sender != sender {
-                    return Err(reader.damaged(at, "is no post of its sender"));
+                    return Err(
+                        reader.damaged(at, "is a post of another sender: restore this file from a copy")
+                    );
                 }
                 left = left.saturating_sub(1);
                 if !each(since, post)? {
@@ -190,8 +193,8 @@ pub(super) fn check(disk: &Disk, folder: &Path, list: &List) -> Result<(), Fault
         let length = disk.length(&path)?.unwrap_or(0);
         if length < part.end {
             let what = format!(
-                "this file is missing or was cut: it had {} posts of a quarantined sender, {} bytes. Nothing was deleted: put \
-                 it back, or move the folder away and start with a new one",
+                "this file is missing or was cut: it had {} posts of a quarantined sender, {} bytes. Nothing was deleted: \
+                 restore it from a copy, or move the folder away and start with an empty one",
                 part.posts, part.end
             );
             let at = length;

@@ -143,7 +143,7 @@ fn cut(
         let (number, bytes) = (later.size.number, later.size.bytes);
         let path = segment::path(folder, number);
         let file = path.display().to_string();
-        tracing::warn!(file, bytes, "a segment of the journal follows a torn one, so none of it counts");
+        tracing::warn!(file, bytes, "a segment of the journal follows a torn segment: its posts are dropped");
         if bytes > 0 {
             dropped.extend(segment::keep_aside(disk, &path, 0)?);
         }

@@ -7,8 +7,9 @@ use crate::files::text_row::TextRow;
 use crate::files::{records, torn_tail};
 use bytes::Bytes;
 
-const NO_POST: &str = "is no post that was written here";
-const NO_NAME: &str = "has points of a series that this file names nowhere before it";
+const NO_POST: &str = "is not a valid post: restore this file from a copy";
+const NO_NAME: &str =
+    "has points of a series that the file does not define before them: restore it from a copy";
 
 /// Reads points from the bytes after the sender's name.
 type ReadPoints = fn(&[u8]) -> Option<Points>;

@@ -21,7 +21,11 @@ impl Outbox {
         let text = fault.to_string();
         if locked(&self.stuck).replace(text.clone()).as_ref() != Some(&text) {
             let folder = self.folder.display().to_string();
-            tracing::error!(folder, reason = text.as_str(), "the delivery stops: a request was changed");
+            tracing::error!(
+                folder,
+                reason = text.as_str(),
+                "delivery stops: the file of a request was changed"
+            );
         }
         tokio::time::sleep(LOOK_AGAIN).await;
     }
@@ -29,7 +33,7 @@ impl Outbox {
     pub(super) fn note_sound(&self) {
         if locked(&self.stuck).take().is_some() {
             let folder = self.folder.display().to_string();
-            tracing::info!(folder, "the delivery goes on");
+            tracing::info!(folder, "delivery goes on");
         }
     }
 

@@ -139,7 +139,8 @@ fn read_all(disk: &Disk, folder: &Path, numbers: &[u64], epoch: &str) -> Result<
 
 /// The fault for a missing request that the sink does not have.
 fn lost(folder: &Path, numbers: &[u64], last: &Reader) -> Fault {
-    let what = "a request is missing that the sink does not have: put all of its folder back";
+    let what =
+        "a request that the sink does not have is missing: restore all files of this folder from a copy";
     segment::check_row(folder, numbers).err().unwrap_or_else(|| last.damaged(0, what))
 }
 

@@ -16,7 +16,7 @@ use crate::files::{segment, Fault};
 use std::path::Path;
 use std::sync::Arc;
 
-const NOT_WRITTEN: &str = "is no record that is written here: put a copy of this file in its place";
+const NOT_WRITTEN: &str = "is not a valid outbox record: restore this file from a copy";
 
 /// A segment that is being read.
 pub(super) struct Reading {

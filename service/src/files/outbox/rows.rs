@@ -332,7 +332,8 @@ pub fn item_length(disk: &Disk, path: &Path, front: &Front) -> Result<u64, Fault
 
 fn changed(path: &Path, front: &Front) -> Fault {
     let what = format!(
-        "request {} was changed after it was written, and can't be delivered. Nothing was deleted: put a copy of this file in its place",
+        "request {} was changed after it was written, so it can't be delivered. Nothing was deleted: restore this file from \
+         a copy",
         front.waiting.number
     );
     Fault::Damaged { path: path.into(), at: front.at, what }

@@ -45,7 +45,8 @@ impl Writer {
         if disk.is_lost() {
             return Err(Lost.into());
         }
-        let source = io::Error::other("an earlier write failed: start again, to see what is there");
+        let source =
+            io::Error::other("an earlier write failed, so nothing more is written: restart the service");
         let path = self.segment.path.clone();
         Err(Fault::Io { path, source })
     }

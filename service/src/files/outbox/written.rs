@@ -24,7 +24,7 @@ pub struct Committed {
 }
 
 /// Can't happen: the task that commits groups also forgets series.
-const OTHER_SERIES: &str = "series were forgotten while it was read";
+const OTHER_SERIES: &str = "series were removed while the group was made: this is a bug of totxegun";
 
 impl Outbox {
     /// `commit_with` without runs.

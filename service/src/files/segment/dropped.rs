@@ -21,8 +21,8 @@ impl std::fmt::Display for Dropped {
         let (at, bytes) = (self.at, self.bytes);
         write!(
             out,
-            "{file}, byte {at}: {bytes} bytes are no whole record, as a loss of power leaves it, so they do not count; they \
-             are kept in {kept}"
+            "{file}, byte {at}: {bytes} bytes of an incomplete record were dropped, as after a loss of power; a copy is in \
+             {kept}"
         )
     }
 }
@@ -57,7 +57,7 @@ pub fn keep_aside(disk: &Disk, path: &Path, at: u64) -> Result<Option<Dropped>, 
         offset = at,
         bytes = dropped.bytes,
         %kept,
-        "the end of a segment is torn, or not durable: it is left out, and kept beside it"
+        "bytes of an incomplete record were dropped, as after a loss of power; a copy is kept"
     );
     Ok(Some(dropped))
 }

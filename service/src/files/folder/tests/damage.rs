@@ -11,7 +11,7 @@ fn a_slot_that_was_made_and_is_gone_is_refused_by_name_until_it_is_back() {
     for name in ["", "outbox"] {
         std::fs::rename(slot.join(name), &moved).unwrap();
         let fault = folder.slot().err().unwrap().to_string();
-        assert!(fault.contains("slot-0/outbox") && fault.contains("back"), "{fault}");
+        assert!(fault.contains("slot-0/outbox") && fault.contains("restore"), "{fault}");
         assert!(!folder.is_empty());
         std::fs::rename(&moved, slot.join(name)).unwrap();
         drop(folder.slot().unwrap());

@@ -15,16 +15,16 @@ fn what_is_no_folder_is_refused_by_name_and_stays() {
     let file = place.path().join("file");
     std::fs::write(&file, "a").unwrap();
     let text = unusable(&file);
-    assert!(text.contains("file is a file, and --data has to name a folder"), "{text}");
+    assert!(text.contains("file is a file, but --data needs a folder"), "{text}");
     let text = unusable(&file.join("below"));
-    assert!(text.contains("has a part that is a file"), "{text}");
+    assert!(text.contains("a part of its path is a file"), "{text}");
     assert_eq!(std::fs::read(&file).unwrap(), b"a");
     let folder = place.path().join("folder");
     drop(open(&folder).unwrap());
     std::fs::remove_file(folder.join("lock")).unwrap();
     std::fs::create_dir(folder.join("lock")).unwrap();
     let text = unusable(&folder);
-    assert!(text.contains("lock is a folder, and has to be a file: remove it"), "{text}");
+    assert!(text.contains("lock is a folder, but has to be a file: remove it"), "{text}");
 }
 
 /// The next test runs this in a process of its own, as a user who is not root.

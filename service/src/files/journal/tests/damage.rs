@@ -87,7 +87,7 @@ fn another_version_and_a_missing_segment_are_refused_by_name() {
         records::put(&mut other, records::HEADER, &[b"totxegun", &version.to_le_bytes(), b"what comes"]);
         std::fs::write(&path, &other).unwrap();
         let fault = open_on(&Disk::default(), folder.path(), Durability::Process).err().unwrap().to_string();
-        let wanted = format!("is of format version {version}, and this totxegun reads 1 alone");
+        let wanted = format!("has format version {version}, and this totxegun reads only 1");
         assert!(fault.contains(&wanted) && fault.contains("another --data"), "{fault}");
     }
     std::fs::write(&path, &sound).unwrap();

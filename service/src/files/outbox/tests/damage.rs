@@ -44,7 +44,7 @@ fn a_last_segment_of_another_version_stays_as_it_is() {
     let before = std::time::UNIX_EPOCH + Duration::from_secs(1000);
     std::fs::File::options().write(true).open(&path).unwrap().set_modified(before).unwrap();
     let fault = open_on(&Disk::default(), folder.path(), "e", SEGMENT).err().unwrap().to_string();
-    assert!(fault.contains("is of format version 2, and this totxegun reads 1 alone"), "{fault}");
+    assert!(fault.contains("has format version 2, and this totxegun reads only 1"), "{fault}");
     assert_eq!(std::fs::metadata(&path).unwrap().modified().unwrap(), before);
 }
 
