@@ -67,7 +67,7 @@ IN_THE_END = 300
 MOODS = ["well"] * 6 + ["late", "busy", "lose"]
 VERSIONS = "select string_agg(distinct version, ' and ') from totxegun_store.instance"
 # What an instance never writes.
-NEVER = ("panicked", "has lost what it said is durable", "another process beats under this instance's name")
+NEVER = ("panicked", "no longer has data that it reported as durable", "another process sends heartbeats under this")
 HAPROXY = """
 global
     maxconn 1000

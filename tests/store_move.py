@@ -327,7 +327,7 @@ class Moves:
         status, text = run(self.program, "store", "check", address)
         if status:
             raise Failed(f"store check: {text}")
-        is_filling, has_all = "is on its way into this store" in text, "it has all of the folder" in text
+        is_filling, has_all = "is being moved into this store" in text, "it has all of the folder" in text
         status, said = run(self.program, "check", folder)
         if status and "was moved into the store" not in said:
             raise Failed(f"check: {said}")
@@ -483,7 +483,7 @@ def go_there(checks: Checks, program: str, moves: Moves, filled: Filled, folder:
     shutil.rmtree(data)
     shutil.copytree(filled.data, data, ignore=LEFT)
     status, text, _ = moves.move(["--from", data, address])
-    checks.true("nothing is moved into a store that is used", status == 1 and "something already" in text, text)
+    checks.true("nothing is moved into a store that is used", status == 1 and "is not empty" in text, text)
 
 
 def main(words: list[str]) -> int:

@@ -29,7 +29,7 @@ static NAMESAKE: RateLimit = RateLimit::every(Duration::from_secs(10));
 
 /// Another process uses this instance's name, and had it before.
 #[derive(Debug, thiserror::Error)]
-#[error("another process of the name {0} was there before this one, and goes on: give each instance its own --instance")]
+#[error("a running process already uses the name {0}: give each instance its own --instance")]
 pub struct CameLater(String);
 
 pub struct Beats<T, U> {
@@ -71,7 +71,7 @@ impl<T: Terms + 'static, U: Units + 'static> Beats<T, U> {
         tokio::select! {
             ended = self.beats(stopped) => ended,
             _ = late => {
-                tracing::warn!("this instance ends with slots that it could not hand over: others take them");
+                tracing::warn!("this instance ends with slots that it could not hand over in time: other instances take them");
                 Ok(())
             }
         }
@@ -131,7 +131,10 @@ impl<T: Terms + 'static, U: Units + 'static> Beats<T, U> {
             return Err(CameLater(cluster.owners().name().into()));
         }
         if cluster.owners().has_namesake() && NAMESAKE.is_due() {
-            tracing::error!("another process beats under this instance's name: give each its own --instance");
+            tracing::error!(
+                "another process sends heartbeats under this instance's name: give each instance its own \
+                --instance"
+            );
         }
         steps.into_iter().for_each(|step| self.begin(step));
         work.publish();
@@ -174,11 +177,11 @@ fn tell_clock(before: Option<i64>, now: Option<i64>) {
             tracing::error!(
                 seconds,
                 clock = shown_off(ahead),
-                "this instance's clock is off: while another's is right it takes no slots, and hands over what it has: set \
-                 it right, by NTP"
+                "this instance hands over its slots and takes none while another's clock is right: fix the clock, for \
+                 example by NTP"
             );
         }
-        (Some(_), None) => tracing::info!("this instance's clock is right again"),
+        (Some(_), None) => tracing::info!("this instance's clock is right again: it takes slots"),
         _ => {}
     }
 }
@@ -186,10 +189,10 @@ fn tell_clock(before: Option<i64>, now: Option<i64>) {
 fn tell_cut_off(before: bool, now: bool) {
     match (before, now) {
         (false, true) => tracing::error!(
-            "most of the other instances don't reach this one at its --peer: it takes no slots, and hands over what it has, \
-             until they do"
+            "most of the other instances can't connect to this one's --peer: it hands over its slots and takes none until \
+             they can; look at the network and the firewall"
         ),
-        (true, false) => tracing::info!("the other instances reach this one again: it takes slots"),
+        (true, false) => tracing::info!("the other instances can connect to this one again: it takes slots"),
         _ => {}
     }
 }
@@ -219,7 +222,7 @@ impl<T: Terms, U: Units> Work<T, U> {
             Act::Release => self.release(slot, term).await,
             Act::Drop => {
                 self.cluster.counted().lost += 1;
-                tracing::warn!(slot, term, "another instance has the slot");
+                tracing::warn!(slot, term, "another instance took the slot after our term");
                 self.units.drop_lost(slot, term).await;
             }
         }
@@ -261,7 +264,7 @@ impl<T: Terms, U: Units> Work<T, U> {
     async fn forget(&self, name: &str, beat: u64) {
         match self.terms.forget(name, beat).await {
             Ok(true) => {
-                tracing::info!(instance = name, "an instance has not come back for a day: it is forgotten")
+                tracing::info!(instance = name, "an instance has been gone for a day: it is no longer listed")
             }
             Ok(false) => {}
             Err(silence) => tell(&silence),

@@ -233,19 +233,19 @@ impl<H: Here> Elsewhere for Forward<H> {
 /// Why there is no answer.
 #[derive(Debug, thiserror::Error)]
 enum Broken {
-    #[error("it has not answered in time")]
+    #[error("no answer in time")]
     Late,
-    #[error("it is not reached")]
+    #[error("no connection")]
     Unreached,
-    #[error("its address can't be asked: {0}")]
+    #[error("its address is not usable in a URL: {0}")]
     Address(hyper::http::Error),
     #[error("{0}")]
     Wire(hyper::Error),
-    #[error("it refuses this instance's secret: both need the same store")]
+    #[error("it refuses this instance's secret: give both the same store")]
     Secret,
-    #[error("what answers there is no instance, or of another version: it says {0}")]
+    #[error("the answer (status {0}) is not from an instance of this version")]
     Strange(u16),
-    #[error("its answer is longer than {0} bytes: ask it by itself")]
+    #[error("its answer is longer than {0} bytes: ask it directly, by --admin")]
     Long(usize),
 }
 

@@ -148,9 +148,9 @@ impl Cluster {
         let reason = shown(reason, REASON_SHOWN);
         let then = match self.owners().failed(slot, term, &reason) {
             true => "another instance takes it",
-            false => "no other instance is left that could, so it is tried again",
+            false => "no other instance is left to take it, so this one retries",
         };
-        tracing::error!(slot, then, reason, "the slot can't be kept open here");
+        tracing::error!(slot, then, reason, "the slot can't be served here");
         self.publish();
     }
 
@@ -230,7 +230,7 @@ impl Cluster {
     pub(super) fn has_beaten(&self, sent: Instant) {
         *locked(&self.beaten) = Some(sent);
         if locked(&self.few_copies).take().is_some() {
-            tracing::info!("the store has enough copies again: posts are taken");
+            tracing::info!("the store has enough copies again: posts are accepted");
         }
     }
 

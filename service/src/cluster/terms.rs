@@ -102,7 +102,7 @@ pub trait Terms: Send + Sync {
 #[derive(Debug, thiserror::Error)]
 pub enum Unopened {
     /// Another instance has taken it since.
-    #[error("another instance has this slot")]
+    #[error("another instance owns this slot")]
     Lost,
     #[error("{0}")]
     Fault(String),

@@ -20,8 +20,9 @@ use posts::Posts;
 use std::path::{Path, PathBuf};
 use target::To;
 
-const USED: &str = "the store has something already, and a folder is moved into one that `totxegun store init` has made and \
-                    nobody has used: make it in another database";
+const USED: &str =
+    "the store is not empty, and a folder can be moved only into a store that was never used: make one in \
+    another database by `totxegun store init`";
 
 /// The text of another fault, which needs no context.
 #[derive(Debug, thiserror::Error)]
@@ -62,7 +63,11 @@ pub fn address_of(server: &Server) -> String {
 pub fn from_folder(folder: &Path, server: &Server, copies: Copies) -> Result<Option<Moved>, MoveFault> {
     let path = absolute(folder)?;
     if !path.join("version").exists() {
-        return refused(format!("{} is no folder of totxegun: it has no file `version`", path.display()));
+        return refused(format!(
+            "{} is not a folder of totxegun, since it has no file `version`: give the folder that was \
+            the service's --data",
+            path.display()
+        ));
     }
     let store = PostgresStore::look_into(server, copies)?;
     let folder = match Folder::open(&path, Durability::Disk) {
@@ -91,7 +96,7 @@ fn absolute(folder: &Path) -> Result<PathBuf, MoveFault> {
     let found = std::path::absolute(folder).map_err(StoreFault::System)?;
     match found.to_str() {
         Some(text) if !text.contains(char::is_control) => Ok(found),
-        _ => refused("the folder's path is no text on one line: give it another"),
+        _ => refused("the folder's path is not one line of UTF-8: rename the folder"),
     }
 }
 

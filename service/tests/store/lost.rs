@@ -46,7 +46,7 @@ fn a_piece_that_is_gone_is_named_and_the_slot_stays_its_owners() {
     let fault = owner.open_files("e").err().unwrap();
     assert!(drive::is_lost(&owner.sync().unwrap_err()), "nothing of it is written any more");
     let text = fault.to_string();
-    let says = ["outbox/000000000001.seg", "slot 0 is not served", "totxegun_store.piece back"];
+    let says = ["outbox/000000000001.seg", "slot 0 is not served", "restore that row"];
     assert!(matches!(fault, Fault::Io { .. }) && says.iter().all(|part| text.contains(part)), "{text}");
 }
 
@@ -73,14 +73,14 @@ fn a_slot_without_the_files_of_which_the_sink_has_requests_is_not_begun_anew() {
     commit(&store, 3);
     server.ask("insert into totxegun_store.delivered values (0, 1, 4)");
     let older = refusal(&store);
-    assert!(older.contains("ends at request 3, and the sink has requests up to number 4"), "{older}");
+    assert!(older.contains("ends at request 3, but the sink has requests up to number 4"), "{older}");
     server.ask("delete from totxegun_store.piece");
     server.ask("delete from totxegun_store.file");
     let gone = refusal(&store);
-    assert!(gone.contains("has no segments, and the sink has requests of it up to number 4"), "{gone}");
+    assert!(gone.contains("has no segments, although the sink has its requests up to number 4"), "{gone}");
     server.ask("delete from totxegun_store.delivered");
     let begun = refusal(&store);
-    assert!(begun.contains("has no segments, and the slot had some"), "{begun}");
+    assert!(begun.contains("has no segments, although the slot had files"), "{begun}");
     assert!(begun.contains("totxegun store restored"), "{begun}");
     assert_eq!(store.restored(&[]).unwrap(), [0]);
     assert_eq!(refusal(&store), "", "an operator has said that it begins with nothing");

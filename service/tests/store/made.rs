@@ -39,7 +39,7 @@ fn a_start_refuses_what_is_no_store_or_another_or_can_lose() {
     server.ask("select pg_reload_conf()");
     for other in [0, 2, 3, 4] {
         server.ask(&versions(other));
-        let told = format!("of format version {other}, and this totxegun reads 1 alone: ");
+        let told = format!("has format version {other}, and this totxegun reads only 1: ");
         refused(&one, Copies::Two, "a", &told);
     }
     server.ask(&versions(1));

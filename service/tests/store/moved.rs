@@ -40,7 +40,7 @@ fn nobody_takes_a_slot_or_starts_while_a_store_is_filled_but_who_fills_it() {
     owner.create(Path::new("journal/1")).unwrap();
     assert!(is_lost(&owner.sync().unwrap_err()), "who had a slot writes no more");
     assert_eq!(wait(store.take(1, 1, "a")).unwrap(), None);
-    refused(&server.address(), "what the folder /data has is on its way into this store");
+    refused(&server.address(), "folder /data is being moved into this store");
     assert!(store.take_to_move(1, "f00").is_err(), "another move");
     assert_eq!(store.take_to_move(2, "0123456789abcdef").unwrap(), 3);
     store.release_moved(2, 3).unwrap();
@@ -83,7 +83,7 @@ fn what_an_instance_takes_just_before_a_store_is_filled_stays() {
     });
     wait(store.leave("a")).unwrap();
     let why = moved().expect_err("the store is in use");
-    assert!(why.contains("has something already"), "{why}");
+    assert!(why.contains("the store is not empty"), "{why}");
     assert!(!store.standing().unwrap().is_filling);
     assert_eq!(take(&store, 0).1[Path::new("journal/1")], b"post");
 }
@@ -106,7 +106,7 @@ fn a_move_that_was_killed_before_its_decision_is_decided_by_the_same_call_and_by
     let filling = Standing { is_filling: true, ..counts.clone() };
     store.change(&counts, &filling).unwrap(); // as it was before the kill
     let why = moved(&other).unwrap_err();
-    assert!(why.contains(&format!("what the folder {} has is on its way", one.display())), "{why}");
+    assert!(why.contains(&format!("folder {} is being moved", one.display())), "{why}");
     for _ in 0..2 {
         assert_eq!(moved(&one).unwrap(), None);
         assert_eq!(store.standing().unwrap(), counts);
@@ -114,7 +114,7 @@ fn a_move_that_was_killed_before_its_decision_is_decided_by_the_same_call_and_by
     let why = Folder::open(&one, Durability::Disk).err().unwrap().to_string();
     assert!(why.contains("was moved into the store postgres://"), "{why}");
     let why = moved(&other).unwrap_err();
-    assert!(why.contains("has something already"), "{why}");
+    assert!(why.contains("the store is not empty"), "{why}");
     let another = Folder::open(&other, Durability::Disk).unwrap();
     another.set_moved("postgres://u@h:1/d").unwrap();
     drop(another);

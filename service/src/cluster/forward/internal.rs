@@ -56,16 +56,19 @@ impl<H: Here> Internal<H> {
     async fn take(&self, request: Request<Body>) -> Result<Response<Body>, Response<Body>> {
         let is_question = request.uri().path() == operators::PATH;
         if !(is_question || request.uri().path() == PATH) || request.method() != Method::POST {
-            return Err(owner_answer::refused(404, "there is no such page"));
+            return Err(owner_answer::refused(404, "no such path"));
         }
         if !self.secret.is_in(request.headers()) {
-            return Err(owner_answer::refused(401, "this is no instance of this cluster"));
+            return Err(owner_answer::refused(
+                401,
+                "wrong secret: the caller is not an instance of this cluster",
+            ));
         }
         if is_question {
             return self.answered(request.into_body()).await;
         }
-        let head =
-            Head::read(request.headers()).ok_or_else(|| owner_answer::refused(400, "a head is missing"))?;
+        let head = Head::read(request.headers())
+            .ok_or_else(|| owner_answer::refused(400, "a header is missing or malformed"))?;
         if self.cluster.whose(head.slot) != (Whose::Here { term: head.term }) {
             return Err(owner_answer::not_mine());
         }
@@ -79,7 +82,7 @@ impl<H: Here> Internal<H> {
             false => None,
         };
         let body = whole(body).await;
-        let body = body.ok_or_else(|| owner_answer::refused(400, "the body is not whole, or too long"))?;
+        let body = body.ok_or_else(|| owner_answer::refused(400, "the body is incomplete or too long"))?;
         let part = Original { encoding: head.encoding, body };
         // The shard checks itself whether it is still open here.
         let outcome = self.here.post(head.slot, head.term, &head.sender, part).await;

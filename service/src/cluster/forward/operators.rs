@@ -75,10 +75,10 @@ impl<H: Here> Internal<H> {
     pub(super) async fn answered(&self, body: Body) -> Result<Response<Body>, Response<Body>> {
         let question = whole(body).await;
         let question =
-            question.ok_or_else(|| owner_answer::refused(400, "the question is not whole, or too long"))?;
+            question.ok_or_else(|| owner_answer::refused(400, "the question is incomplete or too long"))?;
         let answer = self.answers.clone().answer_question(question).await;
         answer
             .map(owner_answer::bytes)
-            .ok_or_else(|| owner_answer::refused(400, "this is asked by another version"))
+            .ok_or_else(|| owner_answer::refused(400, "the question is from an instance of another version"))
     }
 }

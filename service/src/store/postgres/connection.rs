@@ -116,7 +116,7 @@ impl Connections {
         self.counts.doubts.fetch_add(1, Relaxed);
         if IN_DOUBT.is_due() {
             let reason = doubt.to_string();
-            tracing::warn!(whose, reason, "the store is asked again until what came of a write is known");
+            tracing::warn!(whose, reason, "the outcome of a call to the store is unknown, retrying");
         }
     }
 

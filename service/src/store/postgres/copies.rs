@@ -43,7 +43,7 @@ impl Settings {
             setting.as_ref().is_some_and(|found| good.contains(&found.as_str()))
         };
         if self.fsync.is_none() || self.standbys.is_none() {
-            return Some("it does not say whether it has fsync and synchronous_standby_names".into());
+            return Some("it does not report fsync and synchronous_standby_names".into());
         }
         if !is(&self.fsync, &["on"]) {
             return Some("fsync is off".into());
@@ -63,7 +63,7 @@ pub(super) async fn check(client: &Client, server: &Server, copies: Copies) -> R
     match (Settings::from(row).lose(), copies) {
         (None, _) => Ok(()),
         (Some(why), Copies::One) => {
-            tracing::warn!(%server, reason = why, "the store can lose what it said is durable");
+            tracing::warn!(%server, reason = why, "the store can lose data that it reports as durable");
             Ok(())
         }
         (Some(why), Copies::Two) => Err(StoreFault::Copies { server: server.to_string(), why }),
@@ -91,8 +91,8 @@ mod tests {
             (on(), Some("local".into()), Some("*".into()), Some("synchronous_commit")),
             (on(), Some("remote_write".into()), Some("*".into()), Some("synchronous_commit")),
             (on(), on(), Some(" ".into()), Some("synchronous_standby_names")),
-            (on(), on(), None, Some("does not say")),
-            (None, on(), Some("*".into()), Some("does not say")),
+            (on(), on(), None, Some("does not report")),
+            (None, on(), Some("*".into()), Some("does not report")),
         ] {
             let settings = Settings { fsync, synchronous_commit: commit, standbys };
             let why = settings.lose();

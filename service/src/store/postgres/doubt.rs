@@ -15,11 +15,11 @@ pub enum Doubt {
     #[error("the server warns: {0}")]
     Warned(String),
     /// It is committed, but can be lost with the server, although `--store-copies` asks for more.
-    #[error("the server can lose what it says is durable: {0}")]
+    #[error("the server can lose data that it reports as durable: {0}")]
     FewCopies(String),
     #[error("{}", shown(.0))]
     Said(Error),
-    #[error("the slot's row is locked, as by a write that waits for its standby")]
+    #[error("the slot's row is locked, for example by a write that waits for its standby")]
     Locked,
     #[error("{0}")]
     NotConnected(String),
@@ -39,15 +39,15 @@ use Next::{Another, Same};
 
 /// A server's answer (a SQLSTATE, or its beginning), and why the call is repeated in this way. The first match counts.
 const SAID: [(&str, Next, &str); 9] = [
-    ("40003", Another, "the server does not know whether it is done"),
-    ("40", Same, "another transaction was in the way, so nothing was done"),
-    ("55P03", Same, "the slot's row is locked, as by a write that waits for its standby"),
+    ("40003", Another, "the server does not know whether it was done"),
+    ("40", Same, "it conflicted with another transaction, so nothing was done"),
+    ("55P03", Same, "the slot's row is locked, for example by a write that waits for its standby"),
     ("57014", Same, "it was cancelled or took too long, so nothing was done"),
-    ("53", Same, "disk, memory or connections are short, which may pass"),
-    ("57", Another, "the server is ending or starting"),
-    ("25", Another, "the server reads alone: another is the primary now"),
+    ("53", Same, "the server is short of disk, memory or connections, which may pass"),
+    ("57", Another, "the server is shutting down or starting"),
+    ("25", Another, "the server is read-only: another is the primary now"),
     ("08", Another, "the connection is broken"),
-    ("", Another, "what else may be wrong is of this session or of this server"),
+    ("", Another, "anything else may be the fault of this session or this server"),
 ];
 
 impl Doubt {

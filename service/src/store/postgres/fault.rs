@@ -9,27 +9,34 @@ pub enum StoreFault {
     Doubt(#[from] Doubt),
     #[error("{server}: {doubt}")]
     Server { server: String, doubt: Doubt },
-    #[error("{0} has no store: make one with `totxegun store init`, or correct the address")]
+    #[error("{0} has no store: make one by `totxegun store init`, or correct the address")]
     None(String),
-    #[error("{0} has a store already: it is used as it is, or dropped by `drop schema totxegun_store cascade`, with all in it")]
+    #[error("{0} has a store already: use it, or delete it with everything in it by `drop schema totxegun_store cascade`")]
     IsThere(String),
-    #[error("the store in {server} is of format version {found}, and this totxegun reads {known} alone: use the totxegun that made it, or make a store in another database")]
+    #[error("the store in {server} has format version {found}, and this totxegun reads only {known}: use the totxegun that \
+        made it, or make a store in another database")]
     Version { server: String, found: i32, known: i32 },
-    #[error("a store has 1 to {most} slots: not {given}")]
+    #[error("a store can't have {given} slots: give 1 to {most}")]
     Slots { given: u16, most: u16 },
-    #[error("there is no slot {given}: the store has 0 to {}", slots - 1)]
+    #[error("there is no slot {given}: the store has slots 0 to {}", slots - 1)]
     NoSlot { given: u16, slots: u16 },
-    #[error("the store is in use by {0}: end all instances, and call this again")]
+    #[error("the store is in use by {0}: stop all instances, and call this again")]
     Running(String),
-    #[error("this instance reads posts by other rules than the store's instances. Here: {here}. There: {there}. Start it with the same; or stop all, and `update totxegun_store.cluster set reading = ''`")]
+    #[error("this instance reads posts by other rules than the store's other instances. Here: {here}. There: {there}. Start \
+        it with their options; to change the rules of all, stop all instances and `update totxegun_store.cluster set \
+        reading = ''`")]
     Reading { here: String, there: String },
     #[error("{0}")]
     Moved(String),
-    #[error("something else was done to the store meanwhile: look whether another `totxegun store move` runs, and call it again")]
+    #[error("something else changed the store meanwhile: make sure that no other `totxegun store move` runs, and call it \
+        again")]
     Meanwhile,
-    #[error("{server} can lose what it said is durable: {why}. Say --store-copies 1 to do so all the same")]
+    #[error(
+        "{server} can lose data that it reports as durable: {why}. Give it a synchronous standby, or give \
+        --store-copies 1 to accept that"
+    )]
     Copies { server: String, why: String },
-    #[error("the system has no thread or no random bytes for the store: {0}")]
+    #[error("the system gives no thread or no random bytes for the store: {0}")]
     System(std::io::Error),
 }
 
@@ -66,7 +73,7 @@ mod tests {
             (StoreFault::of("u@h:1/d", Doubt::Refused("no".into())), "u@h:1/d: no"),
             (
                 StoreFault::from(Error::other("none")),
-                "the system has no thread or no random bytes for the store: none",
+                "the system gives no thread or no random bytes for the store: none",
             ),
         ] {
             let shown = anyhow::Error::from(fault).context("it can't be used");

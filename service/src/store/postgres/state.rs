@@ -48,9 +48,8 @@ impl Standing {
         let folder = &self.folder;
         self.is_filling.then(|| {
             format!(
-                "what the folder {folder} has is on its way into this store, and it counts once all is there: call `totxegun store \
-                 move --from {folder} ADDRESS` again; for another folder `drop schema totxegun_store cascade`, and `totxegun store \
-                 init`"
+                "folder {folder} is being moved into this store, which does not count yet: call `totxegun store move --from \
+                 {folder} ADDRESS` again; to give that up, `drop schema totxegun_store cascade` and `totxegun store init`"
             )
         })
     }

@@ -285,8 +285,8 @@ impl<T> Lane<T> {
         tracing::error!(
             slot,
             %server,
-            "the store has lost what it said is durable: it went over to a standby that had not got all, or was put back \
-             from a copy"
+            "the store no longer has data that it reported as durable: it failed over to a standby that lagged, or was \
+             restored from a backup"
         );
         owner.lose();
     }

@@ -122,8 +122,8 @@ impl PostgresDrive {
     fn vanished(&self, file: u64, pieces: &[u64]) -> io::Error {
         let (slot, first) = (self.slot(), pieces.first().copied().unwrap_or_default());
         let what = format!(
-            "the store has lost piece {first} of file {file}, so slot {slot} is not served: put that row of \
-             totxegun_store.piece back, from another server or a backup"
+            "the store has lost piece {first} of file {file}, so slot {slot} is not served: restore that row of \
+             totxegun_store.piece from another server or a backup"
         );
         io::Error::new(io::ErrorKind::InvalidData, what)
     }
