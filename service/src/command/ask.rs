@@ -72,7 +72,7 @@ pub fn sender(text: &str) -> Result<String, String> {
     if is_sender(text) {
         return Ok(text.to_string());
     }
-    Err("a sender's name is 1 to 64 of A-Z a-z 0-9 . _ -".to_string())
+    Err("a sender's name is 1 to 64 characters of A-Z a-z 0-9 . _ -".to_string())
 }
 
 /// Gives an order, and says what there is to say of it.

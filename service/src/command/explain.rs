@@ -174,7 +174,7 @@ fn unpacked(body: Vec<u8>) -> anyhow::Result<(bool, Vec<u8>)> {
     flate2::read::MultiGzDecoder::new(&body[..])
         .take(MOST + 1)
         .read_to_end(&mut plain)
-        .context("refused with 400: bad compression: no gzip")?;
+        .context("refused with 400: bad compression: the body is not valid gzip")?;
     Ok((true, plain))
 }
 
@@ -350,7 +350,7 @@ mod tests {
         long.resize(MOST as usize + 1, 0);
         let error = plain(long).unwrap_err().to_string();
         assert_eq!(
-            error, "refused with 413: body too long: over 4194304 bytes, packed or unpacked: post fewer points at a time",
+            error, "refused with 413: body too long: over 4194304 bytes, compressed or not: post fewer points at a time",
             "also where it is packed"
         );
         for (body, why) in

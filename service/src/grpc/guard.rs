@@ -175,7 +175,10 @@ impl<S: AsyncRead + Unpin> AsyncRead for Guarded<S> {
         let before = into.filled().len();
         ready!(Pin::new(&mut self.stream).poll_read(context, into))?;
         if !self.frames.may_go_on(&mut into.filled_mut()[before..]) {
-            return Poll::Ready(Err(Error::new(ErrorKind::InvalidData, "frames that no client may send")));
+            return Poll::Ready(Err(Error::new(
+                ErrorKind::InvalidData,
+                "the client sent HTTP/2 frames that no client may send",
+            )));
         }
         Poll::Ready(Ok(()))
     }

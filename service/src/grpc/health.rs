@@ -46,15 +46,15 @@ pub async fn answer<T: Taker>(intake: &Intake<T>, parts: &Parts, body: &mut Body
         _ => {
             return reply::failed(
                 UNAVAILABLE,
-                "the request did not come whole, or there is no room for it: ask again",
+                "the request did not arrive in time, or there is no room for it: retry",
             )
         }
     };
     let asked = message.and_then(|message| HealthCheckRequest::decode(message.bytes).ok());
     match asked {
-        None => reply::failed(INVALID_ARGUMENT, "send one HealthCheckRequest, not packed"),
+        None => reply::failed(INVALID_ARGUMENT, "send one HealthCheckRequest, not compressed"),
         Some(asked) if !SERVICES.contains(&asked.service.as_str()) => {
-            reply::failed(NOT_FOUND, "ask for the empty name, or for the service of metrics")
+            reply::failed(NOT_FOUND, "unknown service: ask for the empty name, or for the metrics service")
         }
         Some(_) => {
             let status = if intake.is_available() { SERVING } else { NOT_SERVING };

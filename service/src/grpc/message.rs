@@ -78,7 +78,7 @@ mod tests {
     use crate::intake::Budget;
 
     const TOO_LONG: &str =
-        "body too long: over 4194304 bytes, packed or unpacked: post fewer points at a time";
+        "body too long: over 4194304 bytes, compressed or not: post fewer points at a time";
 
     /// Receives a body that comes in these parts.
     async fn received(parts: Vec<Vec<u8>>) -> Result<Message, String> {

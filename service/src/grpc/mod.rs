@@ -99,7 +99,7 @@ async fn take<T: Taker>(intake: &Arc<Intake<T>>, mut head: Head, body: &mut Body
     match message::receive(body, &mut hold).await {
         Err(refusal) => intake.refused(&head.sender.name, &refusal),
         Ok(message) if message.is_packed && head.packing == Packing::Plain => {
-            let why = "the message is packed, and grpc-encoding does not say how";
+            let why = "the message is compressed but grpc-encoding is missing";
             intake.refused(&head.sender.name, &Refused::Unreadable(why.into()).into())
         }
         Ok(message) => {

@@ -223,7 +223,10 @@ async fn what_is_no_call_of_the_method_is_refused() {
     let served = Served::start().await;
     let kind = ("content-type", "application/grpc+proto");
     let answer = served.call("/a.B/Export", &[kind], frame(0, b"")).await;
-    assert_eq!((answer.code(), answer.text("grpc-message")), (12, "no such method"));
+    assert_eq!(
+        (answer.code(), answer.text("grpc-message")),
+        (12, "no such method: call MetricsService/Export")
+    );
     for kind in ["application/json", "application/grpc+json", "application/grpc-web"] {
         let answer = served.call(METHOD, &[("content-type", kind)], frame(0, b"")).await;
         assert_eq!((answer.status, answer.code()), (415, -1), "{kind}");
@@ -300,7 +303,8 @@ async fn a_call_to_a_name_that_is_none_of_ours_is_refused() {
 async fn a_deadline_ends_the_call_and_not_the_post() {
     let served = Served::with(None, 1 << 20).await;
     let answer = served.export(&[("grpc-timeout", "50m")], frame(0, b"")).await;
-    assert_eq!((answer.code(), answer.text("grpc-message")), (4, "the deadline has passed"));
+    assert_eq!(answer.code(), 4);
+    assert!(answer.text("grpc-message").starts_with("the deadline has passed: "));
     assert_eq!(served.kept.posts.lock().unwrap().len(), 1);
     assert_eq!(*served.kept.turned.lock().unwrap(), ["-"], "no operator would see it");
 }

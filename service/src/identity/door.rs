@@ -91,10 +91,10 @@ impl Door {
 impl fmt::Display for Door {
     fn fmt(&self, to: &mut fmt::Formatter<'_>) -> fmt::Result {
         let named = match (self.by_certificate, &self.tokens) {
-            (true, Some(_)) => "by the certificate that they show, else by their token",
+            (true, Some(_)) => "by their certificate, or else by their token",
             (true, None) => "by their certificate",
             (false, Some(_)) => "by their token",
-            (false, None) => "by their own word, the header x-sender",
+            (false, None) => "by their header x-sender, which nothing verifies",
         };
         let over = if self.has_tls() { "over TLS" } else { "without TLS" };
         write!(to, "senders are named {named}, {over}")

@@ -23,22 +23,22 @@ pub enum Stranger {
     #[error("no token: send one header `Authorization: Bearer TOKEN`")]
     NoToken,
     #[error(
-        "the token is not known: the file of tokens has no line of it, as `totxegun token NAME` prints one"
+        "the token is not known: the file of tokens has no line for it; `totxegun token NAME` prints one"
     )]
     WrongToken,
     #[error(
-        "the certificate has ended, or is not believed any more: renew it, or put its root into --client-ca"
+        "the certificate has expired or is no longer trusted: renew it, or put its root into --client-ca"
     )]
     NotBelieved,
-    #[error("the certificate names nobody: it needs a DNS name or a URI in its subjectAltName, or a CN")]
+    #[error("the certificate has no name: it needs a DNS name or a URI in its subjectAltName, or a CN")]
     Nameless,
     #[error(
-        "{name} {MAY_NOT} {other}: leave x-sender out, or allow it by a line of --tokens, `{name}/{other} sha256:HEX` or \
+        "{name} {MAY_NOT} {other}: leave x-sender out, or allow it by a line in --tokens: `{name}/{other} sha256:HEX` or \
          `{name}/{other} certificate`"
     )]
     OtherName { name: String, other: String },
     #[error(
-        "another host: `{host}` is no name of this address: post to an IP address, localhost or the host of --listen, or allow \
+        "another host: `{host}` is not an allowed host: post to an IP address, localhost or the host of --listen, or allow \
          the name by --allowed-hosts"
     )]
     OtherHost { host: String },

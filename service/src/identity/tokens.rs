@@ -87,7 +87,7 @@ enum Proof {
 impl Tokens {
     /// Parses the file. An error has the number of the line, and nothing of its contents.
     pub fn read(contents: &[u8]) -> Result<Tokens, String> {
-        let text = std::str::from_utf8(contents).map_err(|_| "it is no text in UTF-8".to_string())?;
+        let text = std::str::from_utf8(contents).map_err(|_| "it is not UTF-8 text".to_string())?;
         let mut tokens = Tokens::default();
         let lines = text.lines().enumerate();
         for (number, line) in lines.filter(|(_, line)| !line.trim().is_empty() && !line.starts_with('#')) {
@@ -102,16 +102,16 @@ impl Tokens {
         let Line { sender, proof, share } = line;
         let name = sender.name.clone();
         if share != Share::default() && self.shares.insert(name.clone(), share).is_some() {
-            return Err("its name has series= or points= in a line already");
+            return Err("an earlier line has series= or points= for this name");
         }
         match proof {
             Proof::Token(digest) => match self.owners.entry(TokenDigest(digest)) {
-                Entry::Occupied(_) => return Err("its token has a line already"),
+                Entry::Occupied(_) => return Err("an earlier line has this token"),
                 Entry::Vacant(place) => drop(place.insert(sender.into())),
             },
             Proof::Certificate if sender.others.is_empty() => {}
             Proof::Certificate if self.certified.contains_key(&name) => {
-                return Err("its name has a line for certificates already")
+                return Err("an earlier line has a certificate of this name")
             }
             Proof::Certificate => drop(self.certified.insert(name, sender.into())),
             Proof::None => {}
@@ -131,7 +131,7 @@ impl Tokens {
         match has_names_alone && !self.owners.values().any(is_of_senders) {
             true => Ok(self),
             false => {
-                Err("it has a line for senders: write `NAME sha256:HEX`, as `totxegun token NAME` prints it"
+                Err("it has a line that only senders may have: write `NAME sha256:HEX`, as `totxegun token NAME` prints it"
                     .into())
             }
         }
@@ -141,7 +141,7 @@ impl Tokens {
     pub fn shut(&self) -> Option<&'static str> {
         let is_empty = self.owners.is_empty() && self.certified.is_empty();
         is_empty.then_some(
-            "it has no line of a token, so nobody gets in by one: add what `totxegun token NAME` prints",
+            "it has no token, so nobody can use one: add the line that `totxegun token NAME` prints",
         )
     }
 
@@ -172,24 +172,24 @@ fn read_line(line: &str) -> Result<Line, &'static str> {
         None => (who, None),
     };
     if !is_sender(name) || name == NO_NAME {
-        return Err("a sender's name is 1 to 64 of A-Z a-z 0-9 . _ -, and not - alone");
+        return Err("a sender's name is 1 to 64 characters of A-Z a-z 0-9 . _ -, and not only -");
     }
     if other.is_some_and(|other| other != "*" && !is_sender(other.strip_suffix('*').unwrap_or(other))) {
-        return Err("behind the / write a sender's name, the beginning of one and *, or *");
+        return Err("after the / write a sender's name, the beginning of one and *, or only *");
     }
     let says_more = other.is_some() || share != Share::default();
     let proof = match proof {
-        CERTIFICATE | NO_PROOF if !says_more => return Err(
-            "a certificate needs a line for others' names, NAME/PATTERN, or for series= and points= alone",
-        ),
+        CERTIFICATE | NO_PROOF if !says_more => {
+            return Err("a line without a token needs NAME/PATTERN, series= or points=")
+        }
         CERTIFICATE => Proof::Certificate,
         NO_PROOF if other.is_some() => {
-            return Err("behind NAME/PATTERN write a token's digest, or certificate")
+            return Err("after NAME/PATTERN write a token's digest, or `certificate`")
         }
         NO_PROOF => Proof::None,
         _ => Proof::Token(
             digest(proof)
-                .ok_or("behind the name write sha256: and 64 hexadecimal digits, never the token itself")?,
+                .ok_or("after the name write sha256: and 64 hexadecimal digits, never the token itself")?,
         ),
     };
     let (name, others) = (name.to_string(), other.map(str::to_string).into_iter().collect());
@@ -205,10 +205,10 @@ fn read_share<'l>(words: impl Iterator<Item = &'l str>) -> Result<Share, &'stati
         let of = match what {
             "series" => &mut share.series,
             "points" => &mut share.points,
-            _ => return Err("behind the digest write series=N, points=N, or nothing"),
+            _ => return Err("after the digest write series=N, points=N, or nothing"),
         };
         if number.is_none() || of.is_some() {
-            return Err("write series=N and points=N once each, of 1 to 1000000000000");
+            return Err("write series=N and points=N at most once each, with N from 1 to 1000000000000");
         }
         *of = number;
     }
@@ -268,24 +268,24 @@ mod tests {
     fn a_faulty_line_is_named_and_not_shown() {
         let twice = format!("a {OF_ABC}\nb {}", OF_ABC.to_uppercase().replace("SHA", "sha"));
         for (text, why) in [
-            ("\na s3cret", "line 2: behind the name write sha256:"),
-            ("a sha256:s3cret", "line 1: behind the name"),
-            (&format!("a {}", &OF_ABC[..OF_ABC.len() - 1]), "line 1: behind the name"),
+            ("\na s3cret", "line 2: after the name write sha256:"),
+            ("a sha256:s3cret", "line 1: after the name"),
+            (&format!("a {}", &OF_ABC[..OF_ABC.len() - 1]), "line 1: after the name"),
             ("s3cret", "line 1: write `NAME sha256:HEX`"),
-            (&format!("a {OF_ABC} s3cret"), "line 1: behind the digest write series=N"),
-            (&format!("a {OF_ABC} series=s3cret"), "line 1: write series=N and points=N once each"),
+            (&format!("a {OF_ABC} s3cret"), "line 1: after the digest write series=N"),
+            (&format!("a {OF_ABC} series=s3cret"), "line 1: write series=N and points=N at most once each"),
             (&format!("a {OF_ABC} points=0"), "line 1: write series=N"),
             (&format!("a {OF_ABC} points=1 points=2"), "line 1: write series=N"),
-            (&format!("a {OF_ABC} series=1\na - points=1"), "line 2: its name has series="),
-            ("a -", "line 1: a certificate needs"),
-            ("a/* - series=1", "line 1: behind NAME/PATTERN"),
+            (&format!("a {OF_ABC} series=1\na - points=1"), "line 2: an earlier line has series="),
+            ("a -", "line 1: a line without a token needs"),
+            ("a/* - series=1", "line 1: after NAME/PATTERN"),
             (&format!("s3cret+ {OF_ABC}"), "line 1: a sender's name"),
             (&format!("- {OF_ABC}"), "line 1: a sender's name"),
-            (&format!("a/s3cret+* {OF_ABC}"), "line 1: behind the /"),
-            (&format!("a/ {OF_ABC}"), "line 1: behind the /"),
-            ("a certificate", "line 1: a certificate needs"),
-            ("a/* certificate\na/b certificate", "line 2: its name has a line"),
-            (&twice, "line 2: its token has a line"),
+            (&format!("a/s3cret+* {OF_ABC}"), "line 1: after the /"),
+            (&format!("a/ {OF_ABC}"), "line 1: after the /"),
+            ("a certificate", "line 1: a line without a token needs"),
+            ("a/* certificate\na/b certificate", "line 2: an earlier line has a certificate of this name"),
+            (&twice, "line 2: an earlier line has this token"),
         ] {
             let found = refused(text);
             assert!(found.contains(why) && !found.contains("s3cret"), "{text}: {found}");
@@ -313,7 +313,7 @@ mod tests {
         let of = |text: String| Tokens::read(text.as_bytes()).unwrap().of_operators();
         assert!(of(format!("ann {OF_ABC}")).is_ok_and(|tokens| tokens.owner(b"abc").is_some()));
         for text in [format!("ann/bob {OF_ABC}"), "ann/* certificate".to_string()] {
-            assert!(of(text).is_err_and(|why| why.contains("a line for senders")));
+            assert!(of(text).is_err_and(|why| why.contains("only senders may have")));
         }
     }
 
@@ -335,7 +335,7 @@ mod tests {
     fn a_file_without_a_line_lets_nobody_in() {
         for text in ["", "\n", "# none\n"] {
             let tokens = Tokens::read(text.as_bytes()).unwrap();
-            assert!(tokens.shut().is_some_and(|why| why.contains("no line")), "{text}");
+            assert!(tokens.shut().is_some_and(|why| why.contains("no token")), "{text}");
             assert_eq!(tokens.owner(b""), None);
         }
         for text in [format!("a {OF_ABC}"), "a/* certificate".to_string()] {

@@ -38,8 +38,8 @@ const LAST_ANSWERS: Duration = Duration::from_secs(2);
 
 /// The response to a head that did not arrive in time. The encoding of the request is unknown, so it is JSON.
 const LATE: &[u8] =
-    b"HTTP/1.1 408 Request Timeout\r\ncontent-type: application/json\r\ncontent-length: 44\r\n\
-connection: close\r\n\r\n{\"message\":\"the request did not come whole\"}";
+    b"HTTP/1.1 408 Request Timeout\r\ncontent-type: application/json\r\ncontent-length: 48\r\n\
+connection: close\r\n\r\n{\"message\":\"the request did not arrive in time\"}";
 
 /// Answers requests.
 pub trait Handler: Send + Sync + 'static {
@@ -69,7 +69,7 @@ async fn accepted<L: Listener>(
             Err(error) => {
                 if TOLD.is_due() {
                     let reason = error.to_string();
-                    tracing::warn!(reason, "no connection could be accepted");
+                    tracing::warn!(reason, "no connection can be accepted");
                 }
                 tokio::time::sleep(NO_CONNECTION).await;
             }

@@ -10,48 +10,48 @@ use crate::otlp::{Outcome, Reason, Refused};
 /// Why a request is refused; the text is the message of the answer.
 #[derive(Debug, thiserror::Error)]
 pub enum Refusal {
-    #[error("no such path: metrics are posted to /v1/metrics, without a slash behind it")]
+    #[error("no such path: POST metrics to /v1/metrics (no trailing slash)")]
     NoSuchPath,
     /// gRPC only.
-    #[error("no such method")]
+    #[error("no such method: call MetricsService/Export")]
     NoSuchMethod,
-    #[error("wrong method")]
+    #[error("wrong method: use POST")]
     WrongMethod,
-    #[error("bad sender: x-sender is there once, with 1 to 64 bytes of A-Z a-z 0-9 . _ -")]
+    #[error("bad sender: send one x-sender of 1 to 64 characters of A-Z a-z 0-9 . _ -")]
     BadSender,
     #[error("{0}")]
     Stranger(#[from] Stranger),
-    #[error("only application/json or application/x-protobuf")]
+    #[error("unsupported Content-Type: use application/json or application/x-protobuf")]
     ContentType,
-    #[error("only gzip, zstd or identity")]
+    #[error("unsupported Content-Encoding: use gzip, zstd or identity")]
     ContentEncoding,
     /// No header says how long the body is.
-    #[error("no length of the body: Content-Length, or chunks")]
+    #[error("no length of the body: send Content-Length, or the body in chunks")]
     NoLength,
     /// The body did not arrive within its time. Nothing was taken, so the sender should retry: senders of OTLP retry
     /// 503 and drop what was answered 408.
-    #[error("the request did not come whole")]
+    #[error("the request did not arrive in time: retry")]
     Late,
     /// gRPC only: the call is over, and its post may have been taken.
-    #[error("the deadline has passed")]
+    #[error("the deadline has passed: the post may have been taken; a repeat is answered as the first time")]
     Deadline,
     /// The head or the framing of the body is malformed.
     #[error("malformed request")]
     Malformed,
     /// The connection ended or the sender cancelled before the request had arrived. Nothing was taken, so a sender that
     /// still reads should retry.
-    #[error("the sender has gone away")]
+    #[error("the sender has gone away before the body was complete: retry")]
     Gone,
     /// The head is too long or has too many fields.
-    #[error("head too long: over {READ_AHEAD} bytes or {HEADERS} fields")]
+    #[error("head too long: over {READ_AHEAD} bytes or {HEADERS} fields: send fewer headers")]
     HeadTooLong,
-    #[error("bad compression: no gzip")]
+    #[error("bad compression: the body is not valid gzip")]
     BadGzip,
-    #[error("bad compression: no zstd")]
+    #[error("bad compression: the body is not valid zstd")]
     BadZstd,
-    #[error("bad compression: over {MAX_MEMBERS} members: pack the body as one")]
+    #[error("bad compression: over {MAX_MEMBERS} gzip members: compress the body as one")]
     TooManyMembers,
-    #[error("body too long: over {MOST} bytes, packed or unpacked: post fewer points at a time")]
+    #[error("body too long: over {MOST} bytes, compressed or not: post fewer points at a time")]
     TooLong,
     /// The memory budget of all posts has no room to parse it.
     #[error(transparent)]
@@ -60,7 +60,7 @@ pub enum Refusal {
     #[error("{}", core::Refused::LongSeries)]
     LongSeries,
     /// Retryable: while memory was short, this body arrived too slowly.
-    #[error("too many bytes in flight: this body came too slowly: post fewer points at a time")]
+    #[error("too many bytes in flight: this body arrived too slowly: retry, or post fewer points at a time")]
     Slow,
     /// Retryable: there is no memory to name the series of the post.
     #[error("no memory")]

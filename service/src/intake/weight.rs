@@ -12,10 +12,10 @@ pub(super) struct Taken(AtomicUsize);
 #[derive(Debug, PartialEq, Eq, thiserror::Error)]
 pub enum Full {
     /// Other posts use the memory and will give it back: the same post can be sent again.
-    #[error("too many bytes in flight")]
+    #[error("too many bytes in flight: retry")]
     Now,
     /// The whole budget is smaller: the same post would be refused again.
-    #[error("body too long for the memory that posts may take: --max-bytes")]
+    #[error("body too long for the memory of all posts: post fewer points at a time, or raise --max-bytes")]
     Ever,
 }
 

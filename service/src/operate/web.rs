@@ -32,7 +32,7 @@ fn of_another_name(request: &Request<Body>, ours: &str) -> Option<String> {
     let other = hosts.chain(place).find(|host| !is_ours(host, ours))?;
     let other = shown(other, SHOWN);
     Some(format!(
-        "refused: `{other}` is no name of this address: ask for an IP address, localhost, or the host of --admin"
+        "refused: `{other}` is not an allowed host: ask for an IP address, localhost, or the host of --admin"
     ))
 }
 
@@ -145,7 +145,7 @@ mod tests {
         ] {
             if let Ok(value) = hyper::header::HeaderValue::from_bytes(host.as_bytes()) {
                 let why = refused("/flush", &[("host", value.to_str().unwrap())]).unwrap();
-                assert!(why.contains("is no name of this address"), "{why}");
+                assert!(why.contains("is not an allowed host"), "{why}");
             }
         }
         let two = [("host", "127.0.0.1:4319"), ("host", "evil.example")];

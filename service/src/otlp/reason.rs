@@ -107,9 +107,9 @@ reasons! {
         "OTEL_EXPORTER_OTLP_METRICS_HEADERS=Authorization=Bearer%20TOKEN, one token";
     UnknownToken "unknown_token" Request(401, "the token is not known"),
         "totxegun token NAME makes one: give it to the sender, and its line to the file of --tokens";
-    CertificateNotBelieved "certificate_not_believed" Request(401, "the certificate has ended, or is not believed any more"),
+    CertificateNotBelieved "certificate_not_believed" Request(401, "the certificate has expired or is no longer trusted"),
         "renew the sender's certificate, or put its root into the file of --client-ca";
-    CertificateWithoutName "certificate_without_name" Request(401, "the certificate names nobody"),
+    CertificateWithoutName "certificate_without_name" Request(401, "the certificate has no name"),
         "make the sender's certificate anew, with a DNS name in its subjectAltName";
     /// The text begins with the name of who posts.
     OtherName "other_name" Request(403, "another's name"),
@@ -121,9 +121,9 @@ reasons! {
     /// Of gRPC.
     NoSuchMethod "no_such_method" Request(404, "no such method"), "MetricsService/Export is all that is called here";
     WrongMethod "wrong_method" Request(405, "wrong method"), "metrics are posted";
-    ContentType "content_type" Request(415, "only application/json or application/x-protobuf"),
+    ContentType "content_type" Request(415, "unsupported Content-Type"),
         "set the exporter's protocol to http/protobuf or http/json";
-    ContentEncoding "content_encoding" Request(415, "only gzip, zstd or identity"),
+    ContentEncoding "content_encoding" Request(415, "unsupported Content-Encoding"),
         "set the exporter's compression to gzip, zstd or none";
     NoLength "no_length" Request(411, "no length of the body"), "the sender gives neither Content-Length nor chunks";
     MalformedRequest "malformed_request" Request(400, "malformed request"),
@@ -144,7 +144,7 @@ reasons! {
     /// As the status of a gateway that waited too long.
     Deadline "deadline" Request(504, "the deadline has passed"), "give the exporter a longer timeout";
     /// Senders of OTLP repeat 503, and drop what is 408.
-    TooSlow "too_slow" Request(503, "the request did not come whole"), "the network or the sender is slow";
+    TooSlow "too_slow" Request(503, "the request did not arrive in time"), "the network or the sender is slow";
     /// Its connection ended, or its call was given up, within a body.
     GoneAway "gone_away" Request(503, "the sender has gone away"),
         "nothing is lost: a sender repeats what it gave up. If this stays, its timeout is short, or the network breaks off";

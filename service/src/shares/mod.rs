@@ -54,14 +54,16 @@ pub struct Shares {
 /// Why a post is refused.
 #[derive(Debug, PartialEq, Eq, thiserror::Error)]
 pub enum Over {
-    #[error("over its quota: {sender} may post {points} points a second, {} at once: again in {seconds} s", points * BURST)]
+    #[error("over its quota: {sender} may post {points} points a second, {} at once: retry in {seconds} s", points * BURST)]
     Points { sender: String, points: u64, seconds: u64 },
-    #[error("over its quota: {sender} has {series} series, and may have no new ones over {most}: drop an attribute, or raise its series=")]
+    #[error("over its quota: {sender} has {series} series of at most {most}, so new ones are refused: drop an attribute, or \
+        raise series= of its line in --tokens, or --sender-series")]
     Series { sender: String, series: u64, most: u64 },
-    #[error("over its quota: {sender} may have {most} series, and this post alone has more new ones: drop an attribute, or raise its series=")]
+    #[error("over its quota: {sender} may have {most} series, and this post alone has more new ones: drop an attribute, or \
+        raise series= of its line in --tokens, or --sender-series")]
     Alone { sender: String, most: u64 },
     /// All senders together have too many series.
-    #[error("too many series: there are {all}, and at most {most}")]
+    #[error("too many series: there are {all}, and --max-series is {most}")]
     All { all: u64, most: u64 },
     #[error("too many series in a post: over {most}: post fewer series at a time")]
     AllAlone { most: u64 },

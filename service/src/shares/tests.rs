@@ -365,7 +365,7 @@ async fn points_of_what_is_not_taken_are_given_back() {
     }
     claim(60).await.unwrap().keep(1, 1);
     let over = claim(1).await.err().unwrap();
-    assert_eq!(over.to_string(), "over its quota: A may post 1 points a second, 60 at once: again in 1 s");
+    assert_eq!(over.to_string(), "over its quota: A may post 1 points a second, 60 at once: retry in 1 s");
     assert_eq!(Outcome::from(over).again_in(), Some(1));
 }
 

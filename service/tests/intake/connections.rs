@@ -103,8 +103,8 @@ async fn what_is_no_request_is_refused_and_ends_the_connection() {
     let cases = [
         ("SSH-2.0-OpenSSH_9.2\r\n\r\n", 400, "malformed request"),
         (both, 400, "malformed request"),
-        (&long, 431, "head too long: over 65536 bytes or 100 fields"),
-        (&many, 431, "head too long: over 65536 bytes or 100 fields"),
+        (&long, 431, "head too long: over 65536 bytes or 100 fields: send fewer headers"),
+        (&many, 431, "head too long: over 65536 bytes or 100 fields: send fewer headers"),
     ];
     for (text, status, message) in cases {
         let mut client = served.client().await;

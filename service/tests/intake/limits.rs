@@ -7,7 +7,7 @@ use tokio::net::TcpStream;
 use totxegun::intake::Limits;
 use totxegun::otlp::Outcome;
 
-const TOO_LONG: &str = "body too long: over 4194304 bytes, packed or unpacked: post fewer points at a time";
+const TOO_LONG: &str = "body too long: over 4194304 bytes, compressed or not: post fewer points at a time";
 
 #[tokio::test]
 async fn a_bomb_ends_at_the_limit() {
@@ -39,7 +39,7 @@ async fn a_slow_head_and_a_slow_body_are_ended() {
     let late = head.answer().await;
     assert_eq!(
         (late.status, late.message().as_str()),
-        (503, "the request did not come whole"),
+        (503, "the request did not arrive in time: retry"),
         "senders of OTLP drop what is 408"
     );
     assert!(late.has("retry-after: 1") && late.has("connection: close"), "{}", late.head);
@@ -49,7 +49,10 @@ async fn a_slow_head_and_a_slow_body_are_ended() {
     body.write(b"POST /v1/metrics HTTP/1.1\r\nHost: a\r\nContent-Type: application/json\r\nContent-Length: 9\r\n\r\n{")
         .await;
     let answer = body.answer().await;
-    assert_eq!((answer.status, answer.message().as_str()), (503, "the request did not come whole"));
+    assert_eq!(
+        (answer.status, answer.message().as_str()),
+        (503, "the request did not arrive in time: retry")
+    );
     assert!(begun.elapsed() >= LATE);
     assert!(body.ends().await);
     let mut idle = served.client().await;
@@ -77,7 +80,10 @@ async fn a_cut_body_is_no_post() {
         .await;
     half.stream.shutdown().await.unwrap();
     let answer = half.answer().await;
-    assert_eq!((answer.status, answer.message().as_str()), (503, "the sender has gone away"));
+    assert_eq!(
+        (answer.status, answer.message().as_str()),
+        (503, "the sender has gone away before the body was complete: retry")
+    );
     assert!(served.bodies().is_empty());
     assert_eq!(served.budget.used(), 0);
 }
@@ -114,7 +120,7 @@ async fn what_is_over_the_bytes_in_flight_may_be_sent_again() {
     let mut others = served.budget.hold();
     others.set(990).unwrap();
     let answer = served.ask(&json(BODY.as_bytes())).await;
-    assert_eq!((answer.status, answer.message().as_str()), (503, "too many bytes in flight"));
+    assert_eq!((answer.status, answer.message().as_str()), (503, "too many bytes in flight: retry"));
     assert!(answer.has("retry-after: 1"), "{}", answer.head);
     drop(others);
     assert_eq!(served.ask(&json(BODY.as_bytes())).await.status, 200);
@@ -156,7 +162,7 @@ async fn bodies_that_come_slowly_leave_the_memory_to_others() {
         client.write(&slow[sent..]).await;
         let answer = client.answer().await;
         taken += usize::from(answer.status == 200);
-        too_slow += usize::from(answer.status == 503 && answer.message().contains("came too slowly"));
+        too_slow += usize::from(answer.status == 503 && answer.message().contains("arrived too slowly"));
     }
     assert!((1..=8).contains(&taken), "a quarter has time: {taken}");
     assert!(too_slow > 0);

@@ -30,7 +30,7 @@ fn a_sender_that_posts_too_much_has_to_wait_and_loses_nothing() {
     assert!(over.starts_with("HTTP/1.1 429 Too Many Requests"), "{over}");
     assert!(over.contains("\r\nretry-after: 1\r\n"), "{over}");
     assert!(
-        over.contains("over its quota: A may post 1 points a second, 60 at once: again in 1 s"),
+        over.contains("over its quota: A may post 1 points a second, 60 at once: retry in 1 s"),
         "{over}"
     );
     assert_eq!(service.post("B", &body(&names("c", 60), 100)).unwrap().0, 200, "another has its own");
@@ -62,7 +62,8 @@ fn a_sender_with_all_of_its_series_gets_no_new_ones() {
     assert_eq!(service.post("A", &body(&first, 100)).unwrap().0, 200);
     let is_over = |service: &Service| {
         let over = posted(service, "x-sender: A", &body(&names("b", 1), 100));
-        over.starts_with("HTTP/1.1 429") && over.contains("A has 3 series, and may have no new ones over 3")
+        over.starts_with("HTTP/1.1 429")
+            && over.contains("A has 3 series of at most 3, so new ones are refused")
     };
     assert!(is_over(&service));
     service.drain();
