@@ -146,7 +146,7 @@ def replayed(one: Measured) -> int:
     said: list[str] = []
     while len(said) < 2:
         time.sleep(0.01)
-        said = re.findall(r"goes on .*posts=(\d+)", one.last_lines(1000))
+        said = re.findall(r"is ready .*posts=(\d+)", one.last_lines(1000))
     return int(said[-1])
 
 

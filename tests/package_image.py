@@ -143,7 +143,7 @@ def run(checks: Checks, container: Container) -> None:
     ended, seconds = container.stop()
     log = text_there(container.log)
     checks.true(f"SIGTERM ends it with status 0 in {TIME_TO_END} s", ended == 0 and seconds <= TIME_TO_END, (ended, seconds))
-    checks.true("what was taken is in the outbox then", "all that was taken is in the outbox" in log, log[-1500:])
+    checks.true("what was taken is in the outbox then", "all accepted posts are in the outbox" in log, log[-1500:])
     print(f"note: a stop took {seconds:.1f} s", flush=True)
     checks.true("it starts again", container.start(), text_there(container.log)[-2000:])
     checks.true("and delivers", wait_until(container.is_drained), container.said("status", "--json"))

@@ -269,8 +269,8 @@ impl Names {
         match text {
             Err(Refused::NoMemory) => {
                 crate::complain(format_args!(
-                    "there is no memory for the name of a series, so the service ends: nothing is lost, since the journal has all that \
-                     was taken; give a greater --max-memory"
+                    "no memory is left for the name of a series, so the service ends. Nothing is lost, since the journal \
+                     has all accepted posts: raise --max-memory"
                 ));
                 std::process::exit(memory::NONE_LEFT)
             }

@@ -43,20 +43,20 @@ pub enum Refused {
     #[error("not one point")]
     NotOne,
     /// Pending points of its series end in an earlier window and are being serialised: the caller retries after that.
-    #[error("what was taken is being written")]
+    #[error("a flush of earlier points of its series is still being written")]
     InFlight,
     /// Each window would be forwarded by itself.
     #[error("too many hours in a post: {parts}, at most {most}: post fewer points at a time")]
     TooManyHours { parts: usize, most: usize },
     /// The identities of its series, each written in full, are too long to go by number.
-    #[error("too long series in a post: what its points share counts for each: post fewer series at a time")]
+    #[error("too long series in a post: attributes that its series share count for each of them: post fewer series at a time")]
     LongSeries,
     /// Only a part of a post of several windows is in the book, because memory ran out: only a new start can put that
     /// right.
-    #[error("no memory for the rest of a post of several hours")]
+    #[error("no memory is left for the rest of a post of several hours")]
     HalfTaken,
     /// The library is another version than this was written for.
-    #[error("the book answered {0}, which is no answer")]
+    #[error("the library answered {0}, which this totxegun does not know")]
     Unknown(u32),
 }
 
@@ -173,7 +173,7 @@ mod tests {
             (400, "already quarantined"),
             (400, "not quarantined"),
             (503, "not ended"),
-            (503, "the book answered 16, which is no answer"),
+            (503, "the library answered 16, which this totxegun does not know"),
         ];
         for (status, (http, text)) in (1..).zip(wanted) {
             assert_eq!(said(status), Err((http, text.to_string())), "{status}");

@@ -11,7 +11,7 @@ pub enum Across {
     #[default]
     Hour,
     Day,
-    /// There is one stretch alone.
+    /// Points may cover any time
     None,
 }
 

@@ -103,7 +103,12 @@ fn written(slot: &Slot, flushed: &mut Flushed) -> Result<Vec<Vec<u8>>, Trouble> 
 fn tell_put_off(slot: &Slot, tries: u32, refused: Refused) {
     let (number, reason) = (slot.number(), refused.to_string());
     slot.metrics.checkpoints.with_label_values(&["failed"]).inc();
-    tracing::error!(slot = number, tries, reason, "a checkpoint is put off");
+    tracing::error!(
+        slot = number,
+        tries,
+        reason,
+        "a checkpoint failed and is retried: the journal has everything"
+    );
 }
 
 /// Flushes everything at once and serialises it without the lock.
@@ -190,7 +195,7 @@ fn tell_unowned(slot: &Slot, (count, one): (usize, Option<SeriesKey>)) {
             slot,
             series_count = count,
             series,
-            "series were forwarded and are in no post: one of them is named"
+            "series were forwarded but have no owner: this is a bug of totxegun"
         );
     }
 }

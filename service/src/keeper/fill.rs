@@ -220,7 +220,7 @@ impl Fresh<'_> {
                     sender,
                     rejected = foreign,
                     reason,
-                    "a post that was taken before comes to something else now"
+                    "an accepted post is refused on replay: this is a bug of totxegun"
                 );
                 self.slot.metrics.faults.with_label_values(&["replay"]).inc();
             }
@@ -260,7 +260,7 @@ impl Fresh<'_> {
         if self.shown.elapsed() >= PROGRESS {
             self.shown = Instant::now();
             let (slot, posts) = (self.slot.number(), self.filled.posts);
-            tracing::info!(slot, posts, "the book has so many posts of the journal so far");
+            tracing::info!(slot, posts, "the journal is being replayed");
         }
     }
 }
@@ -268,21 +268,21 @@ impl Fresh<'_> {
 fn not_filled(outbox: &Outbox, sender: &str, refused: Refused) -> Trouble {
     let series = outbox.series_count();
     let why = format!(
-        "the book does not take what the folder has, {series} series and the posts of its journal: {refused}, at a post of \
-         {sender}. Nothing is changed or lost"
+        "the book can't be filled with {series} series and the posts of the journal: {refused}, at a post of {sender}. \
+         Nothing is changed or lost"
     );
     match refused {
         Refused::NoMemory | Refused::HalfTaken => {
-            Trouble::NoMemoryToFill(format!("{why}: give a greater --max-memory"))
+            Trouble::NoMemoryToFill(format!("{why}: raise --max-memory"))
         }
-        Refused::TooManySeries => Trouble::NotFilled(format!("{why}: give a greater --max-series")),
-        _ => Trouble::NotFilled(format!("{why}: the log of the run before may say more")),
+        Refused::TooManySeries => Trouble::NotFilled(format!("{why}: raise --max-series")),
+        _ => Trouble::NotFilled(format!("{why}: look at the log of the previous run")),
     }
 }
 
 fn not_taken(refused: Refused) -> Trouble {
     Trouble::NoMemoryToFill(format!(
-        "what the book has can't be taken of it: {refused}. Nothing is lost: give a greater --max-memory"
+        "the book can't be flushed: {refused}. Nothing is lost: raise --max-memory"
     ))
 }
 

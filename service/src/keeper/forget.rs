@@ -37,11 +37,11 @@ impl Keeper {
         let slot = self.slot.number();
         match done {
             Ok(forgotten) => {
-                tracing::info!(slot, series_count = forgotten, "series are forgotten for their age")
+                tracing::info!(slot, series_count = forgotten, "series expired (--series-ttl)")
             }
             Err(refused) => {
                 let reason = refused.to_string();
-                tracing::error!(slot, reason, "series were to be forgotten, and the book stays as it is");
+                tracing::error!(slot, reason, "expired series could not be removed: retried later");
             }
         }
         Ok(())
@@ -100,8 +100,8 @@ fn renew<T>(slot: &Arc<Slot>, change: impl FnOnce(&Slot) -> Result<T, Fault>) ->
 fn not_filled(trouble: Trouble) -> Trouble {
     match trouble {
         Trouble::NotFilled(why) | Trouble::NoMemoryToFill(why) => Trouble::NotFilled(format!(
-            "what is known of series was changed, and no fresh book could be filled, so the service ends: the next start fills one \
-             ({why})"
+            "series were changed in the outbox, but no new book could be filled, so the service ends: {why}. The next start \
+             fills one"
         )),
         other => other,
     }

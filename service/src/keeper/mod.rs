@@ -82,10 +82,11 @@ pub enum Trouble {
     #[error(transparent)]
     Lost(#[from] Lost),
     /// A flush could not be serialised after all tries. The journal has everything.
-    #[error("there is no memory to flush the book: nothing is lost, since the journal has all that was taken; give a greater --max-memory")]
+    #[error("no memory is left to flush the book. Nothing is lost, since the journal has all accepted posts: raise \
+        --max-memory")]
     NoMemory,
     /// Never answered by a book.
-    #[error("the book does not end what was taken of it ({0}): this is a fault of totxegun")]
+    #[error("the book refuses to end a flush ({0}): this is a bug of totxegun")]
     Broken(Refused),
     /// A fresh book does not take what the files have.
     #[error("{0}")]

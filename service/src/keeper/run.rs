@@ -35,7 +35,7 @@ impl Keeper {
             Err(Trouble::Lost(_)) => {
                 self.slot.lose();
                 let slot = self.slot.number();
-                tracing::warn!(slot, "the slot is another instance's: it ends here");
+                tracing::warn!(slot, "the slot was fenced: another instance has it");
             }
             _ => self.slot.stop(),
         }
@@ -106,7 +106,7 @@ impl Keeper {
         let took = began.elapsed();
         self.slot.metrics.last_recovery.set(took.as_secs_f64());
         let (slot, series) = (self.slot.number(), self.slot.outbox.series_count());
-        tracing::info!(slot, seconds = took.as_secs_f64(), series_count = series, posts, "the slot goes on");
+        tracing::info!(slot, seconds = took.as_secs_f64(), series_count = series, posts, "the slot is ready");
         tell_ahead(&self.slot);
         Ok(true)
     }
@@ -172,13 +172,13 @@ impl Keeper {
         let journal = &self.slot.journal;
         journal.durable(journal.now()).await?;
         match flushed {
-            Ok(_) => tracing::info!(slot, "all that was taken is in the outbox"),
+            Ok(_) => tracing::info!(slot, "all accepted posts are in the outbox"),
             Err(refused) => {
                 let reason = refused.to_string();
                 tracing::warn!(
                     slot,
                     reason,
-                    "the last flush did not come to its end. Nothing is lost: the next start puts in what the journal has"
+                    "the last checkpoint failed. Nothing is lost: the next start replays the journal"
                 );
             }
         }
@@ -196,8 +196,8 @@ fn tell_ahead(slot: &Slot) {
             slot,
             series_count,
             series,
-            "series end over an hour ahead of this clock: until then right points of them are refused; totxegun rewind puts \
-             their ends back"
+            "series end over an hour ahead of this clock, so their points are refused until then: set their ends back by \
+             totxegun rewind"
         );
     }
 }

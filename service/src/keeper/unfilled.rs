@@ -17,7 +17,7 @@ impl Keeper {
     ) -> Result<(), Trouble> {
         self.slot.stay_unfilled();
         let slot = self.slot.number();
-        tracing::error!(slot, reason = why, "the slot takes no posts until the service is started anew");
+        tracing::error!(slot, reason = why, "the slot takes no posts until the service is restarted");
         loop {
             tokio::select! {
                 biased;

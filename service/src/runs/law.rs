@@ -55,22 +55,22 @@ pub struct Entry {
 /// Which first points count from their start.
 #[derive(Clone, Copy, Debug, Default, PartialEq, Eq, clap::ValueEnum)]
 pub enum InitialValue {
-    /// Those of runs that began after this folder was made
+    /// It counts if its run began after this folder was made
     #[default]
     Auto,
-    /// All, whatever was counted elsewhere before
+    /// It always counts, even if another service has counted it
     Keep,
-    /// None
+    /// It never counts
     Drop,
 }
 
 /// How a word that went down is treated.
 #[derive(Clone, Copy, Debug, Default, PartialEq, Eq, clap::ValueEnum)]
 pub enum Reset {
-    /// A fault of the sender, refused by name
+    /// A fault of the sender: the point is rejected (`went_down`)
     #[default]
     Refuse,
-    /// A run that began anew: the point counts from zero
+    /// The counter was restarted: the point counts from zero
     Count,
 }
 
@@ -78,10 +78,10 @@ pub enum Reset {
 #[command(next_help_heading = "Options of cumulative points")]
 #[group(skip)]
 pub struct Options {
-    /// Which first points of series count from their start; of others what they have already is left out
+    /// Whether the first point of a cumulative series counts from its start; otherwise what it has already is left out
     #[arg(long, env = "TOTXEGUN_INITIAL_VALUE", value_name = "WHICH", default_value = "auto", value_enum)]
     pub initial_value: InitialValue,
-    /// What a point is that has less than the one before it, of the same start
+    /// How to treat a value that went down although its start is the same
     #[arg(long, env = "TOTXEGUN_RESET", value_name = "WHAT", default_value = "refuse", value_enum)]
     pub reset: Reset,
 }

@@ -321,8 +321,7 @@ impl Slot {
                 value,
                 series_count,
                 more_series = untold,
-                "what a sender had counted before its first point here is left out: of so many series, of which one is \
-                 named; more were left out after the line before this"
+                "cumulative series count from their first point here: what they had before is left out"
             );
         }
     }

@@ -25,10 +25,9 @@ impl Slot {
                 true => tracing::error!(
                     disk,
                     seconds = PATIENCE.as_secs(),
-                    "the disk has not answered a call for so long, so posts get 503 until it does; what was taken is not \
-                     lost"
+                    "a call of the disk is not completed, so posts get 503 until it is; accepted posts are not lost"
                 ),
-                false => tracing::info!(disk, "the disk answers again: posts are taken"),
+                false => tracing::info!(disk, "the disk answers again: posts are accepted"),
             }
         }
         !stalls

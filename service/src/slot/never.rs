@@ -58,7 +58,7 @@ fn too_large(read: &Read) -> Option<Rejection> {
 /// The message for a metric with a series that is over this limit.
 fn large_said(metric: &str, most: u64) -> Rejection {
     let metric = shown(metric, NAME_SHOWN);
-    let more = format!(" of {metric} add up to over {most}: post fewer at a time");
+    let more = format!(" of {metric} add up to over {most}: post fewer points at a time");
     Rejection::from(Reason::PostTooLarge).and(&more)
 }
 
@@ -151,7 +151,7 @@ mod tests {
 
     fn over(most: u64) -> (u16, String) {
         let text = format!(
-            "too large: a post's points of one series of a add up to over {most}: post fewer at a time"
+            "too large: a post's points of one series of a add up to over {most}: post fewer points at a time"
         );
         (413, text)
     }

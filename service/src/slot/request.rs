@@ -18,7 +18,7 @@ use std::sync::Arc;
 
 /// If requests of earlier windows have more bytes, the keeper takes a checkpoint at once.
 const MANY_BYTES: usize = 32 << 20;
-const NO_REST: &str = "there is no memory for the rest of a post of several hours";
+const NO_REST: &str = "no memory is left for the rest of a post of several hours";
 
 /// A post that has been put into the book and the journal, or that adds nothing.
 pub(super) struct Put {
@@ -189,7 +189,7 @@ impl Slot {
             tracing::info!(
                 sender,
                 points,
-                "points of a post were taken before: they are left out, and it is answered as the first time"
+                "points of a post are duplicates: they are left out, and the post is answered as the first time"
             );
         }
     }
@@ -289,7 +289,7 @@ impl Slot {
             return self.lose();
         }
         crate::complain(format_args!(
-            "{NO_REST}, so the service ends: nothing is lost, since its sender was not answered; give a greater --max-memory"
+            "{NO_REST}, so the service ends. Nothing is lost, since its sender got no answer and retries: raise --max-memory"
         ));
         std::process::exit(FAILED)
     }

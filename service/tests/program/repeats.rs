@@ -66,7 +66,7 @@ fn a_batch_is_answered_as_the_first_time_after_the_next_one() {
     service.has_no_fault();
     assert_eq!(service.end(), Some(0));
     let log = place.log();
-    assert!(log.contains("points of a post were taken before"), "{log}");
+    assert!(log.contains("points of a post are duplicates"), "{log}");
     let sum = |ends: &[u64]| ends.iter().map(|end| (end % 97) as i64).sum::<i64>();
     let wanted = SERIES.map(|name| (name.to_string(), sum(&ends)));
     assert_eq!(place.totals(), wanted.into_iter().chain([("d".into(), sum(next))]).collect());

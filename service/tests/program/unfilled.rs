@@ -27,9 +27,9 @@ fn a_start_without_memory_for_its_journal_delivers_and_shows_and_takes_no_posts(
     first.kill();
 
     let second = start(&["--new-sink", "--sink", &sink], "64MiB");
-    let why = "takes no posts until the service is started anew";
+    let why = "takes no posts until the service is restarted";
     until("the log says so", || place.log().contains(why));
-    assert!(place.log().contains("give a greater --max-memory"), "{}", place.log());
+    assert!(place.log().contains("raise --max-memory"), "{}", place.log());
     let (status, text) = second.post("A", &points(&["m1"], 200, 5)).unwrap();
     assert!(status == 503 && text.contains("the book does not take what the journal has"), "{status} {text}");
     let (status, text) = second.asked_for("/readyz").unwrap();

@@ -141,5 +141,5 @@ fn a_process_without_memory_for_a_name_ends_and_says_what_helps() {
     let ended = this.env("TOTXEGUN_TEST_NAME", "1").output().unwrap();
     let said = String::from_utf8_lossy(&ended.stderr);
     assert_eq!(ended.status.code(), Some(memory::NONE_LEFT), "{said}");
-    assert!(said.contains("give a greater --max-memory"), "{said}");
+    assert!(said.contains("raise --max-memory"), "{said}");
 }

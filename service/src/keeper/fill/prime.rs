@@ -138,7 +138,7 @@ impl Part<'_> {
         let put = self.posts.and_then(|posts| posts.into_iter().try_for_each(admit));
         put.map_err(|why| match why {
             Unprimed::Refused(refused) => not_filled(outbox, self.owner, refused),
-            why => Trouble::NotFilled(format!("the outbox has a series that can't be primed: {why}")),
+            why => Trouble::NotFilled(format!("the outbox has a series that the book refuses: {why}")),
         })
     }
 }
