@@ -412,7 +412,7 @@ def away(checks: Checks, service: Service, second: Service, receiver: Receiver, 
     checks.true("who is gone loses what waits", wait_until(
         lambda: count_of(service, 'totxegun_unsupported_points_total{outcome="lost"}') > 0, 30), service.last_lines())
     with open(service.log, encoding="utf-8", errors="replace") as file:
-        lines = [line for line in file if "are not handed on" in line]
+        lines = [line for line in file if "were not forwarded" in line]
     checks.true("the log says so, a line a minute at most", 1 <= len(lines) <= 3, lines[:4])
     checks.same("it ends when it is told to", 0, service.end()[0])
 

@@ -116,10 +116,10 @@ def refusals(checks: Checks, program: str, at: str) -> None:
             ("an open address of gRPC", ["--listen-grpc", f"[::]:{port}"], 2, beyond),
             ("TLS that names nobody", ["--listen", f"0.0.0.0:{port}", *tls], 2, "post under any name: give --tokens"),
             ("tokens that anybody can read", ["--listen", f"0.0.0.0:{port}", "--tokens", f"{at}/tokens"], 2,
-             "read along: give --tls-cert"),
+             "read posts: give --tls-cert"),
             ("names by both", ["--tokens", f"{at}/tokens", "--sender-from", "service.name"], 2, "--sender-from"),
             ("a certificate without its key", tls[:2], 2, "--tls-key"),
-            ("another's key", [*tls[:3], f"{at}/ca.key"], 1, "not that of the first certificate"),
+            ("another's key", [*tls[:3], f"{at}/ca.key"], 1, "does not belong to the first certificate"),
             ("no tokens", ["--tokens", f"{at}/none"], 1, "--tokens can't be used"),
             ("roots that are none", [*tls, "--client-ca", f"{at}/server.key"], 1, "--client-ca has no certificate")):
         words = [program, "serve", "--data", f"{at}/refused", "--admin", "127.0.0.1:0", *words]
@@ -399,7 +399,7 @@ def run(checks: Checks, program: str, seconds: float, folder: str) -> None:
         service.start()
         checks.true("beyond loopback, with TLS and names, it is ready", service.wait_ready(), service.last_lines())
         checks.true("the log says by what senders are named",
-                    "senders are named by the certificate that they show, else by their token, over TLS" in text_of(service.log),
+                    "senders are named by their certificate, or else by their token, over TLS" in text_of(service.log),
                     service.last_lines())
         post_by_curl(checks, clients, token)
         post_by_python(checks, clients, token)

@@ -185,7 +185,7 @@ impl<W: Write> Output<W> {
     fn say_missing(&mut self) -> io::Result<()> {
         let missing = self.missing;
         if missing > 0 {
-            let note = format!("lines of the log that are missing here: {missing}");
+            let note = format!("{missing} log lines were dropped here");
             self.out.write_all(self.form.note(Level::WARN, &note).as_bytes())?;
             self.missing = 0;
         }

@@ -93,7 +93,7 @@ impl Pass {
         let points = outside.points;
         match locked(&self.waiting).put(outside) {
             true => self.arrived.notify_one(),
-            false => self.count(points, Passed::Dropped, "too much waits already"),
+            false => self.count(points, Passed::Dropped, "too many points wait to be forwarded"),
         }
     }
 
@@ -126,7 +126,7 @@ impl Pass {
                 outcome = name,
                 reason = why,
                 points,
-                "points outside the profile are not handed on; totxegun_unsupported_points_total has how many there are"
+                "points outside the profile were not forwarded; totxegun_unsupported_points_total counts them"
             );
         }
     }

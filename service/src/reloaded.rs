@@ -138,9 +138,9 @@ impl<T: Send + Sync + 'static> Files<T> {
         match all(contents).and_then(|contents| (self.reader.read)(&contents)) {
             Ok(new) => {
                 match (self.reader.shut)(&new) {
-                    None => tracing::info!(option, "the file of an option has changed, and was read anew"),
+                    None => tracing::info!(option, "the changed file of an option was reloaded"),
                     Some(reason) => {
-                        tracing::warn!(option, reason, "the file of an option has changed, and was read anew")
+                        tracing::warn!(option, reason, "the changed file of an option was reloaded")
                     }
                 }
                 into.set(new);
@@ -151,7 +151,7 @@ impl<T: Send + Sync + 'static> Files<T> {
                 tracing::warn!(
                     option,
                     reason,
-                    "the file of an option has changed, and can't be used, so what it had before is"
+                    "the changed file of an option is not valid, so its former content stays in use"
                 );
             }
         }

@@ -133,7 +133,11 @@ impl Writer {
     fn warn(&self, error: &io::Error) {
         if self.rate_limit.is_due() {
             let (folder, reason) = (self.segments.folder().display().to_string(), error.to_string());
-            tracing::warn!(folder, reason, "late data can't be written, so it is not kept; posts go on");
+            tracing::warn!(
+                folder,
+                reason,
+                "late data can't be written, so it is not kept; posts are still accepted"
+            );
         }
     }
 }

@@ -25,7 +25,7 @@ fn wait(log: &Log) {
 
 /// The number in a line that says how many are missing.
 fn missing(line: &str) -> Option<u64> {
-    line.strip_prefix("totxegun: lines of the log that are missing here: ")?.parse().ok()
+    line.strip_prefix("totxegun: ")?.strip_suffix(" log lines were dropped here")?.parse().ok()
 }
 
 #[test]

@@ -39,7 +39,7 @@ impl Receiver {
         let url: Uri = match address.parse() {
             Ok(Address::Otlp { url, .. }) => url.parse().map_err(|error| bad(&error))?,
             Err(error) if address.starts_with("http") => return Err(bad(&error)),
-            _ => return Err(bad(&"this is another address")),
+            _ => return Err(bad(&"this is the address of another kind of sink")),
         };
         let client = access.client(&url).map_err(|error| bad(&error))?;
         Ok(Receiver { url, client, access })

@@ -30,26 +30,26 @@ impl Server {
         let server = Server::read_hosts(rest)?;
         match server.config.get_hosts() {
             [_] => Ok(server),
-            _ => Err("there is more than one host, and two servers would count apart".into()),
+            _ => Err("there is more than one host, and two servers would count separately: give one".into()),
         }
     }
 
     /// The same for one or more hosts that replicate each other, of which one accepts writes.
     pub(crate) fn read_hosts(rest: &str) -> Result<Server, String> {
         if !rest.starts_with("//") {
-            return Err("`//` is missing".into());
+            return Err("`//` is missing: write postgres://USER@HOST:PORT/DB".into());
         }
         let (written, tls, passfile) = without_files(rest)?;
         let mut config = Config::from_str(&written).map_err(|error| error.to_string())?;
         if config.get_user().is_none() {
-            return Err("there is no user".into());
+            return Err("there is no user: write postgres://USER@HOST:PORT/DB".into());
         }
         if config.get_dbname().is_none_or(str::is_empty) {
-            return Err("there is no database".into());
+            return Err("there is no database: write postgres://USER@HOST:PORT/DB".into());
         }
         check_hosts(&config)?;
         if config.get_channel_binding() == ChannelBinding::Require {
-            return Err("`channel_binding=require` is not known here: leave it out".into());
+            return Err("`channel_binding=require` is not supported: leave it out".into());
         }
         if config.get_ssl_mode() != SslMode::Require {
             config.ssl_mode(SslMode::Disable);
@@ -150,9 +150,11 @@ fn without_files(rest: &str) -> Result<(String, ClientFiles, Option<PathBuf>), S
         match (name, value) {
             // The certificate is verified in either case.
             ("sslmode", "verify-full") => others.push("sslmode=require"),
-            ("sslmode", "prefer" | "allow") => {
-                return Err("`sslmode=prefer` and `allow` go without TLS where a server has none: write `sslmode=require`, or `disable`".into())
-            }
+            ("sslmode", "prefer" | "allow") => return Err(
+                "`sslmode=prefer` and `allow` use no TLS if the server has none: write `sslmode=require` or \
+                    `disable`"
+                    .into(),
+            ),
             ("sslrootcert", "system") => {}
             ("sslrootcert", file) => tls.roots = Some(path(file)?),
             ("sslcert", file) => tls.certificate = Some(path(file)?),
@@ -170,7 +172,8 @@ fn without_files(rest: &str) -> Result<(String, ClientFiles, Option<PathBuf>), S
 fn path(written: &str) -> Result<PathBuf, String> {
     let text = percent_encoding::percent_decode_str(written).decode_utf8();
     let text = text.ok().filter(|text| !text.is_empty());
-    text.map(|text| PathBuf::from(&*text)).ok_or_else(|| "a file that it names has no name in UTF-8".into())
+    text.map(|text| PathBuf::from(&*text))
+        .ok_or_else(|| "a file that it names is not named in UTF-8: rename the file".into())
 }
 
 /// Checks that each host can have the TLS that is asked for.
@@ -182,7 +185,7 @@ fn check_hosts(config: &Config) -> Result<(), &'static str> {
         _ => Ok(()),
     };
     match config.get_hosts() {
-        [] => Err("there is no host"),
+        [] => Err("there is no host: write postgres://USER@HOST:PORT/DB"),
         hosts => hosts.iter().try_for_each(check),
     }
 }

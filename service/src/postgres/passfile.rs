@@ -25,7 +25,7 @@ pub(super) fn password(config: &Config, named: Option<&Path>) -> Option<String> 
             let file = file.display();
             tracing::warn!(
                 %file,
-                "the file has passwords, and others than its owner may read it, so it is not used: `chmod 0600` it"
+                "the file of passwords can be read by others than its owner, so it is not used: `chmod 0600` it"
             );
         });
         return None;

@@ -41,7 +41,7 @@ where
         let no_name = |_| {
             io::Error::new(
                 io::ErrorKind::InvalidInput,
-                format!("TLS needs a host's name, and {host} is none"),
+                format!("TLS needs the name of a host, but {host} is not one"),
             )
         };
         Ok(To { connector: self.0.clone().into(), host: host.try_into().map_err(no_name)? })

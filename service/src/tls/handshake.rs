@@ -64,7 +64,7 @@ impl Tls {
             Some(Err(error)) => {
                 if TOLD.is_due() {
                     let reason = why(&error, self.certificate);
-                    tracing::warn!(peer, reason, "a TLS handshake has failed");
+                    tracing::warn!(peer, reason, "a TLS handshake failed");
                 }
                 ("failed", None)
             }
@@ -105,8 +105,8 @@ fn why(error: &Error, certificate: &str) -> String {
             rustls::Error::DecryptError
             | rustls::Error::AlertReceived(BadCertificate | CertificateUnknown | UnknownCA),
         ) => format!(
-            "the client broke it off, most often since it does not trust the root of {certificate}: give it that root, and the \
-             name that stands in the certificate"
+            "the client aborted the handshake, usually because it does not trust the root of {certificate}: install that \
+             root, and connect by a name in the certificate"
         ),
         _ => error.to_string(),
     }

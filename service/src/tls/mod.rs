@@ -103,7 +103,7 @@ impl Contexts {
     /// `contents` are those of the certificate, its key, and, if clients show certificates, their roots.
     fn read(named: Named, contents: &[Vec<u8>], without: WithoutCertificate) -> Result<Contexts, String> {
         let [chain, key, rest @ ..] = contents else {
-            return Err(format!("{} and {} belong together", named.certificate, named.key));
+            return Err(format!("{} and {} have to be given together", named.certificate, named.key));
         };
         let pair = Pair::read(named, chain, key)?;
         let roots = rest.first().map(|pem| roots(named.roots, pem)).transpose()?;
@@ -136,8 +136,8 @@ impl Contexts {
     fn shut(&self) -> Option<&'static str> {
         let is_empty = self.senders.as_ref().is_some_and(|senders| senders.is_empty());
         is_empty.then_some(
-            "--client-ca has no certificate in PEM, so nobody gets in by one: add that of a root, \
-             `-----BEGIN CERTIFICATE-----`",
+            "--client-ca has no certificate in PEM, so no sender can use one: add the certificate of a root, `-----BEGIN \
+             CERTIFICATE-----`",
         )
     }
 

@@ -18,7 +18,7 @@ impl Tls {
             bail!("TLS between instances needs --peer-ca");
         };
         let Ok(name @ ServerName::DnsName(_)) = ServerName::try_from(host) else {
-            bail!("--peer has to have the name of a host with --peer-ca, which its certificate is for, and no IP address");
+            bail!("with --peer-ca, --peer needs the name of a host, for which its certificate is, and no IP address");
         };
         let named = files.named;
         let paths = vec![
@@ -41,7 +41,8 @@ fn read(named: Named, contents: &[Vec<u8>], name: &ServerName, host: &str) -> Re
     let believed = roots(named.roots, ca)?;
     if believed.is_empty() {
         return Err(format!(
-            "{} has no certificate in PEM: add that of the root that has signed the instances', `-----BEGIN CERTIFICATE-----`",
+            "{} has no certificate in PEM: add that of the root that signed the instances' certificates, `-----BEGIN \
+             CERTIFICATE-----`",
             named.roots
         ));
     }
@@ -49,14 +50,14 @@ fn read(named: Named, contents: &[Vec<u8>], name: &ServerName, host: &str) -> Re
     let mut contexts = Contexts::of(named, &pair, Some(believed.clone()), WithoutCertificate::Refused)?;
     if let Err(why) = would_be_asked(&pair, believed, name) {
         return Err(format!(
-            "others would not ask this instance: the certificate of {} has to be for {host}, the host of --peer, and signed by \
-             a root of {} ({why})",
+            "other instances would not trust this one: the certificate of {} has to be for {host}, the host of --peer, and \
+             signed by a root of {} ({why})",
             named.certificate, named.roots
         ));
     }
     if !contexts.believes(&pair.chain) {
         return Err(format!(
-            "others would not let this instance in: the certificate of {} has to be good for clients too (extendedKeyUsage)",
+            "other instances would reject this one: the certificate of {} has to be valid for clients too (extendedKeyUsage)",
             named.certificate
         ));
     }
@@ -118,7 +119,7 @@ pub(crate) mod tests {
             ("elsewhere", "ca", "for localhost, the host of --peer"),
             ("other", "ca", "a root of --peer-ca"),
             ("server", "none", "--peer-ca has no certificate"),
-            ("ca", "ca", "others would not ask this instance"),
+            ("ca", "ca", "other instances would not trust this one"),
         ] {
             let why = peer(at.path(), name, ca).err().expect(part).to_string();
             assert!(why.starts_with("--peer-ca can't be used") && why.contains(part), "{why}");

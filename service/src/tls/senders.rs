@@ -53,8 +53,8 @@ impl ClientCertVerifier for Senders {
         let bytes = first.0.len() + between.iter().map(|shown| shown.0.len()).sum::<usize>();
         if between.len() > MOST_BETWEEN || bytes > MOST_BYTES {
             return Err(Error::InvalidCertificateData(format!(
-                "the chain is longer than {MOST_BETWEEN} certificates between the sender's and its root, or than \
-                 {MOST_BYTES} bytes: show a shorter one"
+                "the chain has over {MOST_BETWEEN} certificates between the sender's and its root, or over {MOST_BYTES} \
+                 bytes: send a shorter one"
             )));
         }
         let has_constraints = |shown: &Certificate| {
@@ -63,7 +63,7 @@ impl ClientCertVerifier for Senders {
         };
         if between.iter().any(has_constraints) {
             return Err(Error::InvalidCertificateData(
-                "a certificate between the sender's and its root has name constraints: show one without"
+                "a certificate between the sender's and its root has name constraints: send a chain without them"
                     .into(),
             ));
         }

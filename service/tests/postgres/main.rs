@@ -215,7 +215,7 @@ async fn what_is_told() {
     again(&*open(&by_password("wrong", "d1")), 1, body(), "password is wrong").await;
     let lame = open(&by_password("right", "d1"));
     assert!(!lame.name().contains("right"));
-    again(&*lame, 1, body(), "lacks a right").await;
+    again(&*lame, 1, body(), "lacks a privilege").await;
     server.ask("grant create on database d1 to lame");
     taken(&*lame, 1, body()).await;
     let lost = open(&server.by_socket("none"));
