@@ -13,30 +13,32 @@ use std::sync::Mutex;
 metrics! {
     /// Set when the page is made.
     pub struct OfCluster(registry) {
-        slots_owned: IntGauge = "slots_owned", "Slots that are here";
+        slots_owned: IntGauge = "slots_owned", "Slots that this instance owns";
         slot_term: IntGaugeVec = "slot_term" ["slot"],
-            "The term of each slot that is here: it goes up whenever a slot is taken";
+            "The term of each slot that this instance owns: it rises whenever an instance takes the slot";
         without_owner: IntGauge = "slots_without_owner", "Slots that no instance serves, as far as this one knows";
         longest_without_owner: Gauge = "longest_without_owner_seconds",
-            "For how long no instance has served the slot of these for which it is longest";
-        instances: IntGauge = "instances", "Instances whose beats go on, this one among them";
+            "Longest time for which no instance has served one of these slots";
+        instances: IntGauge = "instances", "Instances whose heartbeats continue, including this one";
         beat_age: Gauge = "heartbeat_age_seconds",
-            "Since the last beat of this instance that is known to be in the store";
+            "Age of the last heartbeat of this instance that is known to be in the store";
         clock_off: Gauge = "clock_off_seconds",
-            "By how much this instance's clock is ahead of those of the others and the store, late if less than 0, if it is so far off that it takes no slots while another has a right clock; else 0";
+            "How far this instance's clock is ahead of the other instances and the store (negative: behind), while it is so \
+             far off that the instance takes no slots; otherwise 0";
         cut_off: IntGauge = "cut_off",
-            "1 while most of the other instances don't reach this one, so that it has no slots, or while it does not reach an owner of slots that others reach";
+            "1 while most other instances can't connect to this one, so that it has no slots, or while it can't connect to \
+             an owner of slots that others can connect to";
         copies: IntGaugeVec = "store_copies" ["database"],
-            "On how many servers what is committed in the database is; not there where it is not known";
-        copies_asked: IntGauge = "store_copies_asked", "On how many it has to be, by --store-copies";
+            "Servers that have each commit of the database; absent if unknown";
+        copies_asked: IntGauge = "store_copies_asked", "Servers that must have each commit, by --store-copies";
         doubt: GaugeVec = "store_unknown_outcome_seconds" ["database"],
-            "For how long the write of this instance that began first has not been known to be there, 0 where none is";
+            "Age of this instance's oldest write to the store of which the outcome is unknown; 0 if there is none";
         forwarded: IntCounterVec = "forwarded_posts_total" ["result"],
-            "Posts, or parts of them, that were brought to the instance of their slot, by what came back";
-        writes: IntCounterVec = "store_writes_total" ["outcome"], "Writes of slots to the store, by how they ended";
-        takeovers: IntCounter = "takeovers_total", "Slots that this instance has taken";
-        hand_overs: IntCounter = "hand_overs_total", "Slots that it has handed over";
-        lost: IntCounter = "slots_lost_total", "Slots that another has taken while they were here";
+            "Posts, or parts of them, that were sent on to the instance of their slot, by its answer";
+        writes: IntCounterVec = "store_writes_total" ["outcome"], "Writes of slots to the store, by outcome";
+        takeovers: IntCounter = "takeovers_total", "Slots that this instance took";
+        hand_overs: IntCounter = "hand_overs_total", "Slots that this instance handed over";
+        lost: IntCounter = "slots_lost_total", "Slots that another instance took while this one owned them";
     }
     with {
         // One page at a time raises the counters to the values that are counted elsewhere.

@@ -32,60 +32,62 @@ metrics! {
     /// The metrics of the process. Counters begin at 0 with it.
     pub struct Metrics(registry) {
         requests: IntCounterVec = "requests_total" ["code", "reason"],
-            "Requests of senders by the status of their answer, and by the reason of a refusal";
+            "Requests of senders, by the status of the answer and the reason of a refusal";
         request_duration: HistogramVec = "request_duration_seconds" ["encoding", "code"],
-            "From the head of a request until its answer is ready, by its encoding and the status of the answer";
-        pub request_size: Histogram = "request_size_bytes", "Length of the bodies of requests, unpacked";
+            "Time from the head of a request until its answer is ready, by encoding and status";
+        pub request_size: Histogram = "request_size_bytes", "Length of the bodies of requests, uncompressed";
         pub refused_parts: IntCounterVec = "refused_parts_total" ["reason"],
-            "Of requests that were taken, parts for other slots that were refused, by the reason";
+            "Parts for other slots that were refused, of requests that were accepted, by reason";
         // Both have the label `sender`, with at most `SENDERS` values and `other`.
-        accepted_points: IntCounterVec = "accepted_points_total" ["sender"], "Points that were taken";
+        accepted_points: IntCounterVec = "accepted_points_total" ["sender"], "Points that were accepted";
         rejected_points: IntCounterVec = "rejected_points_total" ["sender", "reason"],
-            "Points that were not taken, of requests that were, but for those of --expect-rejected";
+            "Rejected points of accepted requests, without those that --expect-rejected names";
         duplicate_points: IntCounterVec = "duplicate_points_total" ["sender"],
-            "Points that were taken before: they are left out, and answered as the first time";
+            "Duplicate points: they are left out, and answered as the first time";
         pub late_points: IntCounterVec = "late_points_total" ["outcome"] of ["kept", "not_kept"],
             "Points that their series refused, by whether they are kept as late data (`totxegun late`)";
         expected_rejected_points: IntCounterVec = "expected_rejected_points_total" ["reason"],
-            "Points that were not taken, as --expect-rejected says";
+            "Rejected points that --expect-rejected names";
         pub unsupported_points: IntCounterVec = "unsupported_points_total" ["outcome"] of ["taken", "refused", "lost", "dropped"],
-            "Points outside the profile that --forward-unsupported was to hand on, by what became of them";
+            "Points outside the profile that --forward-unsupported sends on, by outcome";
         pub rounded_values: IntCounterVec = "rounded_values_total" ["rule"],
             "Values of posts that were taken that `--integer-unit` has rounded, by its rule";
         pub rounding: CounterVec = "rounding_units_total" ["rule"],
-            "What these values were rounded by together, in the finer unit, over all series";
+            "Total rounding of these values over all series, in the finer unit";
         // The maximum of `by_series`, set when the page is made.
         greatest_rounding: GaugeVec = "greatest_rounding_units" ["rule"],
-            "What the values of one series were rounded by together, in the finer unit, of all series the most: no total is further from the truth";
+            "Largest total rounding of one series, in the finer unit: no series' total is further off";
         // `quota` is `series` or `points`. Set when the page is made.
         sender_quota: GaugeVec = "sender_quota_ratio" ["sender", "quota"],
             "What a sender has used of its quota: of its series, or of a minute's points; of the ten that are nearest to it";
         pub checkpoints: IntCounterVec = "checkpoints_total" ["outcome"] of ["done", "failed"],
-            "Checkpoints by how they ended";
+            "Checkpoints, by outcome";
         pub rounds_closed: IntCounter = "rounds_closed_total", "Rounds of a book that were closed";
         pub forwarded_requests: IntCounter = "forwarded_requests_total", "Requests put into the outbox";
         // A request that is `denied` is retried, too.
         pub deliveries: IntCounterVec = "deliveries_total" ["outcome"] of ["taken", "partial", "again", "denied", "refused"],
-            "Tries to deliver, by outcome";
+            "Attempts to deliver a request, by outcome";
         pub sink_ahead: IntGaugeVec = "sink_ahead_requests" ["slot"],
-            "Requests that the sink had when a slot was opened here, and that the store did not have: the store has gone back";
+            "Requests that the sink had but the store lacked when a slot was opened here: the store was restored to an \
+             earlier state";
         pub noted_runs: IntCounter = "noted_runs_total",
-            "Cumulative series that count from their first point here on: what they had before is left out";
-        pub forgotten_series: IntCounter = "forgotten_series_total", "Series that were forgotten for their age";
+            "Cumulative series that count from their first point here: what they had before is left out";
+        pub forgotten_series: IntCounter = "forgotten_series_total", "Series that expired (--series-ttl)";
         pub log_lines_lost: IntCounter = "log_lines_lost_total",
-            "Lines of the log that nobody took in time, or that could not be written";
+            "Log lines that were dropped, since they could not be written, or not in time";
         pub handshakes: IntCounterVec = "handshakes_total" ["outcome"] of ["done", "failed", "late"],
-            "TLS handshakes of senders, by how they ended";
+            "TLS handshakes of senders, by outcome";
         pub stale_files: IntGaugeVec = "stale_files" ["option"],
-            "1 while the file of an option has changed and is not used, since it can't be, or since a setting needs a restart";
+            "1 while the changed file of an option is not in use, because it is not valid or a setting needs a restart";
         // These should never occur.
         pub faults: IntCounterVec = "faults_total" ["kind"] of ["owner", "replay", "points_rejected_by_sink"],
-            "Points that the sink rejected, and faults of the program";
-        pub checkpoint_pause_seconds: Histogram = "checkpoint_pause_seconds", "How long a checkpoint held the posts";
+            "Points that the sink rejected, and bugs of the program";
+        pub checkpoint_pause_seconds: Histogram = "checkpoint_pause_seconds", "How long a checkpoint paused posts";
         pub last_recovery: Gauge = "last_recovery_duration_seconds",
-            "How long the last start of a slot took to put in the posts of the journal, and what priming the book took longer than opening the files";
+            "How long the last start of a slot took to replay the journal, plus what seeding the book took longer than \
+             opening the files";
         build_info: IntGaugeVec = "build_info" ["version", "book"],
-            "1, by the version of the program and the revision of the book that is linked into it";
+            "1, with the version of the program and the revision of the book in it";
     }
     with {
         pub levels: Levels = Levels::of(registry)?;
@@ -103,29 +105,30 @@ metrics! {
 metrics! {
     /// Gauges of values that are kept elsewhere; set only when somebody asks.
     pub struct Levels(registry) {
-        pub ready: IntGauge = "ready", "1 while posts are taken, 0 while they are answered 503";
+        pub ready: IntGauge = "ready", "1 while posts are accepted, 0 while they get 503";
         pub post_bytes_in_flight: IntGauge = "post_bytes_in_flight", "Memory that posts hold until they are answered";
         pub journal_bytes: IntGauge = "journal_bytes", "Bytes of the journal's segments";
         pub journal_age_seconds: IntGauge = "journal_age_seconds", "Age of the oldest post that may not be flushed yet";
-        pub outbox_requests: IntGauge = "outbox_requests", "Requests that the sink does not have";
-        pub outbox_bytes: IntGauge = "outbox_bytes", "Bytes on disk of requests that the sink does not have";
-        pub outbox_age_seconds: IntGauge = "outbox_age_seconds", "Age of the oldest request that the sink does not have";
+        pub outbox_requests: IntGauge = "outbox_requests", "Requests that the sink does not have yet";
+        pub outbox_bytes: IntGauge = "outbox_bytes", "Bytes on disk of requests that the sink does not have yet";
+        pub outbox_age_seconds: IntGauge = "outbox_age_seconds", "Age of the oldest request that the sink does not have yet";
         pub late_bytes: IntGauge = "late_bytes", "Bytes on disk of late data";
         pub dead_letters: IntGauge = "dead_letters", "Requests that the sink refused for good, kept aside";
         pub quarantined_senders: IntGauge = "quarantined_senders",
-            "Senders whose points are kept back and whose posts are refused; of several instances the one with the first slot that any has says so";
+            "Quarantined senders: their points are kept back, and their posts refused; of several instances only the one \
+             that owns the first slot counts them";
         pub parked_posts: IntGauge = "parked_posts", "Posts of quarantined senders that are kept back";
         pub parked_bytes: IntGauge = "parked_bytes", "Bytes on disk of these posts";
         pub delivery_stuck: IntGauge = "delivery_stuck",
-            "1 while a request that waits can't be delivered since its file was changed";
+            "1 while a waiting request can't be delivered because its file was changed";
         pub disk_call_seconds: Gauge = "disk_call_seconds",
-            "How long the call of the disk that began first has been under way, 0 where none is";
-        pub disk_free_bytes: IntGauge = "disk_free_bytes", "Bytes that are free on the file system of the folder";
-        pub series: IntGauge = "series", "Series that are known";
-        pub cumulative_series: IntGauge = "cumulative_series", "Series whose points come cumulative";
-        pub series_limit: IntGauge = "series_limit", "So many series fit for sure";
-        pub book_memory_bytes: IntGauge = "memory_bytes", "Memory that the book has";
-        pub memory_limit_bytes: IntGauge = "memory_limit_bytes", "Memory that the book may have";
+            "Age of the oldest unfinished disk call; 0 if there is none";
+        pub disk_free_bytes: IntGauge = "disk_free_bytes", "Free bytes on the file system of the folder";
+        pub series: IntGauge = "series", "Known series";
+        pub cumulative_series: IntGauge = "cumulative_series", "Series with cumulative points";
+        pub series_limit: IntGauge = "series_limit", "Number of series for which there is room in any case";
+        pub book_memory_bytes: IntGauge = "memory_bytes", "Memory that the book uses";
+        pub memory_limit_bytes: IntGauge = "memory_limit_bytes", "Memory that the book may use";
     }
 }
 
@@ -281,7 +284,7 @@ impl Metrics {
         let mut page = Vec::new();
         if let Err(error) = TextEncoder::new().encode(&self.registry.gather(), &mut page) {
             let reason = error.to_string();
-            tracing::warn!(reason, "the metrics page is not whole");
+            tracing::warn!(reason, "the page of metrics is incomplete");
         }
         page
     }
