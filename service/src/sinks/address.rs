@@ -29,12 +29,16 @@ impl Address {
 pub enum BadAddress {
     #[error("the sink's address is empty: write sqlite:PATH, postgres://USER@HOST:PORT/DB, http://HOST:PORT/PATH or https://HOST/PATH")]
     Empty,
-    #[error("no sink is known for `{0}:`: write sqlite:PATH, postgres://USER@HOST:PORT/DB, http://HOST:PORT/PATH or https://HOST/PATH")]
+    #[error("`{0}:` is not a kind of sink: write sqlite:PATH, postgres://USER@HOST:PORT/DB, http://HOST:PORT/PATH or \
+        https://HOST/PATH")]
     Unknown(String),
     /// This and the next show no address, since that may have a password.
-    #[error("no URL of a sink: {0}; write http://HOST:PORT/PATH or https://HOST/PATH")]
+    #[error("the sink's URL is not valid: {0}; write http://HOST:PORT/PATH or https://HOST/PATH")]
     Url(String),
-    #[error("no address of a PostgreSQL sink: {0}; write postgres://USER@HOST:PORT/DB, or postgres://USER@/DB?host=/FOLDER")]
+    #[error(
+        "the address of the PostgreSQL sink is not valid: {0}; write postgres://USER@HOST:PORT/DB, or \
+        postgres://USER@/DB?host=/FOLDER"
+    )]
     Postgres(String),
 }
 
@@ -73,12 +77,12 @@ fn otlp(url: String) -> Result<Address, BadAddress> {
         return Err(bad("there is no host"));
     }
     if authority.as_str().contains('@') {
-        return Err(bad("a name and password in it are not sent: give a header `authorization`"));
+        return Err(bad("a name and password in it would not be sent: give a header `authorization`"));
     }
     // The client would take the scheme's own port for one that is none, and so another server.
     let port = authority.as_str()[authority.host().len()..].strip_prefix(':');
     if port.is_some_and(|port| !port.parse().is_ok_and(|port: u16| port > 0)) {
-        return Err(bad("its port is none of 1 to 65535"));
+        return Err(bad("its port is not one of 1 to 65535"));
     }
     if uri.scheme_str() == Some("https") && !roots::is_name(authority.host()) {
         return Err(bad(roots::NO_NAME));

@@ -195,17 +195,14 @@ impl<S: Store> Run<S> {
         }
         let (slot, seconds) = (self.slot, self.unsure.as_secs());
         let reason = format!(
-            "for {seconds} s the store has not said in time that the slot is still this instance's, so nothing is sent: it is slow, \
-             or away"
+            "nothing is sent: for {seconds} s the store has not confirmed that this instance owns the slot; it is slow or \
+             unreachable"
         );
-        tracing::warn!(slot, reason, "nothing is sent");
+        tracing::warn!(slot, reason, "requests are held back");
         let before = locked(&self.attempts.state).trouble.replace(reason);
         sure.await??;
         locked(&self.attempts.state).trouble = before;
-        tracing::info!(
-            slot,
-            "the store says in time that the slot is this instance's: requests are sent again"
-        );
+        tracing::info!(slot, "the store confirms again that this instance owns the slot: requests are sent");
         Ok(())
     }
 
@@ -215,12 +212,12 @@ impl<S: Store> Run<S> {
         while !self.files.keep(key.into(), reason.clone(), body.clone()).await? {
             if before.is_none() {
                 let full = format!(
-                    "the disk has no room to keep {key} in dead-letters/, which the sink refused: {reason}"
+                    "the disk has no room to keep {key}, which the sink refused, in dead-letters/: {reason}"
                 );
                 tracing::warn!(
                     key,
                     reason = full,
-                    "the disk has no room for a dead letter: nothing is sent until there is more"
+                    "the disk has no room for a dead letter: nothing is sent until more is free"
                 );
                 before = Some(locked(&self.attempts.state).trouble.replace(full));
             }
@@ -286,7 +283,7 @@ impl<S: Store> Run<S> {
             key,
             rejected,
             reason,
-            "the sink took a request but rejected points of it: it is kept in dead-letters/"
+            "the sink took a request but rejected some of its points: it is kept in dead-letters/"
         );
         let reason = of_part(rejected, &reason, left.is_some());
         let left = left.unwrap_or_else(|| request.body.clone());
@@ -304,7 +301,7 @@ impl<S: Store> Run<S> {
         state.tries += 1;
         if state.trouble.is_none() {
             let sink = self.sink.name();
-            tracing::warn!(sink, key, reason, "the sink has not taken a request: it is sent again");
+            tracing::warn!(sink, key, reason, "the sink has not taken a request: it is retried");
         }
         state.trouble = Some(reason);
         state.tries
@@ -325,7 +322,9 @@ impl<S: Store> Run<S> {
 pub fn of_part(rejected: u64, reason: &str, is_known: bool) -> String {
     let points = if rejected == 1 { "point" } else { "points" };
     match is_known {
-        true => format!("taken, but for {rejected} {points}, kept here (do not send it again): {reason}"),
+        true => format!(
+            "taken except for {rejected} {points}, which are kept here (do not send it again): {reason}"
+        ),
         false => format!("taken, but {rejected} {points} rejected (do not send it again): {reason}"),
     }
 }

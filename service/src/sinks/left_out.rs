@@ -9,8 +9,8 @@ use std::collections::BTreeMap;
 /// Why a request is refused whose key is that of another one. No folder gives a key twice, but for one that was put
 /// back over itself, or a copy of a disk.
 pub(super) const OTHER_REQUEST: &str =
-    "its key is that of another request, which was taken: the folder was put back \
-    over itself, or runs twice";
+    "its key is that of another request, which was taken: the folder was restored over itself, or two services run on \
+     copies of it";
 
 /// How much of a series is shown, in characters.
 const SERIES_SHOWN: usize = 300;

@@ -154,7 +154,7 @@ pub trait Sink: Send + Sync {
 
     /// Closes or opens a period, or adjusts: wholly or not at all, between two requests.
     fn settle<'a>(&'a self, _who: &'a str, _deed: &'a Deed) -> Answer<'a, Told> {
-        let why = "keeps no periods: only a SQLite or PostgreSQL sink can close, open and adjust them";
+        let why = "keeps no periods: only a SQLite or PostgreSQL sink can close, reopen and adjust them";
         let told = Told::Refused(format!("the sink {} {why}", self.name()));
         Box::pin(std::future::ready(told))
     }

@@ -132,7 +132,7 @@ fn a_faulty_line_has_status_2() {
     refused(&["serve"], 2, "--data");
     refused(&["serve", "--data", "d", "--max-series", "0"], 2, "1..=1000000");
     refused(&["serve", "--data", "d", "--flush-interval", "10"], 2, "10s");
-    refused(&["serve", "--data", "d", "--sink", "localhost:4318"], 2, "no sink is known for `localhost:`");
+    refused(&["serve", "--data", "d", "--sink", "localhost:4318"], 2, "`localhost:` is not a kind of sink");
     refused(&["quarantine", "no name"], 2, "1 to 64");
     let serve = ["serve", "--data", "d"];
     for (words, part) in [
@@ -255,7 +255,7 @@ fn what_is_not_possible_has_status_1_and_is_named() {
     refused(
         &[&serve[..], &["--listen", &address]].concat(),
         1,
-        &format!("--listen {address} can't be listened on: end what listens there"),
+        &format!("--listen {address} can't be listened on (Address already in use (os error 98)): stop what listens there"),
     );
     let told = format!(
         "--listen-grpc {address} can't be listened on: end what listens there, give another --listen-grpc, or --listen-grpc off"
@@ -270,11 +270,7 @@ fn what_is_not_possible_has_status_1_and_is_named() {
     let other = tempfile::tempdir().unwrap();
     let place = ["--data", other.path().to_str().unwrap(), "--listen", "127.0.0.1:0", "--listen-grpc", "off"];
     let short = ["--admin", "127.0.0.1:0", "--max-memory", "64MiB", "--max-series", "1000000"];
-    refused(
-        &[&["serve"][..], &place, &short].concat(),
-        1,
-        "give a greater --max-memory, or a smaller --max-series",
-    );
+    refused(&[&["serve"][..], &place, &short].concat(), 1, "raise --max-memory, or lower --max-series");
     drop(taken);
     for words in [
         &["status"][..],

@@ -29,9 +29,9 @@ impl<S: Store> Run<S> {
                 requests,
                 since,
                 until,
-                "the store has gone back: the sink has requests of it that the store does not have. What was answered in \
-                 that time, or later, and is not in the sink is lost; what comes, and begins before its series ends in the \
-                 sink, goes to dead-letters/"
+                "the store was restored to an earlier state: the sink has requests of that time that the store lacks. Posts \
+                 that were accepted since then and are not in the sink are lost; new points that begin before their series \
+                 ends in the sink go to dead-letters/"
             );
         }
     }

@@ -39,7 +39,7 @@ fn headers_in(file: &Path) -> Result<HeaderMap, BadOtlp> {
     let text = std::fs::read_to_string(file).map_err(|error| bad(error.to_string()))?;
     let lines = text.lines().map(str::trim).filter(|line| !line.is_empty() && !line.starts_with('#'));
     let header = |line: &str| {
-        let (name, value) = line.split_once(':').ok_or_else(|| bad("a line is no `NAME: VALUE`".into()))?;
+        let (name, value) = line.split_once(':').ok_or_else(|| bad("a line is not `NAME: VALUE`".into()))?;
         header_of(name.trim(), value.trim()).map_err(|why| bad(why.to_string()))
     };
     lines.map(header).collect()
@@ -64,9 +64,9 @@ mod tests {
             (2, &"Bearer a:b".parse().expect("a value"), &"t".parse().expect("a value"))
         );
         for (text, part) in [
-            ("secret", "no `NAME: VALUE`"),
-            ("content-type: x", "the service's own"),
-            ("a b: c", "no name of a header"),
+            ("secret", "is not `NAME: VALUE`"),
+            ("content-type: x", "the service sets header"),
+            ("a b: c", "is not a header's name"),
         ] {
             std::fs::write(&file, text).expect("written");
             let error = access.read_headers().expect_err(text).to_string();

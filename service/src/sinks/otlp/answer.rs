@@ -99,8 +99,7 @@ fn taken(body: Option<Vec<u8>>, encoding: Encoding) -> Fate {
     let Some(bytes) = body else {
         tracing::warn!(
             longest_bytes = LONGEST_ANSWER,
-            "a sink took a request, but its answer was cut, or is too long: nothing is known of points that it may have \
-             rejected"
+            "the sink took a request, but its answer was cut or is too long: whether it rejected points is unknown"
         );
         return Fate::Taken;
     };
@@ -117,7 +116,7 @@ fn taken(body: Option<Vec<u8>>, encoding: Encoding) -> Fate {
             left: None,
         },
         Some(partial) if !partial.error_message.is_empty() => {
-            tracing::debug!(said = shown(&partial.error_message), "a sink took a request and says something");
+            tracing::debug!(said = shown(&partial.error_message), "the sink took a request with a message");
             Fate::Taken
         }
         _ => Fate::Taken,

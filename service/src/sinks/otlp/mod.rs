@@ -43,18 +43,18 @@ const OWN: [&str; 8] = [
 
 #[derive(Debug, thiserror::Error)]
 pub enum BadOtlp {
-    #[error("the sink's address is no URL: {0}")]
+    #[error("the sink's address is not a URL: {0}")]
     Url(String),
     /// It is not shown: where the name was forgotten, it is a part of the value.
-    #[error("what is before the colon is no name of a header")]
+    #[error("the text before the colon is not a header's name")]
     HeaderName,
-    #[error("the value of header `{0}` has bytes that no header has")]
+    #[error("the value of header `{0}` has bytes that a header can't have")]
     HeaderValue(String),
-    #[error("header `{0}` is the service's own: leave it out")]
+    #[error("the service sets header `{0}` itself: leave it out")]
     OwnHeader(String),
     #[error("{} can't be read as headers: {why}", .file.display())]
     HeaderFile { file: PathBuf, why: String },
-    #[error("files of TLS are for https://: leave them out, or write the address so")]
+    #[error("files of TLS need https://: leave them out, or write the address with https://")]
     NoTls,
     #[error(transparent)]
     Roots(#[from] crate::sinks::roots::NoRoots),
@@ -128,7 +128,8 @@ impl OtlpSink {
         if self.gzip {
             headers.insert(CONTENT_ENCODING, HeaderValue::from_static("gzip"));
         }
-        let key = HeaderValue::from_str(&request.key()).map_err(|_| "its key is no header".to_string())?;
+        let key = HeaderValue::from_str(&request.key())
+            .map_err(|_| "its key is not a valid header value".to_string())?;
         headers.insert(HeaderName::from_static(KEY), key);
         Ok(post)
     }

@@ -69,7 +69,7 @@ impl PostgresSink {
                 return Err(fault.at(server));
             }
             let reason = fault.at(server).to_string();
-            tracing::warn!(reason, "the sink can't be used: it is tried again at each delivery");
+            tracing::warn!(reason, "the sink can't be used: each delivery tries again");
         }
         let upkeep = Upkeep::start(server.clone(), retention, memory.clone(), was_there.clone())?;
         Ok(PostgresSink {

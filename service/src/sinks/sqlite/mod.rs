@@ -72,7 +72,7 @@ impl SqliteSink {
                 return Err(fault.at(path));
             }
             let reason = fault.at(path).to_string();
-            tracing::warn!(reason, "the sink can't be used: it is opened again at each delivery");
+            tracing::warn!(reason, "the sink can't be used: each delivery opens it again");
         }
         let (jobs, received) = mpsc::channel::<Job>();
         let write = move || writer.run(&received);
@@ -188,14 +188,15 @@ impl Writer {
             FileState::Gone => {
                 tracing::error!(
                     %path,
-                    "the sink's file was deleted or replaced: the file of this name lacks what was delivered so far"
+                    "the sink's file was deleted or replaced: the file with this name lacks everything that was delivered \
+                     so far"
                 );
                 self.was_replaced = true;
             }
             FileState::WithoutLog => match store.copy_log() {
                 Ok(()) => tracing::error!(
                     %path,
-                    "the -wal or -shm of the sink's file was deleted or replaced: what it had was copied into the file"
+                    "the -wal or -shm of the sink's file was deleted or replaced: its content was copied into the file"
                 ),
                 Err(fault) => {
                     self.store = Some(store);
@@ -255,7 +256,7 @@ impl Writer {
                 self.close_after(&fault);
                 if std::mem::replace(&mut self.is_kept, false) {
                     let reason = fault.at(&self.path).to_string();
-                    tracing::warn!(reason, "what is too old in the sink is deleted later");
+                    tracing::warn!(reason, "old rows of the sink could not be deleted: retried later");
                 }
                 false
             }

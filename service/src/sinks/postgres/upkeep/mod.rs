@@ -80,10 +80,7 @@ async fn rounds(server: &Server, retention: Retention, memory: &dyn Memory, was_
         let fault = round(server, retention, memory).await.err();
         let reason = fault.map(|fault| fault.at(server).to_string());
         if let Some(reason) = reason.as_ref().filter(|_| told != reason) {
-            tracing::warn!(
-                reason,
-                "what is to be made ahead or deleted in the sink waits for the next minute"
-            );
+            tracing::warn!(reason, "the upkeep of the sink failed: retried in a minute");
         }
         told = reason;
     }

@@ -34,8 +34,8 @@ async fn make(client: &Client, server: &Server) -> Result<(), Error> {
             TOLD.call_once(|| {
                 tracing::info!(
                     %server,
-                    "there is no role to read the sink by: type `CREATE ROLE totxegun_read NOLOGIN` as one who may, and the \
-                     service lets it in"
+                    "there is no role for reading the sink: run `CREATE ROLE totxegun_read NOLOGIN` as a user who may, and \
+                     the service grants it access"
                 )
             });
             Ok(())
