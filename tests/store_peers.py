@@ -197,7 +197,7 @@ def try_no_store(checks: Checks, program: str, folder: str, store: Store, sink: 
     checks.same("it is not ready", 503, one.asked("GET", "/readyz")[0])
     status, text = one.post("r0", 1)
     checks.true("posts are turned away", status == 503 and "the store does not answer" in text, (status, text))
-    checks.true("the log says so", "is waited for" in one.last_lines(50), one.last_lines())
+    checks.true("the log says so", "can't be used yet, retrying" in one.last_lines(50), one.last_lines())
     store.server.start()
     checks.true("it goes on once the store is there", one.wait_ready() and settled(store, "a"), one.last_lines())
     checks.true("posts are taken", wait_until(lambda: one.post("r0", 1)[0] == 200), one.last_lines())
@@ -330,7 +330,7 @@ def try_sink(checks: Checks, program: str, folder: str, store: Store, sink: Otlp
     try:
         one.start()
         checks.true("one has all", settled(store, "a") and one.wait_ready(), one.last_lines())
-        for words, part in (((), "--new-sink"), (("--new-sink",), "stop all first")):
+        for words, part in (((), "--new-sink"), (("--new-sink",), "runs: stop ")):
             wrong = Instance(program, folder, "b", store, second.address, *words)
             wrong.start()
             checks.true("another sink is refused by name", wait_until(lambda: not wrong.is_running(), 90)

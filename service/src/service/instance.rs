@@ -65,8 +65,12 @@ impl Joining {
         store: PostgresStore,
         settings: &Settings,
     ) -> Result<Joining, Ended> {
-        let secret =
-            Secret::new(&store.cluster.secret).ok_or_else(|| anyhow!("the store's secret is no head"))?;
+        let secret = Secret::new(&store.cluster.secret).ok_or_else(|| {
+            anyhow!(
+                "the store's secret is not a valid header value: \
+                restore the row of totxegun_store.cluster from a backup"
+            )
+        })?;
         let cluster = Cluster::new(&of.instance, settings.clock.most_off());
         let forward = Arc::new(Forward::new(cluster.clone(), secret.clone(), peers.tls.clone()));
         Ok(Joining {
@@ -76,7 +80,7 @@ impl Joining {
             secret,
             peers,
             metrics: Some(Box::new(
-                OfCluster::of(&settings.metrics.registry).context("no metrics can be made")?,
+                OfCluster::of(&settings.metrics.registry).context("the metrics can't be registered")?,
             )),
         })
     }
@@ -226,7 +230,11 @@ impl terms::Units for Instance {
         Box::pin(async move {
             if let Err(ended) = self.units.hand_over(slot).await {
                 let reason = ended.to_string();
-                tracing::warn!(slot, reason, "the slot's last checkpoint is left to its next owner");
+                tracing::warn!(
+                    slot,
+                    reason,
+                    "the slot's last checkpoint failed: its next owner replays the journal"
+                );
             }
             self.forget(slot, Some(term));
         })
@@ -249,8 +257,8 @@ impl terms::Units for Instance {
 /// What an operator can do if the files of a shard can't be read.
 fn to_do(slot: u16) -> String {
     format!(
-        "If the store has lost rows of slot {slot}, put them back; or end all instances, and have it begin with nothing: `totxegun store \
-         restored --anew {slot} ADDRESS`"
+        "If the store has lost rows of slot {slot}, restore them; or stop all instances and let the slot begin with \
+         nothing: `totxegun store restored --anew {slot} ADDRESS`"
     )
 }
 

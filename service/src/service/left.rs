@@ -19,8 +19,8 @@ pub(super) fn look_at(data: &Path, store: &str) -> Result<(), Ended> {
     if has(data, |name| name != "version") {
         let data = data.display();
         return Err(Ended::Other(anyhow!(
-            "{data} has what a service without --store has kept, and an instance delivers nothing of it: bring it into a store that \
-             has nothing yet by `totxegun store move --from {data} {store}`; or give another --data"
+            "{data} has data of a service without --store, which an instance would not deliver: move it into an unused \
+             store by `totxegun store move --from {data} {store}`, or give another --data"
         )));
     }
     Ok(())

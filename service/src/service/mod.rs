@@ -176,12 +176,12 @@ pub async fn run(settings: Settings) -> Result<(), Ended> {
     };
     let settings = Arc::new(settings);
     let (place, sink) = (settings.place(), parts.sink.name());
-    tracing::info!(place, sink, "where data is kept, and the sink");
+    tracing::info!(place, sink, "the place of the data, and the sink");
     tracing::info!("{}", settings.door);
     tracing::info!(
         senders = senders.shown(),
         operators = operators.shown(),
-        "senders post, and operators ask"
+        "the addresses for senders and operators"
     );
     let mut running = parts.start(&settings, senders, operators).await?;
     units.get_or_init(|| running.at_work.units().clone());

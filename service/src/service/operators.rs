@@ -45,8 +45,9 @@ impl Readers {
         let listener = bind("--admin", address).await?;
         if settings.operate.tokens.is_some() && !settings.behind_proxy && !is_local(&listener) {
             return Err(Ended::Line(anyhow!(
-                "--admin {address} is open to other machines, where anybody could read tokens of --admin-tokens along: \
-                 leave these out, or give --behind-proxy, if nobody but a proxy that has TLS reaches the address"
+                "--admin {address} is open to other machines, so anybody on the network could read tokens of \
+                 --admin-tokens: leave --admin-tokens out, or give --behind-proxy if only a proxy with TLS reaches the \
+                 address"
             )));
         }
         Ok(Readers(Some(Arc::new(listener))))
@@ -65,8 +66,8 @@ impl Readers {
 async fn bind_socket(path: &Path) -> Result<UnixListener, Ended> {
     Ok(listen_at_socket(path).await.map_err(|error| {
         anyhow!(
-            "--admin unix:{} can't be listened at: end what listens there, or give another path, of 107 bytes at most, in a \
-             folder that is there: {error}",
+            "--admin unix:{} can't be listened on ({error}): stop what listens there, or give another path of at most 107 \
+             bytes in an existing folder",
             path.display()
         )
     })?)

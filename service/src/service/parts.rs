@@ -134,7 +134,7 @@ impl Parts {
         });
         let of_operators = Limits { connections: OPERATORS, ..limits(settings) };
         if let Some(pass) = &settings.pass {
-            tracing::info!(url = pass.url(), "points outside the profile are handed on");
+            tracing::info!(url = pass.url(), "points outside the profile are forwarded");
             tokio::spawn(pass.clone().run());
         }
         let reading = Arc::new(settings.reading.clone());

@@ -21,8 +21,9 @@ impl Peers {
         let listener = bind("--peer", &of.peer).await?;
         if !is_local(&listener) && of.peer_tls.is_none() && !of.peer_plain {
             return Err(Ended::Line(anyhow!(
-                "--peer {} is open to other machines, where anybody could read the instances' secret along, and then post under \
-                 any name: give --peer-ca and a certificate; or --peer-plain, if nobody but the instances reaches their network",
+                "--peer {} is open to other machines, so anybody on the network could read the instances' secret and then \
+                 post under any name: give --peer-ca and a certificate, or --peer-plain if only the instances reach that \
+                 network",
                 of.peer
             )));
         }
@@ -44,9 +45,9 @@ fn look_at_name(peer: &str, at: IpAddr) -> Result<(), Ended> {
         return Ok(());
     }
     Err(Ended::Other(anyhow!(
-        "--peer {peer} is {at} on this machine, where no other instance reaches this one: write the name or the address by which \
-         the others reach this machine (a name has to have that address in /etc/hosts too, and not {at}); or write localhost, if \
-         all instances are on this machine"
+        "--peer {peer} is {at} on this machine, where no other instance can reach this one: give the name or address by \
+         which the others reach this machine (/etc/hosts must not map that name to {at}), or localhost if all instances \
+         are on this machine"
     )))
 }
 

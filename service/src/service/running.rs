@@ -113,7 +113,7 @@ async fn of_joined(joined: &mut Option<Joined>) -> Ended {
             end = &mut joined.beats => match end {
                 // A restart would not help.
                 Ok(Err(later)) => Ended::Line(later.into()),
-                end => cause("the beats", end.map(|ended| ended.map_err(anyhow::Error::from))),
+                end => cause("the heartbeat", end.map(|ended| ended.map_err(anyhow::Error::from))),
             },
             end = &mut joined.peer => cause("the peers' address", end.map(Ok::<(), Fault>)),
         },

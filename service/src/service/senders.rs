@@ -21,11 +21,11 @@ pub(super) async fn bind(option: &str, address: &str) -> Result<TcpListener, End
             ErrorKind::AddrInUse if option == GRPC => {
                 format!("end what listens there, give another {option}, or {option} off")
             }
-            ErrorKind::AddrInUse => format!("end what listens there, or give another {option}"),
+            ErrorKind::AddrInUse => format!("stop what listens there, or give another {option}"),
             ErrorKind::InvalidInput => "write HOST:PORT".to_string(),
             _ => format!("give another {option}"),
         };
-        anyhow!("{option} {address} can't be listened on: {what}: {error}")
+        anyhow!("{option} {address} can't be listened on ({error}): {what}")
     })?)
 }
 
@@ -41,8 +41,8 @@ async fn bind_closed(option: &str, address: &str, settings: &Settings) -> Result
     match is_local(&listener) || settings.behind_proxy || settings.door.is_closed() {
         true => Ok(listener),
         false => Err(Ended::Line(anyhow!(
-            "{option} {address} is open to other machines, where anybody could {}; or --behind-proxy, if nobody but a proxy \
-             that has TLS and names reaches it",
+            "{option} {address} is open to other machines, so anybody on the network could {}; or --behind-proxy if only a \
+             proxy with TLS and senders' names reaches it",
             could(settings.door.has_tls(), settings.door.has_names())
         ))),
     }
@@ -52,9 +52,9 @@ async fn bind_closed(option: &str, address: &str, settings: &Settings) -> Result
 fn could(has_tls: bool, has_names: bool) -> &'static str {
     match (has_tls, has_names) {
         (false, false) => {
-            "read along and post under any name: give --tls-cert and --tls-key, and --tokens or --client-ca"
+            "read posts and post under any name: give --tls-cert and --tls-key, and --tokens or --client-ca"
         }
-        (false, true) => "read along: give --tls-cert and --tls-key",
+        (false, true) => "read posts: give --tls-cert and --tls-key",
         (true, _) => "post under any name: give --tokens or --client-ca",
     }
 }

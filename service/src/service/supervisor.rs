@@ -63,7 +63,7 @@ impl Supervisor {
         let told = UnixDatagram::unbound().and_then(|socket| socket.send_to_addr(text.as_bytes(), to));
         if let Err(error) = told {
             let reason = error.to_string();
-            tracing::warn!(reason, "the supervisor at NOTIFY_SOCKET can't be told");
+            tracing::warn!(reason, "the supervisor at NOTIFY_SOCKET can't be notified");
         }
     }
 }

@@ -56,7 +56,7 @@ impl Files {
         let room = room(settings.max_series, slots, outbox.series_count());
         let core = Core::apart(room, settings.across).with_context(|| {
             format!(
-                "a book for --max-series {} can't be made: give a greater --max-memory, or a smaller --max-series",
+                "a book for --max-series {} can't be made: raise --max-memory, or lower --max-series",
                 settings.max_series
             )
         })?;
@@ -161,7 +161,7 @@ impl Unit {
         );
         let is_flushed = self.keeper.is_empty();
         if !is_flushed {
-            tracing::warn!("ended without a last flush: what was taken is in the journal for the next start");
+            tracing::warn!("ended without a last checkpoint: the next start replays the journal");
         }
         in_time.and(late).and(delivery).map(|()| is_flushed)
     }
@@ -197,8 +197,8 @@ impl End {
 pub(super) fn cause<E: Into<Ended>>(part: &str, end: Result<Result<(), E>, JoinError>) -> Ended {
     match end {
         Ok(Err(why)) => why.into(),
-        Ok(Ok(())) => Ended::Other(anyhow!("{part} has ended by itself: this is a fault of totxegun")),
-        Err(error) => Ended::Other(anyhow!("{part} failed ({error}): this is a fault of totxegun")),
+        Ok(Ok(())) => Ended::Other(anyhow!("{part} ended unexpectedly: this is a bug of totxegun")),
+        Err(error) => Ended::Other(anyhow!("{part} failed ({error}): this is a bug of totxegun")),
     }
 }
 

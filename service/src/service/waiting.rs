@@ -38,7 +38,7 @@ async fn tried(of: &OfStore) -> Result<PostgresStore, Ended> {
             Err(fault) if fault.may_pass() => {
                 if TOLD.is_due() {
                     let reason = fault.to_string();
-                    tracing::warn!(reason, "the store can't be used yet, and is waited for");
+                    tracing::warn!(reason, "the store can't be used yet, retrying");
                 }
             }
             opened => return Ok(opened.context("the store can't be used")?),

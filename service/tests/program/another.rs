@@ -11,14 +11,14 @@ fn a_lost_setting_delivers_nothing_into_another_sink() {
     assert_eq!(service.end(), Some(0));
     let mut lost = place.begin(&[]);
     assert_eq!(lost.status_of_end(), Some(1));
-    let said = "this folder delivers to otlp http://127.0.0.1:9/v1/metrics, and the sink is now sqlite ";
+    let said = "this folder delivers to otlp http://127.0.0.1:9/v1/metrics, but --sink is now sqlite ";
     let log = place.log();
-    assert!(log.contains(said) && log.contains("requests that wait: 1."), "{log}");
+    assert!(log.contains(said) && log.contains("waiting requests: 1."), "{log}");
     assert!(!place.data().join("metrics.db").exists());
     let service = place.serve_into_another();
     service.drain();
     assert_eq!(service.end(), Some(0));
-    assert!(place.log().contains("--new-sink: from here on all goes into this sink"));
+    assert!(place.log().contains("--new-sink: from now on everything is delivered to this sink"));
     assert_eq!(place.totals(), [("a".to_string(), 5)].into());
     assert_eq!(place.serve().end(), Some(0));
 }
@@ -38,5 +38,5 @@ fn a_start_that_fails_for_its_journal_leaves_the_sink_as_it_was() {
     assert_eq!(place.begin(&["--new-sink", "--sink", &place.sink()]).status_of_end(), Some(70));
     assert_eq!(version(), before);
     assert!(!place.folder.path().join("sink.db").exists());
-    assert!(!place.log().contains("--new-sink: from here on"));
+    assert!(!place.log().contains("--new-sink: from now on"));
 }

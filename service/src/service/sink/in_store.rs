@@ -31,7 +31,8 @@ impl InStore {
 fn known(text: &str) -> anyhow::Result<Option<KnownSink>> {
     KnownSink::of_text(text).with_context(|| {
         format!(
-            "its sink is {text:?}, as an earlier build of totxegun wrote it: start the totxegun that wrote it, or give another --store"
+            "its sink {text:?} was written by an earlier build of totxegun, which this one can't read: use that build, or \
+             give another --store"
         )
     })
 }
@@ -44,7 +45,7 @@ impl Remembers for InStore {
     /// All instances deliver to one sink, so the first one that reaches it sets it for all.
     fn set_sink(&self, sink: KnownSink) -> Result<(), Ended> {
         let mut known = locked(&self.known);
-        let text = |sink: &KnownSink| sink.text().context("the sink can't be written");
+        let text = |sink: &KnownSink| sink.text().context("the sink can't be recorded");
         let (before, now) = (known.as_ref().map_or(Ok(String::new()), text)?, text(&sink)?);
         let there = in_place(|| self.store.set_sink(&before, &now));
         *known = self::known(&there.context("the store can't be written")?)?;
@@ -52,7 +53,10 @@ impl Remembers for InStore {
             Some(there) if there.is(&sink) || sink.id.is_none() && there.is_at(&sink) => Ok(()),
             there => {
                 let there = there.as_ref().map_or("none".into(), KnownSink::to_string);
-                let why = anyhow!("another instance delivers to {there}, and this one to {sink}");
+                let why = anyhow!(
+                    "another instance delivers to {there}, but this one to {sink}: give all instances the \
+                    same --sink"
+                );
                 Err(why.into())
             }
         }
@@ -61,15 +65,12 @@ impl Remembers for InStore {
     /// Another running instance would still deliver to the old sink, and requests without an acknowledgement would go
     /// to both.
     fn may_change(&self) -> Result<(), Ended> {
-        tracing::info!(
-            seconds = STILL.as_secs(),
-            "--new-sink: if there were other instances, it is looked whether one runs"
-        );
+        tracing::info!(seconds = STILL.as_secs(), "--new-sink: waiting to see whether another instance runs");
         let living = in_place(|| self.store.running(STILL)).context("the store can't be read")?;
         match &living[..] {
             [] => Ok(()),
             _ => Err(Ended::Other(anyhow!(
-                "--new-sink is for one start while no other instance runs, and {} do: stop all first",
+                "--new-sink is for one start while no other instance runs: stop {} first",
                 living.join(", ")
             ))),
         }
@@ -81,9 +82,9 @@ impl Remembers for InStore {
 
     fn refusal(&self, known: &KnownSink, found: &str) -> String {
         format!(
-            "the instances of this store deliver to {known}, and the sink is now {found}. Set --sink (or TOTXEGUN_SINK) to the \
-             old one, or put it back; or stop all instances, and give --new-sink for one start of one: what waits, and all \
-             after it, goes into the new one"
+            "the instances of this store deliver to {known}, but --sink is now {found}. Set --sink (or TOTXEGUN_SINK) to \
+             the old sink, or restore it; or stop all instances, and give one --new-sink for one start: the waiting \
+             requests and all later ones go into the new sink"
         )
     }
 }
