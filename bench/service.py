@@ -3,7 +3,7 @@
 
     bench/service.py [--totxegun FILE] [--gateway FILE] [--earlier FOLDER] [--other FILE] [--senders N,..] [--series N] [--rows NAME,..]
                      [--parties NAME,..] [--connections kept|each] [--runs N] [--seconds N] [--share N] [--data DIR] [--options WORDS]
-                     [--set NAME=VALUE]* [--sink sqlite|postgres]
+                     [--set NAME=VALUE]* [--renamed NEW=OLD]* [--sink sqlite|postgres]
 
 The programs are bin/totxegun and bin/gateway, as `make build` and `make core` make them, where none is named. Rows: json-1, json-20,
 protobuf-103, gzip-103, grpc-1, grpc-103, by the encoding and the points of a post, over 800 series, and cumulative-103, which is
@@ -13,7 +13,8 @@ TOTXEGUN_FLUSH_INTERVAL=250ms` has each run deliver. More options of it are in W
 shipped unit does, such as LD_PRELOAD. process-tls and disk-tls are the same over TLS 1.3, on connections that shake hands wholly,
 and their ratios are to those without. FOLDER has totxegun and gateway of a revision whose service starts a gateway (1383c49c): it
 is measured as earlier-process and earlier-disk too. The other FILE is a totxegun of another revision, measured as other-process
-and so on. The bare gateway has four receivers, tcmalloc where that is installed, a connection a request, over TCP, and protobuf's
+and so on. Both get the options of today: `--renamed durability=durable` says that theirs is named so, and `--renamed listen-grpc=`
+that they have none. The bare gateway has four receivers, tcmalloc where that is installed, a connection a request, over TCP, and protobuf's
 points as JSON: it reads no other. The services get kept connections, a sender each, or with `each` one for each post, but for
 gRPC. The folder of a service is made in DIR, which is out/bench where none is named: the disk that `disk` waits for.
 
@@ -118,7 +119,7 @@ def run(party: str, arguments: argparse.Namespace, row: str, clients: int, reque
                 connections += OVER_TLS
             its = arguments
             if party.startswith(OTHER):
-                its = argparse.Namespace(**vars(arguments) | {"totxegun": arguments.other})
+                its = argparse.Namespace(**vars(arguments) | {"totxegun": arguments.other, "is_other": True})
             sink = arguments.databases and arguments.databases.fresh()
             one = stack.enter_context(serving(its, *words, sink=sink, is_earlier=party.startswith(EARLIER)))
             port, pids = grpc if encoding == "grpc" else one.listen, processes(one)

@@ -1,9 +1,9 @@
 #!/usr/bin/env python3
 """Prints how long the service takes for what happens seldom, and what it writes.
 
-    bench/service_times.py checkpoint|kill|replay|memory|backlog|bytes [--totxegun FILE] [--earlier FOLDER] [--series N,..]
-                           [--posts N,..] [--points N,..] [--among N] [--requests N] [--times N] [--durability WHAT] [--data DIR]
-                           [--options WORDS]
+    bench/service_times.py checkpoint|kill|replay|memory|backlog|bytes [--totxegun FILE] [--earlier FOLDER] [--renamed NEW=OLD]*
+                           [--series N,..] [--posts N,..] [--points N,..] [--among N] [--requests N] [--times N]
+                           [--durability WHAT] [--data DIR] [--options WORDS]
 
   checkpoint  the pause of a checkpoint in which each series (1,000, 10,000 and 100,000) has a new point, as the service counts it,
               and how long the order takes

@@ -21,6 +21,20 @@ class Measured(Service):
 
     environment: dict[str, str] = {}
 
+    def rename(self, names: dict[str, str]) -> None:
+        """Gives options the names that an older program has for them; with none, it does not get the option and its value."""
+        words = iter(self.words)
+        self.words = []
+        for word in words:
+            name = names.get(word.removeprefix("--"), word.removeprefix("--")) if word.startswith("--") else word
+            if name:
+                self.words.append(f"--{name}" if word.startswith("--") else word)
+            else:
+                next(words)
+        settings = ((key.removeprefix("TOTXEGUN_").lower().replace("_", "-"), value) for key, value in self.settings.items())
+        renamed = ((names.get(key, key), value) for key, value in settings)
+        self.settings = {f"TOTXEGUN_{key.upper().replace('-', '_')}": value for key, value in renamed if key}
+
 
 def path(word: str) -> str:
     return os.path.abspath(word)
@@ -34,6 +48,7 @@ def options(about: str) -> argparse.ArgumentParser:
     parser.add_argument("--data", default=f"{ROOT}/out/bench")
     parser.add_argument("--options", type=str.split, default=[])
     parser.add_argument("--earlier", type=path)
+    parser.add_argument("--renamed", type=lambda text: text.split("=", 1), action="append", default=[])
     parser.add_argument("--set", type=lambda text: text.split("=", 1), action="append", default=[])
     return parser
 
@@ -48,7 +63,8 @@ def start(one: Measured) -> None:
 @contextlib.contextmanager
 def service(arguments: argparse.Namespace, *words: str, sink: str | None = None, is_earlier: bool = False) -> Iterator[Measured]:
     """A service that is not started yet, on a folder of its own, with these options more, and what the shipped unit sets in its
-    environment. An earlier one has its gateway beside it, and its own options alone."""
+    environment. An earlier one has its gateway beside it, and its own options alone. One that is not named as today has the names of
+    `--renamed`."""
     os.makedirs(arguments.data, exist_ok=True)
     with tempfile.TemporaryDirectory(prefix="service-", dir=arguments.data) as folder:
         data, sink = f"{folder}/data", sink or f"sqlite:{folder}/sink.db"
@@ -56,6 +72,8 @@ def service(arguments: argparse.Namespace, *words: str, sink: str | None = None,
         if is_earlier:
             program, more = f"{arguments.earlier}/totxegun", ["--gateway", f"{arguments.earlier}/gateway"]
         one = Measured(program, data, sink, *words, *more)
+        if is_earlier or getattr(arguments, "is_other", False):
+            one.rename(dict(arguments.renamed))
         one.environment = dict([pair.split("=", 1) for pair in SET.findall(shipped("totxegun.service", {}))] + arguments.set)
         try:
             yield one
