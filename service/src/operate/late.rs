@@ -140,10 +140,11 @@ fn listed(point: &LatePoint) -> Value {
         }
     }
     if let Ok(of) = SeriesTotal::of_none(&point.series()) {
-        let mut of = json!(of);
-        for name in ["name", "unit", "kind", "attributes", "resource"] {
+        let (kind, mut of) = (of.kind, json!(of));
+        for name in ["name", "unit", "attributes", "resource"] {
             shown[name] = of[name].take();
         }
+        (shown["kind"], shown["is_monotonic"]) = (json!(kind.name()), json!(kind.is_monotonic()));
         for name in ["scope_name", "scope_version", "scope_attributes"] {
             shown[name] = of[name].take();
         }
