@@ -1,19 +1,19 @@
-//! Compares the version that Cargo.toml has with the one that holds for all, the file VERSION at the top; looks for the
-//! allocator, with which `core/book` links; and links the proved book, the library in `book/`, if it is the one that
-//! PROVENANCE there names.
+//! Checks that Cargo.toml has the version of the file VERSION at the top, looks for the allocator that `core/book`
+//! links with, and links the proved book, that is, the library in `book/`, if it is the one that PROVENANCE there
+//! names.
 
 use sha2::{Digest, Sha256};
 use std::path::{Path, PathBuf};
 use std::process::Command;
 
-/// Where the library is, beside what it was built of and what proved it. `$TOTXEGUN_BOOK` is another folder, which may lack
-/// the latter: `tools/build.py book_c` makes one of changed crates.
+/// The folder of the library, with what it was built from and what proved it. `$TOTXEGUN_BOOK` names another folder,
+/// which may lack PROVENANCE: `tools/build.py book_c` makes one of changed crates.
 const FOLDER: &str = "../book";
 const LIBRARY: &str = "libbook.a";
 const PROVENANCE: &str = "PROVENANCE";
-/// For which the library is.
+/// The processor that the library is built for.
 const PROCESSOR: &str = "x86_64";
-/// By the name that pkg-config has for it.
+/// The name that pkg-config has for it.
 const ALLOCATOR: &str = "libtcmalloc_minimal";
 
 fn main() {
@@ -65,7 +65,7 @@ fn link_book() {
     }
 }
 
-/// Gives the program the revision and the toolchain of its book, whose bytes have the sum that is written down.
+/// Gives the program the revision and the toolchain of its book, if the library has the checksum that PROVENANCE names.
 fn tell_version(provenance: &str, bytes: &[u8], library: &Path) {
     let value = |key: &str| {
         let mut lines = provenance.lines().filter_map(|line| line.split_once(' '));

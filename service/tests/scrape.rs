@@ -1,4 +1,4 @@
-//! `/totals` of the program itself has what `totxegun totals` shows, over a kill and a restart.
+//! Tests that `/totals` of the program has what `totxegun totals` shows, also after a kill and a restart.
 
 use std::io::{Read, Write};
 use std::net::{TcpListener, TcpStream};
@@ -6,7 +6,7 @@ use std::path::{Path, PathBuf};
 use std::process::{Child, Command, Stdio};
 use std::time::{Duration, Instant};
 
-/// Past what a float holds, and little enough that the book takes it.
+/// More than a float holds exactly, and little enough that the book takes it.
 const LARGE: i64 = (1 << 62) + 1;
 
 struct Service {
@@ -97,7 +97,7 @@ impl Service {
         assert!(self.told(&[word]).status.success());
     }
 
-    /// The page's value, once the sink has all that was forwarded: it is what `totxegun totals` says.
+    /// The value on the page, after the sink has all that was forwarded. `totxegun totals` has to show the same.
     fn total(&self) -> String {
         until_it_is_delivered(self);
         let (status, page) = asked(&self.operate, "GET", "/totals", "").unwrap();
@@ -123,7 +123,7 @@ fn a_scrape_has_the_totals_over_a_kill_and_a_restart() {
     service.order("flush");
     assert_eq!(service.total(), "9223372036854775810");
     service.post(40, 5);
-    drop(service); // killed: the journal has the last post
+    drop(service); // killed: the last post is in the journal
     let service = serve(&data, &[]);
     assert_eq!(service.total(), "9223372036854775810");
     service.order("flush");
@@ -140,8 +140,8 @@ fn another_sink_has_no_page() {
     assert!(text.contains("only a SQLite or PostgreSQL sink") && text.contains("127.0.0.1:1"), "{text}");
 }
 
-/// What a page is made of is held until it is read. Else as many readers as there may be connections, who read nothing, had as
-/// many pages, until no memory was left for posts.
+/// The data of a page is in memory until the page is read. Without this limit, as many readers as there may be
+/// connections, which read nothing, would have as many pages, until no memory was left for posts.
 #[test]
 fn one_page_of_totals_is_on_its_way_at_a_time() {
     let folder = tempfile::tempdir().unwrap();
@@ -174,7 +174,7 @@ fn one_page_of_totals_is_on_its_way_at_a_time() {
     assert!(status == 200 && page.len() > 3_000 * 4_000, "{status} {} bytes", page.len());
 }
 
-/// As who watches an address asks.
+/// As a monitor asks that watches an address.
 #[test]
 fn a_head_is_that_of_its_page() {
     let folder = tempfile::tempdir().unwrap();
@@ -186,7 +186,7 @@ fn a_head_is_that_of_its_page() {
     assert_eq!(asked(&service.operate, "HEAD", "/flush", "").unwrap().0, 405);
 }
 
-/// What waited while the sink was down comes at once; its time says when it was counted.
+/// What waited while the sink was down arrives at once. Its time says when it was counted.
 #[test]
 fn a_sample_has_the_time_of_its_series_where_that_is_asked_for() {
     let folder = tempfile::tempdir().unwrap();

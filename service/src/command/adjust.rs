@@ -1,4 +1,4 @@
-//! `totxegun adjust`: what a series counted in an hour is adjusted by hand, or late data is booked.
+//! `totxegun adjust`: adjusts by hand what a series counted in an hour, or books late data.
 
 use super::ask::Address;
 use super::{amend, ask, client};
@@ -10,22 +10,22 @@ use hyper::Method;
 
 #[derive(Args)]
 pub struct Options {
-    /// As `totals` shows it: NAME, NAME{key=value,..} or NAME{"key":"value",..}, by attributes of its points or its resource; or its number, the column `series` of the views
+    /// The series as `totals` shows it: NAME, NAME{key=value,..} or NAME{"key":"value",..}, by attributes of its points or its resource; or its number, the column `series` of the views
     #[arg(value_name = "SERIES", value_parser = series, required_unless_present = "late")]
     series: Option<String>,
-    /// The hour of UTC that it belongs to: 2026-11-05T13
+    /// The hour to adjust, in UTC: 2026-11-05T13
     #[arg(required_unless_present = "late")]
     hour: Option<Period>,
-    /// What is added to it, a whole number; of a histogram, to its sum
+    /// The whole number to add; for a histogram it is added to the sum
     #[arg(allow_negative_numbers = true, value_parser = value, required_unless_present = "late")]
     value: Option<i64>,
-    /// Books this late data in their place, once, in the hour in which it ended: its key, as `totxegun late` shows it
+    /// Books late data instead, once, in the hour in which it ended: its key, as `totxegun late` shows it
     #[arg(long, value_name = "KEY", conflicts_with_all = ["series", "hour", "value"])]
     late: Option<String>,
-    /// Why; of late data by itself its sender, and from when to when it is
+    /// Why [default with --late: the sender and the times of the late data]
     #[arg(long, value_name = "TEXT", required_unless_present = "late")]
     reason: Option<String>,
-    /// Only says what would be done
+    /// Says what would be done, and does nothing
     #[arg(long)]
     dry_run: bool,
     #[command(flatten)]

@@ -1,4 +1,4 @@
-//! `totxegun rewind` and `forget`: what the service knows of series is changed.
+//! `totxegun rewind` and `forget`: change what the service knows of series.
 
 use crate::operate::Named;
 use crate::sinks::periods::seconds_of;
@@ -6,13 +6,13 @@ use clap::Args;
 
 #[derive(Args)]
 pub struct OfSeries {
-    /// As `totals` or `explain` shows it: NAME, NAME{key=value,..} or NAME{"key":"value",..}, by attributes of its points or its resource
+    /// The series as `totals` or `explain` shows it: NAME, NAME{key=value,..} or NAME{"key":"value",..}, by attributes of its points or its resource
     #[arg(value_name = "SERIES", value_parser = series)]
     series: String,
-    /// All series that are named so, where they are several
+    /// Means all series of this name if there are several
     #[arg(long)]
     all: bool,
-    /// Also where the sink can't tell what it has, so that what is posted again counts twice
+    /// Goes on even if the sink can't tell what it has, so that repeated points count twice
     #[arg(long)]
     force: bool,
 }

@@ -1,4 +1,4 @@
-//! Orders to the running service: flush, quarantine, release.
+//! The options by which all commands find the running service, and its orders flush, quarantine and release.
 
 use super::values::{counted, operator, orders_at, SOCKET};
 use super::{client, line, Form};
@@ -8,22 +8,22 @@ use clap::Args;
 use hyper::Method;
 use std::path::{Path, PathBuf};
 
-/// Where the running service is asked.
+/// How to reach the running service.
 #[derive(Args, Clone, Debug)]
 pub struct Address {
-    /// The running service's folder: in it is the socket that takes orders
+    /// The running service's folder, which has the socket that takes orders
     #[arg(long, env = "TOTXEGUN_DATA", value_name = "DIR", default_value = "/var/lib/totxegun")]
     data: PathBuf,
-    /// Where to ask in its place: unix:PATH, or HOST:PORT, which takes orders with --token alone. Of the variable TOTXEGUN_ADMIN, as the service has it, only a socket counts
+    /// Another address of the service: unix:PATH, or HOST:PORT, which takes orders only with --token. Of the service's variable TOTXEGUN_ADMIN, only a socket is used here
     #[arg(long, value_name = "ADDRESS", value_parser = operator)]
     admin: Option<String>,
-    /// A file that has an operator's token, for HOST:PORT
+    /// A file with an operator's token, for HOST:PORT
     #[arg(long, value_name = "FILE")]
     token: Option<PathBuf>,
 }
 
 impl Address {
-    /// The address: `HOST:PORT`, or `unix:PATH`.
+    /// `HOST:PORT`, or `unix:PATH`.
     pub fn place(&self) -> String {
         if let Some(given) = &self.admin {
             return given.clone();
@@ -37,7 +37,7 @@ impl Address {
     }
 }
 
-/// What is wrong with a file says nothing of what it has.
+/// Reads the token. An error does not show what the file has.
 fn read_token(path: &Path) -> Result<String> {
     let shown = path.display();
     let text = std::fs::read_to_string(path).with_context(|| format!("--token {shown} can't be read"))?;
@@ -61,7 +61,7 @@ pub struct Shown {
 
 #[derive(Args)]
 pub struct OfSender {
-    /// The sender, as its header x-sender names it; `-` is who names none
+    /// The sender's name, as in its header x-sender; `-` means those that give no name
     #[arg(value_name = "NAME", value_parser = sender)]
     pub sender: String,
     #[command(flatten)]
@@ -75,7 +75,7 @@ pub fn sender(text: &str) -> Result<String, String> {
     Err("a sender's name is 1 to 64 characters of A-Z a-z 0-9 . _ -".to_string())
 }
 
-/// Gives an order, and says what there is to say of it.
+/// Gives an order, and returns what to print.
 pub fn order(at: &Address, path: &str) -> Result<Vec<u8>> {
     match &client::ask(at, Method::POST, path)?[..] {
         b"{}" => Ok(line("done")),
@@ -95,7 +95,7 @@ pub fn told(at: &Address, body: &[u8]) -> Result<Vec<u8>> {
     Ok(line(format_args!("done: {message}")))
 }
 
-/// Gives an order that flushes, and says what came of it.
+/// Gives the order to flush, and returns what to print.
 pub fn flush(at: &Address) -> Result<Vec<u8>> {
     let body = client::ask(at, Method::POST, "/flush")?;
     let read: serde_json::Value = serde_json::from_slice(&body).unwrap_or_default();
@@ -106,7 +106,7 @@ pub fn flush(at: &Address) -> Result<Vec<u8>> {
     })
 }
 
-/// What waits there, which else looks lost.
+/// Says what waits for the sink. Otherwise an operator whose flush added nothing could think it lost.
 fn waits(at: &Address) -> String {
     match client::status(at).map_or(0, |status| status.waiting()) {
         0 => String::new(),
@@ -116,7 +116,7 @@ fn waits(at: &Address) -> String {
     }
 }
 
-/// `1 request waits`, `2 requests wait`.
+/// `1 request waits` or `2 requests wait`.
 pub fn waiting_shown(waiting: u64) -> String {
     let verb = if waiting == 1 { "waits" } else { "wait" };
     format!("{} {verb}", counted(waiting, "request"))

@@ -1,6 +1,7 @@
-//! `totxegun check`: what a start would find in a folder. Nothing of the folder is changed.
+//! `totxegun check`: says what a start would find in a folder, and changes nothing in it.
 //!
-//! The files are copied, and the copy is opened as a start opens it: so what is said is what a start would do.
+//! The files are copied, and the copy is opened by the same code as at a start, so what is said is what a start would
+//! do. Meanwhile the folder is locked.
 
 mod copy;
 mod posts;
@@ -23,19 +24,19 @@ use std::os::fd::AsRawFd;
 use std::path::{Path, PathBuf};
 use std::time::Duration;
 
-/// How often the folder's lock is tried, and how long between.
+/// How often the folder's lock is tried, and the pause between two tries.
 const TRIES: u32 = 50;
 const PAUSE: Duration = Duration::from_millis(20);
 
 #[derive(Args)]
 pub struct Options {
-    /// The service's folder; the service must not run
+    /// The service's folder; the service must not be running
     #[arg(value_name = "DIR")]
     data: PathBuf,
-    /// Where the files are copied to while they are read [default: the system's folder for temporary files]
+    /// Where to copy the files to while they are read [default: the system's folder for temporary files]
     #[arg(long, value_name = "DIR")]
     temporary: Option<PathBuf>,
-    /// Prints the posts that are in no group instead, each as a line of JSON
+    /// Prints each post that is in no group of the outbox as a line of JSON, instead of the summary
     #[arg(long)]
     posts: bool,
     #[command(flatten)]
@@ -45,30 +46,30 @@ pub struct Options {
 /// What a start would find.
 #[derive(Debug, Default, PartialEq, Eq, Serialize)]
 struct CheckReport {
-    /// Where it delivers to, as the last start has met it.
+    /// The sink of the last start.
     sink: Option<String>,
     segments: u64,
     journal_bytes: u64,
-    /// Posts that are in no group: a fresh book gets them.
+    /// Posts that are in no group: a start gives them to the book.
     posts: u64,
     post_bytes: u64,
     senders: usize,
-    /// Forwarded requests that the sink does not have.
+    /// Requests that the sink does not have.
     waiting: u64,
     outbox_bytes: u64,
     series: usize,
     quarantined: Vec<String>,
     /// Metrics, each with a unit that a rule of `--integer-unit` brought beside a finer one: no other of its name is taken in it.
     beside: BTreeSet<UnitOfMetric>,
-    /// Of the posts, those in quarantined senders' own files.
+    /// Those of the posts that are parked, in files of quarantined senders.
     parked_posts: u64,
     parked_bytes: u64,
     dead_letters: u64,
-    /// What is forwarded from this start on has keys of its own: the folder was copied, or its lock is gone.
+    /// Whether requests made after a start get keys of a new epoch: the folder was copied, or its lock is gone.
     new_epoch: bool,
-    /// What a start leaves out of a file, and keeps beside it.
+    /// What a start leaves out of a file, and keeps in a file beside it.
     dropped: Vec<String>,
-    /// Of each request that was changed: the delivery of its slot stops there, and all else goes on.
+    /// A fault for each changed request. A start stops the delivery of its shard there; everything else goes on.
     faults: Vec<String>,
 }
 
@@ -90,7 +91,7 @@ impl Options {
     }
 }
 
-/// What is printed. Where a request was changed, that is, and the first fault ends the command.
+/// Prints what was found. If a request was changed, the first fault also ends the command.
 fn show_found(mut found: CheckReport, copy: &Path, data: &Path, form: Form) -> Result<Vec<u8>, Ended> {
     found.new_epoch = Folder::is_moved(data);
     let (inner, outer) = (copy.display().to_string(), data.display().to_string());
@@ -110,8 +111,8 @@ fn show_found(mut found: CheckReport, copy: &Path, data: &Path, form: Form) -> R
     }
 }
 
-/// Keeps a service from starting on the folder while it is copied. Nothing is written: a lock that was deleted is not
-/// made, and the folder itself is locked in its place.
+/// Keeps a service from starting on the folder while it is copied. Nothing is written: if the lock file was deleted,
+/// the folder itself is locked instead.
 fn lock(data: &Path) -> anyhow::Result<File> {
     look_at(data)?;
     if let Some(place) = in_store(data) {
@@ -131,7 +132,7 @@ fn lock(data: &Path) -> anyhow::Result<File> {
     let lock = data.join("lock");
     let path = if lock.exists() { lock } else { data.to_path_buf() };
     let file = File::open(&path).with_context(|| format!("{} can't be read", path.display()))?;
-    // A process that is just being started has the file open for a moment, though who started it has ended.
+    // A process that is being forked holds the file open for a moment, even if its parent has ended already.
     let is_free = |try_number: u32| {
         std::thread::sleep(PAUSE * try_number.min(1));
         flock(file.as_raw_fd(), FlockArg::LockSharedNonblock).is_ok()
@@ -142,7 +143,7 @@ fn lock(data: &Path) -> anyhow::Result<File> {
     Ok(file)
 }
 
-/// What a start would refuse. Nothing has to be written: it may be a backup that can only be read.
+/// Refuses what a start would refuse. Nothing is written, since the folder may be a read-only backup.
 fn look_at(data: &Path) -> anyhow::Result<()> {
     match std::fs::read_dir(data) {
         Err(error) if error.kind() != ErrorKind::NotFound => {
@@ -157,11 +158,12 @@ fn look_at(data: &Path) -> anyhow::Result<()> {
     }
 }
 
-/// A store, or the folder of an instance, which has no more than its socket and its acts.
+/// What messages call a place that has no shards: a store, or the folder of an instance, which has only its socket and
+/// its audit log. None for other places.
 fn in_store(data: &Path) -> Option<String> {
     let text = data.to_string_lossy().to_ascii_lowercase();
     if text.starts_with("postgres:") || text.starts_with("postgresql:") {
-        return Some("a store".into()); // its address may have a password
+        return Some("a store".into()); // the address may have a password
     }
     let has = |name: &str| data.join(name).exists();
     let is_of_instance = (has("acts.jsonl") || has(values::SOCKET_NAME)) && !is_made(data);
@@ -187,7 +189,7 @@ fn found(copy: &Path) -> Result<CheckReport, Ended> {
 }
 
 impl CheckReport {
-    /// What an outbox has, as a start finds it.
+    /// Adds what the outbox has, as a start finds it.
     fn add(&mut self, outbox: &Outbox) -> Result<(), Fault> {
         (self.waiting, self.outbox_bytes, _) = outbox.waiting();
         self.series = outbox.series_count();
@@ -218,7 +220,7 @@ fn segments(folder: &Path) -> u64 {
     entries.filter(|entry| is_segment(entry.path())).count() as u64
 }
 
-/// A fault names the file in the folder that was asked for, not in the copy.
+/// Has a fault name the file in the folder that was given, not in the copy.
 fn in_the_original(failure: Ended, copy: &Path, data: &Path) -> Ended {
     let original = |path: PathBuf| path.strip_prefix(copy).map(|rest| data.join(rest)).unwrap_or(path);
     match failure {

@@ -18,22 +18,23 @@ use tokio::io::{AsyncRead, AsyncWrite};
 use tokio::net::{TcpStream, UnixStream};
 use tokio::time::timeout;
 
-/// A flush of many series, or a sink that takes its time.
+/// How long to wait for an answer: a flush may have many series, or the sink may be slow.
 const ANSWER: Duration = Duration::from_secs(120);
-/// When somebody is told that there is no answer yet.
+/// When to say that there is no answer yet.
 const SOON: Duration = Duration::from_secs(3);
 const CONNECT: Duration = Duration::from_secs(5);
 
-/// What who listens says of a path that it does not have: an admin address has all that are asked for here.
+/// The message for a path that does not exist. An admin address of this version has all paths that are asked for here,
+/// so whoever answers this is something else.
 const NO_PATH: &str = "no such path";
 
-/// Of an answer that is not as this program reads it.
+/// The error for an answer that this program can't read.
 pub const OTHER_VERSION: &str = "the running service is of another version: ask it by its own totxegun";
 
-/// What is read of an answer at most.
+/// The longest answer that is read, in bytes.
 const MOST: usize = 256 << 20;
 
-/// Why the service has not done what was asked: what it answered.
+/// The service did not do what was asked; `said` is its answer.
 #[derive(Debug, thiserror::Error)]
 #[error("the service at {place} answered {status}: {said}")]
 pub struct Refused {
@@ -46,13 +47,13 @@ pub struct Refused {
 struct Reply {
     status: u16,
     is_json: bool,
-    /// Which instance has what was asked for, HOST:PORT.
+    /// The instance to ask instead, HOST:PORT.
     location: Option<String>,
     body: Vec<u8>,
 }
 
-/// Asks, and returns the answer's body where its status is 200, else its message. All that is asked for is JSON. An instance that
-/// says where to ask is left for that one.
+/// Sends a request. Returns the body if the status is 200, else the message as an error. An answer that is not JSON is
+/// not this service's. If an instance says where to ask, that one is asked.
 pub fn ask(at: &Address, method: Method, path: &str) -> Result<Vec<u8>> {
     ask_with(at, method, path, &[])
 }
@@ -63,7 +64,8 @@ pub fn ask_with(at: &Address, method: Method, path: &str, body: &[u8]) -> Result
     loop {
         let reply = reply(&place, token.as_deref(), &method, path, body, ANSWER)?;
         asked.push(place);
-        // An order of all slots is done where it was asked for: what is there again has come since.
+        // No address is asked twice: it has done its part, so what it has to do again came since, and that may go on
+        // for ever.
         let Some(next) = reply.location.clone().filter(|next| !asked.contains(next)) else {
             return read_reply(reply, &asked[asked.len() - 1], token.is_some());
         };
@@ -90,12 +92,12 @@ fn read_reply(reply: Reply, place: &str, has_token: bool) -> Result<Vec<u8>> {
     }
 }
 
-/// The same, read.
+/// The same, parsed.
 pub fn read<T: DeserializeOwned>(at: &Address, method: Method, path: &str) -> Result<T> {
     serde_json::from_slice(&ask(at, method, path)?).context(OTHER_VERSION)
 }
 
-/// What is there, as it came where a program reads it, and else as people do.
+/// What is at a path: the JSON as it came for programs, or a text for people.
 pub fn shown<T: DeserializeOwned>(
     shown: &Shown,
     path: &str,
@@ -107,7 +109,7 @@ pub fn shown<T: DeserializeOwned>(
     }
 }
 
-/// How the service is.
+/// The status of the service.
 pub fn status(at: &Address) -> Result<Status> {
     read(at, Method::GET, "/status")
 }
@@ -136,12 +138,12 @@ fn reply(
     runtime.context("no connection can be made")?.block_on(asking)
 }
 
-/// For whom root asks.
+/// The user who runs this command by `sudo`.
 fn behind_sudo() -> Option<HeaderValue> {
     HeaderValue::from_str(&std::env::var("SUDO_USER").ok()?).ok()
 }
 
-/// What comes in time. Who waits is told so once: an order waits until the book is filled.
+/// Waits for the answer. After a while the user is told once: an order waits until the book has recovered.
 async fn within<T>(patience: Duration, place: &str, asking: impl Future<Output = T>) -> Option<T> {
     let (mut asking, soon) = (pin!(asking), patience.min(SOON));
     if let Ok(answered) = timeout(soon, &mut asking).await {
@@ -164,7 +166,8 @@ async fn asked(place: &str, request: Request<Body>) -> Result<Reply> {
             let stream = timeout(CONNECT, TcpStream::connect(place)).await;
             let stream = stream.unwrap_or_else(|_| Err(io::ErrorKind::TimedOut.into()));
             let stream = stream.map_err(|error| unreachable(place, error))?;
-            // By its number: a name that it does not know of itself is one that a page may have given it.
+            // By the address: the service refuses names that it does not know, since web pages can have such a name
+            // point to it.
             let host = stream.peer_addr()?.to_string();
             answered(place, stream, host, request).await
         }
@@ -193,7 +196,7 @@ where
 {
     request.headers_mut().insert(HOST, host.parse()?);
     let (mut sender, connection) = conn::handshake(stream).await?;
-    tokio::spawn(connection); // what is wrong with it the answer says
+    tokio::spawn(connection); // its error is also the error of the request
     match sender.send_request(request).await {
         Ok(response) => body(place, response).await,
         Err(error) if error.is_parse() => bail!(another(place)),
@@ -220,12 +223,12 @@ fn part(place: &str, error: hyper::Error) -> anyhow::Error {
     anyhow!("the service at {place} did not answer whole: {error}")
 }
 
-/// What is said of somebody else who listens there, such as the service to its senders.
+/// The error if something else listens there, such as the service's address for senders.
 pub fn another(place: &str) -> String {
     format!("what listens at {place} is no admin address of totxegun: give that by --admin")
 }
 
-/// Why there is no answer. An order goes on in the service though nobody waits for it.
+/// The error if the answer is late. The service goes on with an order even if nobody waits for it.
 fn late(place: &str, method: &Method, patience: Duration) -> anyhow::Error {
     let seconds = patience.as_secs();
     match *method {
@@ -257,7 +260,7 @@ mod tests {
         reply(place, None, &Method::GET, "/status", &[], patience)
     }
 
-    /// The address of somebody who answers one request so.
+    /// The address of a server that answers one request in this way.
     fn answers(answer: impl FnOnce(&mut std::net::TcpStream) + Send + 'static) -> String {
         let listener = TcpListener::bind("127.0.0.1:0").unwrap();
         let place = listener.local_addr().unwrap().to_string();
@@ -358,7 +361,7 @@ mod tests {
         let nowhere = sends("");
         let said = format!("{:#}", ask(&at(&nowhere), Method::POST, "/dead-letters/1-a-7/drop").unwrap_err());
         assert!(said.contains("answered 307: slot 1 is at instance b"), "{said}");
-        // As where a series of each of two is posted again as soon as it is forgotten: that would never end.
+        // As if a series of each of two instances were posted again as soon as it is forgotten: that would never end.
         let itself = answers(move |stream| {
             let there = format!("location: http://{}/forget\r\n", stream.local_addr().unwrap());
             stream.write_all(answer(&there).as_bytes()).unwrap();
@@ -367,7 +370,7 @@ mod tests {
         assert!(said.contains("slot 1 is at instance b; it was asked already"), "{said}");
     }
 
-    /// Whatever its status is: else an order would be said to be done.
+    /// Whatever its status. Otherwise an order would be said to be done.
     #[test]
     fn another_server_is_told_of_as_such() {
         for bytes in [

@@ -1,4 +1,7 @@
-//! `totxegun explain`: what a request that was captured is answered, and what becomes of each of its points, and why.
+//! `totxegun explain`: says how a captured request is answered, and of each of its points what becomes of it and why.
+//!
+//! It calls the functions of `otlp` that the service calls, so what it says holds there too, except for what only the
+//! running service knows (`UNKNOWN`).
 
 use super::reading::OfReading;
 use super::table::Table;
@@ -15,26 +18,26 @@ use std::collections::BTreeMap;
 use std::io::Read;
 use std::path::{Path, PathBuf};
 
-/// What the service takes of a body, packed and unpacked.
+/// The longest body that the service takes, packed and unpacked.
 const MOST: u64 = 4 << 20;
-/// One more than the longest message of gRPC has: what is longer is refused, and not read on.
+/// One byte more than the longest gRPC message has. What is longer is refused, so it is not read on.
 const MOST_READ: u64 = MOST + 6;
 
-/// What is said of what no body says.
+/// What the body alone can't tell.
 const UNKNOWN: &str = "unless the running service refuses it for what it alone knows: whose each series is and where it ends, who is \
                        quarantined, quotas and limits\n";
 
 #[derive(Args)]
 pub struct Options {
-    /// A request's body in JSON or protobuf, packed by gzip or not, or a message of gRPC; `-` is standard input
+    /// The body of a request in JSON or protobuf, plain or gzip, or a gRPC message; `-` is standard input
     #[arg(value_name = "FILE")]
     file: PathBuf,
-    /// Who posts it: the name of its certificate or token, else of its header x-sender
+    /// The sender: the name of its certificate or token, else of its header x-sender
     #[arg(long, value_name = "NAME", value_parser = super::ask::sender)]
     sender: Option<String>,
     #[command(flatten)]
     form: Form,
-    /// A file of settings, as the service has it: those of reading count
+    /// The service's file of settings; only those of reading count here
     #[arg(long, env = super::config::VARIABLE, value_name = "FILE")]
     config: Option<PathBuf>,
     #[command(flatten)]
@@ -46,21 +49,21 @@ pub struct Options {
 struct Explanation {
     encoding: &'static str,
     packed: bool,
-    /// Who posts it, where nothing else says so.
+    /// The sender, unless a header or a token names another.
     sender: String,
-    /// What the name that its sender proves is given as, and to how many resources.
+    /// The attribute that is set to the name which the sender proves, and how many resources get it.
     sender_attribute: Option<String>,
     proved: usize,
-    /// How many get their sender's name as their instance.
+    /// How many resources get their sender's name as their instance.
     named: usize,
-    /// Unpacked.
+    /// The length of the unpacked body.
     bytes: usize,
-    /// What the service answers if it refuses none of it for what it alone knows: of HTTP, and its text.
+    /// The status and text of the HTTP answer, if the running service refuses nothing for what only it knows.
     status: u16,
     answer: Option<String>,
     taken: usize,
     rejected: usize,
-    /// The places of points that begin before one of their series ends that is ahead of them.
+    /// The indexes of points that begin before an earlier point of their series ends.
     late: Vec<usize>,
     rounded: BTreeMap<String, Rounding>,
     points: Vec<Explained>,
@@ -96,13 +99,13 @@ fn found(
 ) -> anyhow::Result<Explanation> {
     let (framed, body) = unframed(body);
     let (packed, body) = unpacked(not_too_long(body)?)?;
-    let (_, body) = unpacked(not_too_long(body)?)?; // as the service: Python's gRPC packs some messages twice
+    let (_, body) = unpacked(not_too_long(body)?)?; // as in the service: Python's gRPC packs some messages twice
     let body = not_too_long(body)?;
     let bytes = body.len();
     let encoding = if framed { Encoding::Protobuf } else { Encoding::of(&body) };
     let sender = sender.unwrap_or_else(|| otlp::NO_NAME.into());
     let sender = otlp::sender(sender, encoding, &body, reading).map_err(refused)?;
-    // A header or a token may name it: any name does here.
+    // A header or a token may name the sender. Here any name will do.
     let name = if sender == otlp::NO_NAME { "SENDER" } else { &sender };
     let names = SenderNames { name, proved: Some(name) };
     let attributed = otlp::with_sender_attributes(names, encoding, body.into(), reading).map_err(refused)?;
@@ -134,7 +137,7 @@ fn found(
     })
 }
 
-/// What is said of a point that is refused, beside its own words.
+/// Adds to a refused point's message that the body itself has its series twice over one time, if so.
 fn with_twice(mut outcome: Outcome, body: &[u8], profile: Profile) -> Outcome {
     if let Outcome::Taken { parts, .. } = &mut outcome {
         for (_, rejection) in parts {
@@ -157,7 +160,8 @@ fn not_too_long(body: Vec<u8>) -> anyhow::Result<Vec<u8>> {
     }
 }
 
-/// A message of gRPC begins with whether it is packed, and its length; neither JSON nor protobuf begins so.
+/// Takes a gRPC message out of its frame. It begins with a flag for packing and its length; JSON and protobuf never
+/// begin so.
 fn unframed(body: Vec<u8>) -> (bool, Vec<u8>) {
     let length = |bytes: &[u8]| bytes.try_into().map(u32::from_be_bytes).map(|length| length as usize);
     match body.get(1..5).map(length) {
@@ -234,7 +238,7 @@ mod tests {
 
     const BODY: &str = r#"{"resourceMetrics":[{"scopeMetrics":[{"metrics":[{"name":"a","sum":{"aggregationTemporality":1,"dataPoints":[{"startTimeUnixNano":"1","timeUnixNano":"2","asInt":"5","attributes":[{"key":"route","value":{"stringValue":"/"}}]}]}},{"name":"b","gauge":{"dataPoints":[{"asDouble":0.5}]}}]}]}]}"#;
 
-    /// By no options.
+    /// Without options.
     fn plain(body: impl Into<Vec<u8>>) -> anyhow::Result<Explanation> {
         found(body.into(), None, &Reading::default(), &Clock::default())
     }
@@ -254,7 +258,7 @@ mod tests {
         assert!(lines[5].contains("gauges are not added up"), "{text}");
     }
 
-    /// Of six points: one that begins before another of its series ends is left out.
+    /// One of six points begins before another of its series ends, so it is left out.
     #[test]
     fn a_point_that_its_body_has_before_is_no_point_taken() {
         let point = |(series, value): &(u32, u32)| {
@@ -275,7 +279,7 @@ mod tests {
         assert_eq!((found.status, found.taken, found.rejected), (200, 5, 0));
         assert!(told.contains("5 points taken, 0 rejected\nanswered 200: 1 point is refused: duplicate or late: point 4, frontier 9: the post has `a`"), "{told}");
         assert!(told.contains("twice over one time") && told.matches("\nrefused ").count() == 1, "{told}");
-        // The second one is equal to the one ahead of it, and a duplicate; or it is of another series.
+        // The fourth point equals an earlier one, so it is a duplicate; or it is of another series.
         for fourth in [(1, 5), (4, 5)] {
             let found = explained(fourth);
             assert_eq!(
@@ -333,12 +337,12 @@ mod tests {
             packer.finish().unwrap()
         };
         let once = gzip(BODY.as_bytes());
-        // Packed twice it is taken too.
+        // A body that is packed twice is taken too.
         for body in [gzip(&once), once] {
             let packed = plain(body).unwrap();
             assert!(packed.packed && packed.encoding == "JSON" && packed.taken == 1);
         }
-        // A protobuf that begins as JSON may: a line feed and a brace are its field and its length.
+        // A protobuf body may begin like JSON: a line feed and a brace are its first field and that field's length.
         let scope = [&b"\x12\x77\x12\x75\x0a\x73"[..], &[b'n'; 115]].concat();
         let body = [&b"\x0a{\x12\x79"[..], &scope].concat();
         let bare = plain(body.clone()).unwrap();

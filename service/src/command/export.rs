@@ -1,4 +1,7 @@
-//! `totxegun export`: what a sink has of a month or a day, for a bill.
+//! `totxegun export`: prints what a sink has of a month or a day, for bills.
+//!
+//! The rows come from the sink, as of one moment. The service is asked only for the sink's address and for late data,
+//! which is in no row.
 
 use super::ask::Address as Operate;
 use super::{client, series, values};
@@ -20,19 +23,19 @@ const COLUMNS: &str =
 
 #[derive(Args)]
 pub struct Options {
-    /// A month of UTC: 2026-11
+    /// A month in UTC: 2026-11
     #[arg(long, value_name = "MONTH", required_unless_present = "day", value_parser = period(Period::is_month, "month: write 2026-11"))]
     month: Option<Period>,
-    /// A day of UTC: 2026-11-05
+    /// A day in UTC: 2026-11-05
     #[arg(long, value_name = "DAY", conflicts_with = "month", value_parser = period(Period::is_day, "day: write 2026-11-05"))]
     day: Option<Period>,
-    /// Prints a head and a row for each series, with commas between cells
+    /// Prints a head, then a row for each series, with commas between cells
     #[arg(long, required_unless_present = "json")]
     csv: bool,
-    /// Prints a JSON object for each series, each on a line
+    /// Prints a line with a JSON object for each series
     #[arg(long, conflicts_with = "csv")]
     json: bool,
-    /// The sink; without it, the running service says where it is
+    /// The sink; without it, the running service is asked where it is
     #[arg(long, env = "TOTXEGUN_SINK", value_name = "ADDRESS", hide_env_values = true)]
     sink: Option<Address>,
     #[command(flatten)]
@@ -47,7 +50,7 @@ fn period(is_so: fn(&Period) -> bool, what: &'static str) -> impl Fn(&str) -> Re
 }
 
 impl Options {
-    /// Prints; on standard error it says how many rows these were, and their SHA-256.
+    /// Prints the rows. Their number and SHA-256 go to standard error.
     pub fn run(self) -> Result<()> {
         let Some(period) = self.month.as_ref().or(self.day.as_ref()) else {
             bail!("give --month or --day");
@@ -70,7 +73,7 @@ impl Options {
     }
 }
 
-/// On standard error, what of the period was refused and is in no row: the service knows it.
+/// Says on standard error what the service refused of the period, which is in no row.
 fn tell_of_late(period: &Period, at: &Operate) {
     let path = format!("/late/{period}");
     match client::read::<Vec<LateSum>>(at, Method::GET, &path) {
@@ -86,7 +89,7 @@ fn tell_of_late(period: &Period, at: &Operate) {
     }
 }
 
-/// The sink that is read: the one that was given, or else the service's.
+/// The sink to read: the one that was given, or the service's.
 pub(super) fn sink(given: Option<&Address>, at: &Operate) -> Result<Address> {
     if let Some(sink) = given {
         return Ok(sink.clone());
@@ -107,10 +110,10 @@ pub(super) fn sink(given: Option<&Address>, at: &Operate) -> Result<Address> {
     }
 }
 
-/// Standard output, counted and digested.
+/// Standard output, with a count and a digest of what is printed.
 struct Out<To: Write> {
     to: BufWriter<To>,
-    /// Not before the first row, or the end: what fails before prints nothing.
+    /// The head, until the first row or the end: what fails before prints nothing.
     head: Option<String>,
     digest: Sha256,
     rows: u64,
@@ -175,7 +178,7 @@ fn csv(line: &Line) -> String {
     cells.join(",") + "\n"
 }
 
-/// A sender's text. As RFC 4180 has it: what has a comma, a quote or a line's end stands in quotes.
+/// A sender's text as a cell. By RFC 4180, a text with a comma, a quote or a line break is quoted.
 fn cell(text: &str) -> Cow<'_, str> {
     let text = match is_formula(text) {
         true => format!("'{text}").into(),
@@ -187,8 +190,8 @@ fn cell(text: &str) -> Cow<'_, str> {
     }
 }
 
-/// Whether a spreadsheet would take it for a formula, by OWASP's list: such a text begins with a single quote instead. A number
-/// stays one.
+/// Whether a spreadsheet would take the text for a formula, by OWASP's list. Such a text gets a single quote in front
+/// of it; a number does not.
 fn is_formula(text: &str) -> bool {
     text.starts_with(['=', '+', '-', '@', '\t', '\r', '\n', '\u{ff1d}', '\u{ff0b}', '\u{ff0d}', '\u{ff20}'])
         && text.parse::<f64>().is_err()

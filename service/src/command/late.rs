@@ -1,4 +1,4 @@
-//! `totxegun late`: points that their series refused.
+//! `totxegun late`: lists the points that their series refused.
 
 use super::ask::{sender, Shown};
 use super::{amend, client, table::Table, values::counted};
@@ -10,22 +10,22 @@ use serde_json::{Map, Value};
 
 #[derive(Args)]
 pub struct Options {
-    /// Of series that are named so: NAME, NAME{key=value,..} or NAME{"key":"value",..}
+    /// Only points of series of this name: NAME, NAME{key=value,..} or NAME{"key":"value",..}
     #[arg(long, value_name = "SERIES", value_parser = amend::series)]
     series: Option<String>,
-    /// Of this sender
+    /// Only points of this sender
     #[arg(long, value_name = "NAME", value_parser = sender)]
     sender: Option<String>,
-    /// For this reason: duplicate_or_late, of a point that begins before its series ends, or other_writer
+    /// Only points refused for this reason: duplicate_or_late (the point begins before its series ends) or other_writer (the series is another sender's)
     #[arg(long, value_name = "REASON")]
     reason: Option<String>,
-    /// That ended after then, of UTC: 2026-11-05T13:30:15
+    /// Only points that ended after this time, in UTC: 2026-11-05T13:30:15
     #[arg(long, value_name = "TIME", value_parser = amend::time)]
     since: Option<String>,
-    /// That began before then
+    /// Only points that began before this time
     #[arg(long, value_name = "TIME", value_parser = amend::time)]
     until: Option<String>,
-    /// The last N
+    /// At most the last N points
     #[arg(long, value_name = "N", default_value_t = 1000, value_parser = clap::value_parser!(u32).range(1..=100_000))]
     limit: u32,
     #[command(flatten)]
@@ -51,7 +51,7 @@ impl Options {
     }
 }
 
-/// Each instance has what it refused itself.
+/// Each instance keeps the points that it refused itself.
 fn tell_of_others(status: &Status) {
     let cluster = status.cluster.iter();
     let others = cluster.flat_map(|of| of.instances.iter().filter(|one| one.name != of.instance));

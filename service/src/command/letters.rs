@@ -1,4 +1,4 @@
-//! `totxegun dead-letters`: requests that the sink refused for good.
+//! `totxegun dead-letters`: lists, shows, resends and drops the requests that the sink refused for good.
 
 use super::ask::{Address, Shown};
 use super::{client, line, table::Table, values, with_end};
@@ -11,28 +11,28 @@ use hyper::Method;
 
 #[derive(Subcommand)]
 pub enum Command {
-    /// Shows which there are, and why; of several instances, those of the one that is asked
+    /// Lists them with their reasons; with several instances, those of the one that is asked
     List(Shown),
     /// Prints the body of one, in JSON
     Show(OfKey),
     /// Sends one again under its own key, or all; what the sink does not take is kept
     Resend {
-        /// As `totxegun dead-letters list` shows it
+        /// The key, as `totxegun dead-letters list` shows it
         #[arg(required_unless_present = "all")]
         key: Option<String>,
-        /// All, one after the other, until the sink does not answer; those that it does not take, or that can't be read, are named
+        /// Sends all, one after another, until the sink stops answering; names those that it does not take or that can't be read
         #[arg(long, conflicts_with = "key")]
         all: bool,
         #[command(flatten)]
         at: Address,
     },
-    /// Throws one away: its points are lost
+    /// Drops one: its points are lost
     Drop(OfKey),
 }
 
 #[derive(Args)]
 pub struct OfKey {
-    /// As `totxegun dead-letters list` shows it
+    /// The key, as `totxegun dead-letters list` shows it
     key: String,
     #[command(flatten)]
     at: Address,
@@ -65,7 +65,7 @@ impl Command {
     }
 }
 
-/// An instance lists the letters of its own slots: which other ones have more.
+/// An instance lists the dead letters of its own shards. Says which other instances have more.
 fn tell_of_others(at: &Address, listed: usize) {
     let Ok(status) = client::status(at) else { return };
     let (more, cluster) =
@@ -94,18 +94,19 @@ fn sent(key: &str, at: &Address) -> Result<Resent> {
     client::read(at, Method::POST, &format!("/dead-letters/{}/resend", checked(key)?))
 }
 
-/// What became of letters that are sent again one after the other.
+/// The outcome of resending all dead letters.
 #[derive(Default)]
 struct All {
     taken: u64,
-    /// Those that the sink has not, or in part alone, and why.
+    /// Those that the sink did not take, or took only in part, with the reasons.
     left: Vec<String>,
-    /// At which it came to an end before all were sent, and why.
+    /// The letter at which it stopped before all were sent, and why.
     end: Option<String>,
 }
 
-/// Those that no sink takes, being a part of what it has, are left. One that can't be sent, as it can't be read, keeps none
-/// behind it from the sink; but where the sink or the service does not answer each would be waited for.
+/// Resends all but those that are the rest of a request which the sink has: no sink takes them. A letter that can't be
+/// read keeps no later one from the sink. But if the sink or the service does not answer, this stops, since each letter
+/// would wait.
 fn resend_all(at: &Address) -> Result<Vec<u8>> {
     let letters: Vec<Letter> = client::read(at, Method::GET, "/dead-letters")?;
     tell_of_others(at, letters.len());
@@ -162,7 +163,7 @@ fn so_far(taken: u64) -> String {
     format!("the sink has taken {}", values::counted(taken, "request"))
 }
 
-/// What is kept of a request that the sink has.
+/// Whether it is the rest of a request of which the sink has the other points.
 fn is_part(key: &str) -> bool {
     key.contains("-partial")
 }
@@ -178,7 +179,7 @@ fn resend(key: &str, at: &Address) -> Result<Vec<u8>> {
     }
 }
 
-/// A key goes into a path.
+/// Checks a key, since it becomes a part of a path.
 fn checked(key: &str) -> Result<&str> {
     if key.is_empty() || !key.bytes().all(|byte| byte.is_ascii_alphanumeric() || b"._-".contains(&byte)) {
         bail!("{key:?} is no key: `totxegun dead-letters list` shows them");

@@ -1,6 +1,7 @@
-//! The command line: what `totxegun` can be told, and the status that it ends with.
+//! The command line of `totxegun`, and the status with which the program ends.
 //!
-//! 0: done. 1: refused, or not possible. 2: a faulty command line. 70: the disk, or what is on it. 71: no memory to go on.
+//! 0: done. 1: refused, or not possible. 2: a faulty command line. 70: a fault of the disk or of a file. 71: out of
+//! memory.
 
 mod adjust;
 mod amend;
@@ -55,61 +56,61 @@ struct Line {
 
 #[derive(Subcommand)]
 enum Command {
-    /// Takes posts and delivers what they add up to, until SIGTERM or SIGINT
+    /// Takes posts and delivers their totals, until SIGTERM or SIGINT
     Serve(Box<serve::Options>),
-    /// Says whether settings can be used, and where each comes from
+    /// Checks settings, and shows where each comes from
     #[command(subcommand)]
     Config(config::Command),
-    /// Shows how the running service is
+    /// Shows the status of the running service
     Status(ask::Shown),
-    /// Shows what a SQLite sink has: a line for each series
+    /// Shows what a SQLite or PostgreSQL sink has: a line for each series
     Totals(totals::Options),
     /// Puts all that was taken into the outbox now
     Flush(ask::Address),
-    /// Keeps a sender's points back, and refuses its posts
+    /// Holds a sender's points back, and refuses its posts
     Quarantine(ask::OfSender),
     /// Releases a quarantined sender
     Release(ask::OfSender),
-    /// Shows requests that the sink refused for good, sends them again, throws them away
+    /// Shows, resends or drops requests that the sink refused for good
     #[command(subcommand)]
     DeadLetters(letters::Command),
     /// Shows points that their series refused, so that they are not counted: `totxegun adjust --late KEY` books one
     Late(late::Options),
-    /// Closes a month, a day or an hour: what comes for it later counts in the hour in which it comes
+    /// Closes a month, a day or an hour: points for it that come later count in the hour in which they come
     Close(periods::Close),
-    /// Opens what was closed: what came late meanwhile stays where it was counted
+    /// Reopens a closed period: points that came late meanwhile stay where they were counted
     Reopen {
-        /// As it was closed
+        /// The period, as it was closed
         period: Period,
         #[command(flatten)]
         at: ask::Address,
     },
     /// Adds to what a series counted in an hour, by hand; or books late data
     Adjust(adjust::Options),
-    /// Puts back where a series ends, which a wrong clock has put ahead, so that its points are taken again
+    /// Moves the end of a series back, for example one that a wrong clock put ahead, so that its points are taken again
     Rewind {
         #[command(flatten)]
         of: amend::OfSeries,
-        /// Where it ends from now on, of UTC: 2026-11-05T13:30:15. What is posted again from after that is taken again
+        /// The new end, in UTC: 2026-11-05T13:30:15. Points after it are taken again
         #[arg(long, value_name = "TIME", value_parser = amend::time)]
         to: String,
         #[command(flatten)]
         at: ask::Address,
     },
-    /// Forgets whose a series is and where it ends, so that another sender may have it
+    /// Forgets the sender and the end of a series, so that another sender may have it
     Forget {
         #[command(flatten)]
         of: amend::OfSeries,
         #[command(flatten)]
         at: ask::Address,
     },
-    /// Prints what each series counted in a month or a day; their count and SHA-256 go to standard error
+    /// Prints what each series counted in a month or a day; the number of rows and their SHA-256 go to standard error
     Export(export::Options),
     /// Says what a start would find in a folder, and changes nothing
     Check(check::Options),
     /// Says of each point of a captured request whether it is taken, and why not
     Explain(explain::Options),
-    /// Makes a store that several machines share
+    /// Makes a store that several machines share, and looks after it
     #[command(subcommand)]
     Store(store::Command),
     /// Makes a token for a sender or an operator: prints its line for the file of --tokens or --admin-tokens, and the token itself, once, on standard error
@@ -124,10 +125,10 @@ enum Command {
     },
 }
 
-/// Runs the command of this process' command line.
+/// Runs this process' command line.
 pub fn run() -> ExitCode {
     crate::log::end_by_panics();
-    // A faulty one ends here, with status 2.
+    // A faulty command line ends here, with status 2.
     let line = match config::parse(std::env::args_os().collect()) {
         Ok(parsed) => Line::from_arg_matches(&parsed.matches).unwrap_or_else(|error| error.exit()),
         Err(config::Faulty::Line(error)) => error.exit(),
@@ -150,7 +151,7 @@ pub fn run() -> ExitCode {
     }
 }
 
-/// A sink's or a store's address, and headers, may have a password: what is wrong with them is said without them.
+/// Hides values in errors: the address of a sink or a store, and a header, may have a password.
 fn without_secrets(mut error: clap::Error) -> clap::Error {
     let is_secret = match error.get(ContextKind::InvalidArg) {
         Some(ContextValue::String(option)) => {
@@ -165,7 +166,7 @@ fn without_secrets(mut error: clap::Error) -> clap::Error {
 }
 
 impl Command {
-    /// Returns what it prints at its end.
+    /// Returns what to print at the end.
     fn run(self) -> Result<Vec<u8>, Ended> {
         match self {
             Command::Serve(options) => options.run().map(|()| Vec::new()),
@@ -193,7 +194,7 @@ impl Command {
     }
 }
 
-/// Prints. Who reads no further, as `head`, misses nothing.
+/// Prints. A reader that stops early, such as `head`, is no fault.
 fn show(answer: &[u8]) -> anyhow::Result<()> {
     let mut out = std::io::stdout();
     match out.write_all(answer).and_then(|()| out.flush()) {
@@ -206,7 +207,7 @@ fn line(text: impl Display) -> Vec<u8> {
     format!("{text}\n").into()
 }
 
-/// A body, ended as a line.
+/// Adds a line break to a body.
 fn with_end(mut body: Vec<u8>) -> Vec<u8> {
     body.push(b'\n');
     body
@@ -217,7 +218,7 @@ fn json(answer: &impl Serialize) -> anyhow::Result<Vec<u8>> {
     Ok(with_end(text))
 }
 
-/// Whether a program reads what is printed.
+/// The form of the output.
 #[derive(Args, Clone, Copy, Debug)]
 struct Form {
     /// Prints JSON

@@ -1,4 +1,4 @@
-//! Options of an OTLP sink and of `--forward-unsupported`: how they are sent to, by what they are told, and told who comes.
+//! Options of an OTLP sink and of `--forward-unsupported`: the form of requests, their headers, and the files of TLS.
 
 use super::serve::absolute;
 use crate::metrics::Metrics;
@@ -12,25 +12,25 @@ use std::sync::Arc;
 #[derive(Args)]
 #[command(next_help_heading = "Options of an OTLP sink")]
 pub struct OfSink {
-    /// Sends protobuf in the place of JSON
+    /// Sends protobuf instead of JSON
     #[arg(long, env = "TOTXEGUN_SINK_PROTOBUF")]
     sink_protobuf: bool,
-    /// Packs what it sends
+    /// Packs requests by gzip
     #[arg(long, env = "TOTXEGUN_SINK_GZIP")]
     sink_gzip: bool,
-    /// A header of each request; may be given again, in the environment a line each
+    /// A header of each request; may be given again, in the environment on lines of their own
     #[arg(long = "sink-header", env = "TOTXEGUN_SINK_HEADER", value_name = "NAME: VALUE", hide_env_values = true, value_delimiter = '\n', value_parser = header)]
     sink_headers: Vec<(String, String)>,
-    /// Headers of each request, a line each, read anew for each: for tokens that are renewed
+    /// A file with headers of each request, one on a line. It is read anew for each request, so that tokens can be renewed
     #[arg(long, env = "TOTXEGUN_SINK_HEADER_FILE", value_name = "FILE")]
     sink_header_file: Option<PathBuf>,
-    /// Roots in PEM by which the sink is told, in the place of the machine's
+    /// Root certificates in PEM by which the sink is trusted, instead of the machine's
     #[arg(long, env = "TOTXEGUN_SINK_CA", value_name = "FILE")]
     sink_ca: Option<PathBuf>,
-    /// A certificate in PEM, with those between it and a root, that is shown to the sink
+    /// The certificate to show to the sink, in PEM, with those between it and a root
     #[arg(long, env = "TOTXEGUN_SINK_CERT", value_name = "FILE", requires = "sink_key")]
     sink_cert: Option<PathBuf>,
-    /// Its key in PEM
+    /// The key of --sink-cert in PEM
     #[arg(long, env = "TOTXEGUN_SINK_KEY", value_name = "FILE", requires = "sink_cert")]
     sink_key: Option<PathBuf>,
 }
@@ -38,16 +38,16 @@ pub struct OfSink {
 #[derive(Args)]
 #[command(next_help_heading = "Options of --forward-unsupported")]
 pub struct OfPass {
-    /// Hands points that are outside the profile to another OTLP receiver, http://HOST:PORT or https://HOST, at most once: so they are no fault
+    /// Sends points outside the profile to another OTLP receiver, http://HOST:PORT or https://HOST, at most once; so they are no fault
     #[arg(long, env = "TOTXEGUN_FORWARD_UNSUPPORTED", value_name = "ADDRESS", hide_env_values = true)]
     forward_unsupported: Option<String>,
-    /// As --sink-header-file, for it
+    /// Like --sink-header-file, for that receiver
     #[arg(long, env = "TOTXEGUN_FORWARD_UNSUPPORTED_HEADER_FILE", value_name = "FILE")]
     forward_unsupported_header_file: Option<PathBuf>,
-    /// As --sink-ca, for it
+    /// Like --sink-ca, for that receiver
     #[arg(long, env = "TOTXEGUN_FORWARD_UNSUPPORTED_CA", value_name = "FILE")]
     forward_unsupported_ca: Option<PathBuf>,
-    /// As --sink-cert, for it
+    /// Like --sink-cert, for that receiver
     #[arg(
         long,
         env = "TOTXEGUN_FORWARD_UNSUPPORTED_CERT",
@@ -55,7 +55,7 @@ pub struct OfPass {
         requires = "forward_unsupported_key"
     )]
     forward_unsupported_cert: Option<PathBuf>,
-    /// Its key in PEM
+    /// The key of --forward-unsupported-cert in PEM
     #[arg(
         long,
         env = "TOTXEGUN_FORWARD_UNSUPPORTED_KEY",
@@ -66,7 +66,7 @@ pub struct OfPass {
 }
 
 impl OfSink {
-    /// These options say how an OTLP sink is sent to; for another they are a mistake.
+    /// Adds these options to the address of an OTLP sink. For another sink they are a mistake.
     pub fn put_into(self, sink: Address) -> anyhow::Result<Address> {
         let tls = ClientFiles { roots: self.sink_ca, certificate: self.sink_cert, key: self.sink_key };
         let access = Access { tls, headers: self.sink_header_file };

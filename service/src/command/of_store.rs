@@ -13,28 +13,28 @@ use std::path::PathBuf;
 #[derive(Args)]
 #[command(next_help_heading = "Options of a store that several machines share")]
 pub(super) struct OfStore {
-    /// Keeps all in PostgreSQL, postgres://USER@HOST:PORT/DB, made by `store init`, and shares it with other instances: --data has this machine's socket and record of acts alone
+    /// Keeps everything in PostgreSQL, postgres://USER@HOST:PORT/DB, made by `store init`, and shares it with other instances: --data then has only this machine's socket and record of actions
     #[arg(long, env = "TOTXEGUN_STORE", value_name = "ADDRESS", hide_env_values = true, value_parser = address, requires_all = ["instance", "peer"])]
     store: Option<Server>,
-    /// This instance's name, which no other has
+    /// This instance's name, which no other instance has
     #[arg(long, env = "TOTXEGUN_INSTANCE", value_name = "NAME", value_parser = name, requires = "store")]
     instance: Option<String>,
-    /// Where other instances bring posts, HOST:PORT, by the name that they reach it by
+    /// The address to which other instances send posts, HOST:PORT, by the name that they reach it by
     #[arg(long, env = "TOTXEGUN_PEER", value_name = "ADDRESS", value_parser = place, requires = "store")]
     peer: Option<String>,
-    /// Roots in PEM: instances speak TLS with each other, and each shows a certificate that one of these has signed and that is for the host of its --peer
+    /// Root certificates in PEM: instances speak TLS with each other, and each shows a certificate that one of these has signed, for the host of its --peer
     #[arg(long, env = "TOTXEGUN_PEER_CA", value_name = "FILE", requires = "store")]
     peer_ca: Option<PathBuf>,
-    /// The certificate that this instance shows the others, in PEM [default: that of --tls-cert]
+    /// The certificate that this instance shows other instances, in PEM [default: that of --tls-cert]
     #[arg(long, env = "TOTXEGUN_PEER_CERT", value_name = "FILE", requires_all = ["peer_key", "peer_ca"])]
     peer_cert: Option<PathBuf>,
     /// The key of --peer-cert in PEM
     #[arg(long, env = "TOTXEGUN_PEER_KEY", value_name = "FILE", requires = "peer_cert")]
     peer_key: Option<PathBuf>,
-    /// Takes posts of other instances beyond loopback without TLS: where nobody else reaches their network, or reads along
+    /// Takes posts of other instances beyond loopback without TLS: for a network that nobody else can reach or read
     #[arg(long, env = "TOTXEGUN_PEER_PLAIN")]
     peer_plain: bool,
-    /// On how many servers what is answered has to be: 2 needs a synchronous standby, at the start and with each write, and without it posts get 503; 1 does without, and what one server had is lost with it
+    /// On how many servers an answered post has to be: 2 needs a synchronous standby, at the start and with each write, and without it posts get 503; with 1, what only one server had is lost with it
     #[arg(long, env = "TOTXEGUN_STORE_COPIES", value_name = "N", default_value_t = 2, value_parser = value_parser!(u8).range(1..=2))]
     store_copies: u8,
 }
@@ -51,7 +51,8 @@ impl OfStore {
         self.store.is_some()
     }
 
-    /// None where a folder has all. `pair` is what senders are shown.
+    /// The settings of a store. None if everything is in a folder. `pair` is the certificate and key that senders are
+    /// shown.
     pub fn settings(
         self,
         reading: String,
@@ -77,7 +78,7 @@ impl OfStore {
         }))
     }
 
-    /// By its value: settings may say that it is false.
+    /// Looks at the value, since settings may say that it is false.
     fn check_plain(&self) -> anyhow::Result<()> {
         if self.peer_plain && !self.is_given() {
             bail!("--peer-plain is for instances of a store: give --store, or leave it out");
@@ -88,7 +89,7 @@ impl OfStore {
         Ok(())
     }
 
-    /// The files of TLS between instances, if they speak it.
+    /// The files of TLS between instances, if they use it.
     fn peer_tls(&self, pair: Option<(PathBuf, PathBuf)>) -> anyhow::Result<Option<Files>> {
         let Some(ca) = self.peer_ca.clone() else {
             return Ok(None);

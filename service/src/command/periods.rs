@@ -1,4 +1,4 @@
-//! `totxegun close` and `open`: periods of the sink, by which it is billed.
+//! `totxegun close` and `reopen`: periods of the sink, for which bills are made.
 
 use super::{ask, ask::Address, client};
 use crate::operate::{FLUSHED, FORCE};
@@ -8,18 +8,18 @@ use clap::Args;
 use hyper::Method;
 use std::time::{Duration, Instant};
 
-/// How long requests that wait may take to get into the sink.
+/// How long requests that wait may take to reach the sink.
 const DELIVERED: Duration = Duration::from_secs(60);
 const LOOK: Duration = Duration::from_millis(200);
 
 #[derive(Args)]
 pub struct Close {
-    /// A month 2026-11, a day 2026-11-05 or an hour 2026-11-05T13, of UTC, which has ended
+    /// A month 2026-11, a day 2026-11-05 or an hour 2026-11-05T13, in UTC, that has ended
     period: Period,
     /// Flushes first, and waits until the sink has all that was posted so far
     #[arg(long, conflicts_with = "force")]
     flush: bool,
-    /// Closes it although something waits that may belong to it, and would come late
+    /// Closes it even if something waits that may belong to it and would come late
     #[arg(long)]
     force: bool,
     #[command(flatten)]
@@ -44,12 +44,12 @@ pub fn open(period: &Period, at: &Address) -> Result<Vec<u8>> {
     ask::change(at, &format!("/reopen/{}", written(period)))
 }
 
-/// In a path.
+/// The period in a path.
 fn written(period: &Period) -> String {
     period.to_string().replace(' ', "T")
 }
 
-/// Flushes, and waits until nothing of it waits.
+/// Flushes, and waits until no request waits.
 fn deliver(at: &Address) -> Result<()> {
     client::ask(at, Method::POST, "/flush")?;
     let begun = Instant::now();

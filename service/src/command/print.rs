@@ -1,5 +1,5 @@
-//! `totxegun print`: what is made from the command line's own definition. A package has it as the completion of bash,
-//! zsh and fish, and in its pages and settings.
+//! `totxegun print`: prints what is derived from the definition of the command line. A package uses it for the
+//! completions of bash, zsh and fish, the manual page and the file of settings.
 
 use super::config::{is_setting, key};
 use super::Line;
@@ -12,11 +12,11 @@ const NAME: &str = "totxegun";
 
 #[derive(Clone, Copy, ValueEnum)]
 pub enum What {
-    /// What bash completes the command line by
+    /// The completion for bash
     Completion,
-    /// The same of zsh
+    /// The completion for zsh
     Zsh,
-    /// The same of fish
+    /// The completion for fish
     Fish,
     /// Each command with its options, as JSON
     Options,
@@ -38,7 +38,7 @@ pub fn run(what: What) -> Result<Vec<u8>> {
     Ok(text)
 }
 
-/// The same command without what is hidden below it.
+/// The command without its hidden parts.
 fn visible(command: &Command) -> Command {
     let shown = command.get_subcommands().filter(|it| !it.is_hide_set());
     let mut copy = Command::new(command.get_name().to_string())
@@ -50,7 +50,7 @@ fn visible(command: &Command) -> Command {
     copy
 }
 
-/// A command as its page tells it.
+/// A command, for its page.
 #[derive(Serialize)]
 struct Described {
     name: String,
@@ -59,18 +59,18 @@ struct Described {
     commands: Vec<Described>,
 }
 
-/// An option, or a word without a name.
+/// An option or a positional argument.
 #[derive(Serialize)]
 struct Word {
-    /// Without its dashes; none where the word stands alone.
+    /// The name without dashes. None for a positional argument.
     long: Option<String>,
-    /// What its value is called; none where it has none.
+    /// The name of its value. None if it takes no value.
     value: Option<String>,
-    /// What it may be, where it is one of a few.
+    /// Its values, if only a few are possible.
     one_of: Vec<String>,
     default: Option<String>,
     variable: Option<String>,
-    /// What it is in a file of settings; none if it is in none.
+    /// Its key in a file of settings. None if a file can't have it.
     key: Option<String>,
     /// Whether it may be given again.
     list: bool,

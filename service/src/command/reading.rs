@@ -1,4 +1,4 @@
-//! Options that say how requests are read, for what takes posts and for what explains them.
+//! Options of how requests are read, for `serve` and `explain`.
 
 use super::values::{time_or, MayBeNone};
 use crate::core::Across;
@@ -12,7 +12,7 @@ const LONGEST_ATTRIBUTE: usize = 128;
 #[derive(Args)]
 #[command(next_help_heading = "Options of reading")]
 pub(super) struct OfReading {
-    /// A resource attribute that is left out of each request; may be given again
+    /// A resource attribute to leave out of each request; may be given again
     #[arg(
         long = "drop-attribute",
         env = "TOTXEGUN_DROP_ATTRIBUTE",
@@ -24,25 +24,25 @@ pub(super) struct OfReading {
     /// Takes what is measured in one unit as whole numbers of a finer one, rounded: s=us, By, FROM=FACTOR:TO; may be given again. `auto` is for doubles and histograms of known units without such a rule, `off` leaves these out [default: auto]
     #[arg(long, env = "TOTXEGUN_INTEGER_UNIT", value_name = "FROM=TO", value_delimiter = ',')]
     integer_unit: Vec<Choice>,
-    /// The resource attribute that names a sender without the header x-sender: service.instance.id
+    /// The resource attribute that names a sender without the header x-sender, such as service.instance.id
     #[arg(long, env = "TOTXEGUN_SENDER_FROM", value_name = "ATTRIBUTE", value_parser = NonEmptyStringValueParser::new())]
     sender_from: Option<String>,
-    /// The resource attribute that is the name which a sender's certificate or token proves, in place of what the body says: so nobody posts under another's name
+    /// The resource attribute to set to the name that a sender's certificate or token proves, whatever the body says: so nobody posts under another's name
     #[arg(long, env = "TOTXEGUN_SENDER_ATTRIBUTE", value_name = "ATTRIBUTE", value_parser = attribute)]
     sender_attribute: Option<String>,
-    /// Leaves out points that end later than so long after this clock's time, or `off` for none; of instances that share a store one whose clock is off by a tenth of it takes no slots
+    /// Leaves out points that end more than this time after this clock's time, or `off` for none; of instances that share a store, one whose clock is off by a tenth of it takes no slots
     #[arg(long, env = "TOTXEGUN_MAX_AHEAD", value_name = "TIME", default_value = "10m", value_parser = time_or("off"))]
     max_ahead: MayBeNone,
-    /// Leaves out points that ended earlier than so long before this clock's time, or `off` for none
+    /// Leaves out points that ended more than this time before this clock's time, or `off` for none
     #[arg(long, env = "TOTXEGUN_MAX_AGE", value_name = "TIME", default_value = "off", value_parser = time_or("off"))]
     max_age: MayBeNone,
-    /// Takes cumulative sums and histograms, as SDKs send them by default: deltas are made of them
+    /// Takes cumulative sums and histograms, which SDKs send by default, and makes deltas of them
     #[arg(long, env = "TOTXEGUN_CUMULATIVE", value_name = "WHETHER", default_value = "on", value_enum)]
     cumulative: Profile,
-    /// Gives a resource that has no service.instance.id its sender's name as one, so that two processes that don't name themselves have series of their own
+    /// Gives a resource without service.instance.id its sender's name as one, so that two processes that don't name themselves have series of their own
     #[arg(long, env = "TOTXEGUN_INSTANCE_FROM_SENDER")]
     instance_from_sender: bool,
-    /// Takes exponential histograms in buckets of these bounds, in their own unit: 1,2,4,8. Points with values in a bucket that has a bound within are not taken
+    /// Takes exponential histograms in buckets of these bounds, in their own unit: 1,2,4,8. A point is not taken if it has values in a bucket that spans a bound
     #[arg(long, env = "TOTXEGUN_EXPONENTIAL", value_name = "BOUNDS", allow_hyphen_values = true)]
     exponential: Option<Bounds>,
 }
@@ -56,7 +56,7 @@ impl OfReading {
         Clock { max_ahead: self.max_ahead.0, max_age: self.max_age.0 }
     }
 
-    /// What posts mean hangs on these, so all instances have to say the same.
+    /// The options that decide what posts mean. All instances of a store must have the same.
     pub fn likeness(&self, across: Across) -> String {
         let choice = |choice: &Choice| match choice {
             Choice::Auto => "auto".to_string(),
@@ -68,7 +68,7 @@ impl OfReading {
             Profile::AlsoCumulative => "On",
             Profile::Deltas => "Off",
         };
-        // Only where it is given: a store that has none keeps its words.
+        // Only if it is given, so that a store without it keeps its text.
         let sender_attribute = self.sender_attribute.as_ref();
         let sender_attribute = sender_attribute.map(|name| format!(" sender-attribute={name}"));
         format!(
@@ -110,7 +110,7 @@ impl OfReading {
     }
 }
 
-/// A name of which each character stands for itself in JSON.
+/// An attribute's name that needs no escaping in JSON.
 fn attribute(text: &str) -> Result<String, String> {
     let is_plain = |byte: u8| byte.is_ascii_alphanumeric() || b"._-/".contains(&byte);
     match (1..=LONGEST_ATTRIBUTE).contains(&text.len()) && text.bytes().all(is_plain) {
@@ -130,7 +130,7 @@ mod tests {
         of_reading: OfReading,
     }
 
-    /// A store has it: an instance that says it in other words does not start.
+    /// The store keeps this text, and an instance whose text differs does not start.
     #[test]
     fn what_instances_agree_by_keeps_its_words() {
         let likeness = |words: &[&str]| Line::parse_from(words).of_reading.likeness(Across::Hour);

@@ -1,4 +1,4 @@
-//! Options that say how long a database keeps what it has.
+//! Options of how long a database keeps its rows.
 
 use super::values::{time_or, MayBeNone};
 use crate::sinks::{Address, Retention};
@@ -6,22 +6,22 @@ use anyhow::{bail, Result};
 use clap::Args;
 use std::time::Duration;
 
-/// Of intervals, unless it is said: they are for plots alone.
+/// The default for intervals, which only plots use.
 const INTERVALS: MayBeNone = MayBeNone(Some(Duration::from_secs(2 * 86_400)));
 
 #[derive(Args)]
 #[command(next_help_heading = "Options of a SQLite or PostgreSQL sink")]
 pub(super) struct OfRetention {
-    /// How long the sink keeps intervals (a row a flush and series), or `forever` [default: 2d]
+    /// How long the sink keeps intervals (a row for each flush and series), or `forever` [default: 2d]
     #[arg(long, env = "TOTXEGUN_KEEP_INTERVALS", value_name = "TIME", value_parser = time_or("forever"))]
     keep_intervals: Option<MayBeNone>,
-    /// How long the sink keeps hours (a row an hour and series), or `forever` [default: forever]
+    /// How long the sink keeps hours (a row for each hour and series), or `forever` [default: forever]
     #[arg(long, env = "TOTXEGUN_KEEP_HOURS", value_name = "TIME", value_parser = time_or("forever"))]
     keep_hours: Option<MayBeNone>,
 }
 
 impl OfRetention {
-    /// What an OTLP sink keeps is its own matter: for it these options are a mistake.
+    /// An OTLP sink decides itself what it keeps, so for it these options are a mistake.
     pub fn retention(self, sink: &Address) -> Result<Retention> {
         let all = [self.keep_intervals, self.keep_hours];
         if matches!(sink, Address::Otlp { .. }) && all.iter().any(Option::is_some) {

@@ -1,4 +1,4 @@
-//! A series and what it counted, as `totals --json` and `export --json` print it: an object on a line.
+//! A series with what it counted, as `totals --json` and `export --json` print it: one object on a line.
 
 use super::with_end;
 use crate::sinks::sql::export::{Line, Times};
@@ -6,7 +6,7 @@ use anyhow::{Context, Result};
 use serde::Serialize;
 use serde_json::value::RawValue;
 
-/// Whole numbers are decimal texts, which no reader rounds; attributes are objects.
+/// Whole numbers are decimal texts, so that no reader rounds them; attributes are objects.
 #[derive(Serialize)]
 struct Object<'a> {
     series: String,
@@ -30,7 +30,7 @@ struct Object<'a> {
     times: Option<&'a Times>,
 }
 
-/// With its line's end. An export is of one period, and has no times.
+/// The object as a line. An export is of one period, so it has no times.
 pub fn object(line: &Line) -> Result<Vec<u8>> {
     let object = Object {
         series: line.series.to_string(),
@@ -55,7 +55,7 @@ pub fn object(line: &Line) -> Result<Vec<u8>> {
     serde_json::to_vec(&object).map(with_end).context("a series can't be written")
 }
 
-/// The numbers of a list, as they are written there.
+/// The numbers of a list as texts, digit by digit as in the list.
 fn texts(list: Option<&RawValue>) -> Result<Option<Vec<String>>> {
     let Some(list) = list else { return Ok(None) };
     let numbers: Vec<&RawValue> =

@@ -1,4 +1,7 @@
-//! `totxegun serve`: its options, and its run.
+//! `totxegun serve`: its options, and the run of the service.
+//!
+//! `Options::settings` turns the options into `Settings`, for a start, for `config check` and for SIGHUP; so it must
+//! change nothing.
 
 use super::config::{self, unknown_setting};
 use super::of_book::OfBook;
@@ -33,35 +36,35 @@ use std::time::Duration;
 use tracing::level_filters::LevelFilter;
 use tracing_subscriber::{filter::Targets, prelude::*, reload, Registry};
 
-/// Threads of all that no sender waits for: checkpoints, the delivery, operators.
+/// Threads for everything that no sender waits for: checkpoints, deliveries, operators.
 const BACKGROUND: usize = 2;
-/// A thread of long work that has none for so long ends: what it keeps of free memory is others' then.
+/// A thread for long work ends after this time without work, so that others can use the free memory that it caches.
 const IDLE: Duration = Duration::from_secs(2);
-/// Threads for calls of files that wait for a disk. A store has several slots, each of which may wait for it.
+/// Threads for calls of files that wait for a disk. A store has several shards, and each may wait for it.
 const LONG_WORK: usize = 16;
 const LONG_WORK_OF_STORE: usize = 128;
 
 /// Threads that serve senders.
 const MOST_THREADS: u16 = 64;
 
-/// Open files of the service's own, with the operators' connections.
+/// Open files that the service itself needs, with the operators' connections.
 const OWN_FILES: u64 = 192;
 
-/// With less than this most posts would be refused as too long for good, and lost.
+/// With less, most posts would be refused for good as too long, and lost.
 const LEAST_BYTES: u64 = 1 << 20;
 
-/// With less an eighth of it, which a file has, is too short for a point with many long attributes.
+/// With less, a file of late data (an eighth of it) would be too short for a point with many long attributes.
 const LEAST_LATE: u64 = 1 << 20;
 
 #[derive(Args)]
 pub struct Options {
-    /// A file of settings in TOML: its keys are these options' names, and [sink] is a table. The environment comes before it, and the command line before that
+    /// A file of settings in TOML: its keys are the names of these options, and [sink] is a table. The environment wins over it, and the command line over both
     #[arg(long, env = config::VARIABLE, value_name = "FILE")]
     config: Option<PathBuf>,
-    /// The folder of all files; it is made where there is none
+    /// The folder for all files; it is made if it does not exist
     #[arg(long, env = "TOTXEGUN_DATA", value_name = "DIR")]
     data: PathBuf,
-    /// Where senders post OTLP/HTTP
+    /// The address at which senders post OTLP/HTTP
     #[arg(
         long,
         env = "TOTXEGUN_LISTEN",
@@ -79,7 +82,7 @@ pub struct Options {
         value_parser = place_or_off
     )]
     listen_grpc: MayBePlace,
-    /// Where operators read: HOST:PORT; and order: unix:PATH, beside it or alone [default of this: unix:DIR/admin.sock]
+    /// The admin addresses: HOST:PORT to read at, and unix:PATH to give orders at, beside it or alone [default of the latter: unix:DIR/admin.sock]
     #[arg(
         long,
         env = "TOTXEGUN_ADMIN",
@@ -89,10 +92,10 @@ pub struct Options {
         value_parser = operator
     )]
     admin: Vec<String>,
-    /// Names of operators and digests of their tokens, as `totxegun token NAME` makes them: their orders are taken over TCP too
+    /// A file of operators' names and digests of their tokens, which `totxegun token NAME` makes: with it their orders are taken over TCP too
     #[arg(long, env = "TOTXEGUN_ADMIN_TOKENS", value_name = "FILE")]
     admin_tokens: Option<PathBuf>,
-    /// Gives each sample of /totals the time at which the last interval of its series ended, in the place of the scrape's
+    /// Gives each sample of /totals the time at which the last interval of its series ended, instead of that of the scrape
     #[arg(long, env = "TOTXEGUN_TOTALS_TIMESTAMPS")]
     totals_timestamps: bool,
     /// Where to deliver: sqlite:PATH, postgres://USER@HOST:PORT/DB, http://HOST:PORT/PATH or https://HOST/PATH [default: sqlite:DIR/metrics.db]
@@ -101,25 +104,25 @@ pub struct Options {
     /// Takes another sink than the folder has, for this start: what waits goes into the new one
     #[arg(long)]
     new_sink: bool,
-    /// How long between two flushes
+    /// The time between two flushes
     #[arg(long, env = "TOTXEGUN_FLUSH_INTERVAL", value_name = "TIME", default_value = "10s", value_parser = time)]
     flush_interval: Duration,
-    /// What a point that is delivered never covers two of, in UTC, but where a point that was posted does itself
+    /// The period, in UTC, at whose ends delivered points are split: none spans two of them, unless a posted point does
     #[arg(long, env = "TOTXEGUN_SPLIT_AT", value_name = "WHAT", default_value = "hour", value_enum)]
     split_at: Across,
-    /// What a post survives once it is answered: `disk` a loss of power, `process` the end of the process
+    /// What an answered post survives: `disk` a loss of power, `process` the end of the process
     #[arg(long, env = "TOTXEGUN_DURABILITY", value_name = "WHAT", default_value = "disk", value_enum)]
     durability: Durability,
-    /// How long a series is kept that nobody posts to where there are too many, or `never` to forget none
+    /// How long a series without posts is kept once there are too many, or `never` to forget none
     #[arg(long, env = "TOTXEGUN_SERIES_TTL", value_name = "TIME", default_value = "7d", value_parser = time_or("never"))]
     series_ttl: MayBeNone,
-    /// Writes the first N reasons why points are rejected to the log, for each sender
+    /// Logs the first N reasons why a sender's points are rejected
     #[arg(long, env = "TOTXEGUN_LOG_REJECTED", value_name = "N", default_value_t = 0, value_parser = value_parser!(u32).range(..=1000))]
     log_rejected: u32,
-    /// What is meant to be left out, and so is counted by itself and not alerted on
+    /// Reasons for which points are meant to be left out: these are counted by themselves and raise no alert
     #[arg(long, env = "TOTXEGUN_EXPECT_REJECTED", value_name = "CAUSE", value_delimiter = ',', value_parser = causes())]
     expect_rejected: Vec<Reason>,
-    /// What the log has: `debug` also what is only for a fault of the service
+    /// What the log has; `debug` adds what only helps to find a fault of the service
     #[arg(long, env = "TOTXEGUN_LOG_LEVEL", value_name = "LEVEL", default_value = "info", value_parser = levels())]
     log_level: LevelFilter,
     /// Writes each line of the log as a JSON object, with `ts`, `level`, `msg` and what it is about
@@ -128,16 +131,16 @@ pub struct Options {
     /// The most memory that all posts may take until they are answered
     #[arg(long, env = "TOTXEGUN_MAX_BYTES", value_name = "BYTES", default_value = "256MiB", value_parser = size_from(LEAST_BYTES, "less than 1MiB would refuse most posts for good"))]
     max_bytes: u64,
-    /// How much late data is kept, the last: points that their series refused, for `totxegun late` and `adjust`
+    /// How much late data is kept, the newest: points that their series refused, for `totxegun late` and `adjust`
     #[arg(long, env = "TOTXEGUN_MAX_LATE", value_name = "BYTES", default_value = "64MiB", value_parser = size_from(LEAST_LATE, "less than 1MiB has no room for a point with long attributes"))]
     max_late: u64,
     /// How many connections senders may have at a time
     #[arg(long, env = "TOTXEGUN_MAX_CONNECTIONS", value_name = "N", default_value_t = 1024, value_parser = value_parser!(u32).range(1..=100_000))]
     max_connections: u32,
-    /// How many threads serve senders: each reads its posts [default: as many as there are processors]
+    /// How many threads serve senders; each reads the posts that it serves [default: as many as there are processors]
     #[arg(long, env = "TOTXEGUN_THREADS", value_name = "N", value_parser = value_parser!(u16).range(1..=MOST_THREADS as i64))]
     threads: Option<u16>,
-    // What is behind a group stands under its heading: so the groups come last.
+    // The options after a group stand under its heading in the help, so the groups come last.
     #[command(flatten)]
     of_senders: OfSenders,
     #[command(flatten)]
@@ -156,7 +159,7 @@ pub struct Options {
     of_book: OfBook,
 }
 
-/// Refuses a setting that no option reads.
+/// Refuses a variable that no option reads.
 fn look_at_settings() -> Result<(), Ended> {
     let set = std::env::vars_os().map(|(name, _)| name.to_string_lossy().into_owned());
     match unknown_setting(&super::Line::command(), set) {
@@ -165,7 +168,8 @@ fn look_at_settings() -> Result<(), Ended> {
     }
 }
 
-/// What gets into the log. Libraries warn of single frames and headers that a sender may send at any rate.
+/// What gets into the log. Libraries only log errors: they warn of single frames and headers, which a sender can send
+/// at any rate.
 fn told(level: LevelFilter) -> Targets {
     Targets::new().with_target("totxegun", level).with_default(LevelFilter::ERROR)
 }
@@ -177,7 +181,7 @@ fn levels() -> impl TypedValueParser<Value = LevelFilter> {
 
 impl Options {
     pub fn run(self) -> Result<(), Ended> {
-        // Whoever started this process may have blocked some. There are no threads yet, and each inherits this.
+        // Whoever started this process may have blocked signals. There are no threads yet, and each inherits this mask.
         SigSet::all().thread_unblock().context("signals can't be received")?;
         let metrics = Arc::new(Metrics::new().context("metrics")?);
         let log = log::start(metrics.log_lines_lost.clone(), log::Form::new(self.log_json))
@@ -203,19 +207,19 @@ impl Options {
         let max_connections = self.connections(most_files);
         let settings = self.settings(metrics)?;
         let ended = runtime.block_on(service::run(Settings { reload, max_connections, ..settings }));
-        runtime.shutdown_background(); // who still waits for a disk or a sender is not waited for
+        runtime.shutdown_background(); // a thread that still waits for a disk or a sender is not waited for
         ended?;
         log::finish();
         Ok(())
     }
 
-    /// Passes if a start with these options would listen, and open its folder.
+    /// Succeeds if a start with these options would open its folder and listen.
     pub fn check(self) -> Result<(), Ended> {
         look_at_settings()?;
         self.settings(Arc::new(Metrics::new().context("metrics")?)).map(drop)
     }
 
-    /// What SIGHUP may change: `config::LIVE` names these options.
+    /// The settings that SIGHUP may change. `config::LIVE` names their options.
     pub fn live(&self) -> Live {
         Live {
             of_each: self.of_senders.of_each(),
@@ -231,8 +235,8 @@ impl Options {
         told(self.log_level)
     }
 
-    /// How many connections senders may have, where this process may have so many open files. One that nobody posts on
-    /// would else take the file that the journal needs.
+    /// How many connections senders may have if this process may have `most_files` open files. Otherwise an idle
+    /// connection could take the file that the journal needs.
     fn connections(&self, most_files: u64) -> usize {
         let addresses = 1 + u64::from(self.listen_grpc.0.is_some());
         let most = (most_files.saturating_sub(OWN_FILES) / addresses).max(1);
@@ -249,13 +253,13 @@ impl Options {
         most.min(wanted) as usize
     }
 
-    /// Changes nothing: SIGHUP asks for it too.
+    /// Changes nothing, since SIGHUP calls it too.
     fn settings(self, metrics: Arc<Metrics>) -> Result<Settings, Ended> {
         let live = self.live();
         let data = absolute(&self.data)?;
         let sink = match self.sink {
             Some(sink) => sink,
-            // No folder is beside a store, in which a file could be the sink.
+            // A store has no folder in which a file could be the sink.
             None if self.of_store.is_given() => {
                 let why = "--store has no sink of its own: give --sink postgres://.. or http://.. too";
                 return Err(Ended::Line(anyhow!(why)));
@@ -328,7 +332,7 @@ fn processors() -> usize {
     std::thread::available_parallelism().map_or(1, |count| count.get().min(usize::from(MOST_THREADS)))
 }
 
-/// One address of TCP at most, and one socket.
+/// At most one address of TCP and one socket.
 fn operate(addresses: &[String], data: &Path) -> anyhow::Result<Operate> {
     let is_socket = |address: &&String| address.starts_with(SOCKET);
     let (sockets, tcp): (Vec<&String>, Vec<&String>) = addresses.iter().partition(is_socket);
@@ -342,12 +346,12 @@ fn operate(addresses: &[String], data: &Path) -> anyhow::Result<Operate> {
     })
 }
 
-/// Other programs are told where files are: their folder may be another.
+/// An absolute path, since other programs are told where files are, and may run in another folder.
 pub fn absolute(path: &Path) -> anyhow::Result<PathBuf> {
     std::path::absolute(path).with_context(|| format!("{} is no path", path.display()))
 }
 
-/// As many open files as this process may have: how many these are.
+/// Raises the limit of open files as far as this process may, and returns it.
 fn raise_open_files() -> u64 {
     use nix::sys::resource::{getrlimit, setrlimit, Resource::RLIMIT_NOFILE};
     let Ok((soft, hard)) = getrlimit(RLIMIT_NOFILE) else {
@@ -359,7 +363,7 @@ fn raise_open_files() -> u64 {
     }
 }
 
-/// Reasons of points, by their labels.
+/// The reasons for which points are rejected, by their labels.
 fn causes() -> impl TypedValueParser<Value = Reason> {
     let labels = PossibleValuesParser::new(Reason::of_points().map(Reason::label));
     labels.try_map(|label| Reason::labelled(&label).ok_or("no such cause"))
@@ -370,7 +374,7 @@ mod tests {
     use super::*;
     use tracing::Level;
 
-    /// Else who reaches an address could fill the disk by it.
+    /// Otherwise whoever reaches an address could fill the disk.
     #[test]
     fn no_warning_of_a_library_is_logged() {
         let is_told = |target: &str, level| told(LevelFilter::INFO).would_enable(target, &level);

@@ -1,10 +1,10 @@
-//! `totxegun status`: how the running service is.
+//! `totxegun status`: prints the status of the running service.
 
 use super::table::Table;
 use crate::log::{all_shown, cut};
 use crate::operate::status::{Section, Shown, Status};
 
-/// How much of a text is shown in a column that others follow, in characters.
+/// How much of a text is shown in any column but the last, in characters.
 const CELL: usize = 60;
 
 pub fn text(status: &Status) -> String {
@@ -31,7 +31,7 @@ fn section(section: &Section) -> String {
     text
 }
 
-/// An empty one is a dash. A long text makes no line longer unless it is the last.
+/// An empty cell becomes a dash, and a long one is cut unless it is the last.
 fn cells(row: &[String]) -> Vec<String> {
     let cell = |(place, text): (usize, &String)| match cut(text, CELL) {
         "" => "-".to_string(),

@@ -1,4 +1,5 @@
-//! `totxegun store`: makes what several machines share, brings a folder into it, and says whether it counts.
+//! `totxegun store`: makes a store that several machines share, moves a folder into it, and says whether the store
+//! counts.
 
 use super::{line, values::counted};
 use crate::store::moving::from_folder;
@@ -11,16 +12,16 @@ use std::path::PathBuf;
 pub enum Command {
     /// Makes the tables of a store, once
     Init {
-        /// Where: postgres://USER@HOST:PORT/DB, or postgres://USER@HOST1,HOST2/DB of servers that stand in for each other
+        /// The database: postgres://USER@HOST:PORT/DB, or postgres://USER@HOST1,HOST2/DB for servers that stand in for each other
         #[arg(value_name = "ADDRESS", value_parser = address)]
         database: Server,
-        /// In how many slots series are kept: four for each machine; it stays as it is
+        /// How many slots the store has for its series: four for each machine. It can't be changed later
         #[arg(long, value_name = "N", default_value_t = 12, value_parser = value_parser!(u16).range(1..=i64::from(MOST_SLOTS)))]
         slots: u16,
     },
-    /// Brings what a folder has into a store that nobody has used yet, which counts then. All services must have ended; killed, the same command goes on
+    /// Moves what a folder has into a store that nobody has used yet, which counts from then on. All services must have ended; if it is killed, the same command goes on
     Move(Move),
-    /// Says that a store was put back from a backup, or has lost rows for good: it goes on with what it has. All instances must have ended
+    /// Says that a store was restored from a backup, or has lost rows for good: it goes on with what it has. All instances must have ended
     Restored(Restored),
     /// Says whether a store counts, or which folder is on its way into it
     Check(Place),
@@ -30,7 +31,7 @@ pub enum Command {
 pub struct Restored {
     #[command(flatten)]
     store: Place,
-    /// These slots begin with nothing: what they have is deleted. For rows that are lost
+    /// Slots that begin with nothing: what they have is deleted. For rows that are lost
     #[arg(long, value_name = "SLOTS", value_delimiter = ',')]
     anew: Vec<u16>,
 }
@@ -80,7 +81,7 @@ impl Command {
     }
 }
 
-/// By `--store-copies`.
+/// The value of `--store-copies`.
 pub fn copies(number: u8) -> Copies {
     match number {
         1 => Copies::One,

@@ -1,13 +1,13 @@
-//! Tables that people read.
+//! Tables for people.
 
 use crate::log::all_shown;
 use std::fmt;
 
-/// How wide a column is at most. One text of megabytes makes no line as long, nor has a format room for its width.
+/// The greatest width of a column. A text of megabytes must not make every line as long, and `format!` limits widths.
 const WIDEST: usize = 1000;
 
-/// Columns as wide as their widest text, up to a bound. Texts come from senders and sinks: nothing of them is obeyed by a
-/// terminal.
+/// Columns as wide as their widest text, up to `WIDEST`. Senders and sinks wrote the texts, so a terminal must not obey
+/// them: control characters are replaced.
 pub struct Table {
     rows: Vec<Vec<String>>,
 }

@@ -1,4 +1,4 @@
-//! `totxegun token`: makes a token of a sender or an operator.
+//! `totxegun token`: makes a token for a sender or an operator.
 
 use super::line;
 use crate::identity;
@@ -7,17 +7,17 @@ use clap::Args;
 use std::fs::File;
 use std::io::{self, Read, Write};
 
-/// So many bytes are drawn: nobody guesses them, so their digest needs no salt.
+/// How many random bytes a token has: nobody guesses them, so their digest needs no salt.
 const BYTES: usize = 32;
 
 #[derive(Args)]
 pub struct Options {
-    /// Whose it is; a sender NAME/PATTERN may post as others too: collector/shop-*
+    /// Whose token it is; a sender NAME/PATTERN may post as others too: collector/shop-*
     #[arg(value_name = "NAME", value_parser = owner)]
     owner: String,
 }
 
-/// Whatever the file of `--tokens` may have before a digest.
+/// Accepts what the file of `--tokens` may have before a digest.
 fn owner(text: &str) -> Result<String, String> {
     match identity::Tokens::read(identity::line(text, "").as_bytes()) {
         Ok(_) => Ok(text.to_string()),
@@ -25,7 +25,7 @@ fn owner(text: &str) -> Result<String, String> {
     }
 }
 
-/// The line for the file, which is printed. The token itself goes to standard error, so that `>> FILE` shows it once.
+/// Returns the line for the file. The token itself goes to standard error, so that `>> FILE` shows it once.
 pub fn run(options: &Options) -> Result<Vec<u8>> {
     let mut bytes = [0; BYTES];
     let drawn = File::open("/dev/urandom").and_then(|mut random| random.read_exact(&mut bytes));

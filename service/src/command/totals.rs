@@ -1,4 +1,4 @@
-//! `totxegun totals`: what a SQLite or PostgreSQL sink has, a line for each series.
+//! `totxegun totals`: prints what a SQLite or PostgreSQL sink has, a line for each series.
 
 use super::table::Table;
 use super::{ask, export, line, series};
@@ -13,17 +13,17 @@ const COLUMNS: [&str; 10] =
 
 #[derive(Args)]
 pub struct Options {
-    /// The sink, as sqlite:PATH or postgres://USER@HOST:PORT/DB; without it, the running service says where it is
+    /// The sink, sqlite:PATH or postgres://USER@HOST:PORT/DB; without it, the running service is asked where it is
     #[arg(long, env = "TOTXEGUN_SINK", value_name = "ADDRESS", hide_env_values = true)]
     sink: Option<Address>,
     #[command(flatten)]
     at: ask::Address,
-    /// Prints a JSON object for each series, each on a line
+    /// Prints a line with a JSON object for each series
     #[arg(long)]
     json: bool,
 }
 
-/// Beside a service that writes: nothing is changed, nobody waits.
+/// May run while a service writes: it changes nothing, and nobody waits for it.
 pub fn run(options: &Options) -> Result<Vec<u8>> {
     let sink = export::sink(options.sink.as_ref(), &options.at)?;
     let mut rows = Vec::new();

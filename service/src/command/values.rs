@@ -1,4 +1,4 @@
-//! Values of options: times and sizes as people write them.
+//! Values of options as people write them, such as times and sizes; and numbers as people read them.
 
 use crate::otlp::NO_NAME;
 use std::fmt::Display;
@@ -17,7 +17,7 @@ const SIZES: [(&str, u64); 8] = [
     ("GiB", 1 << 30),
 ];
 
-/// `10s`, `500ms`, `7d`: a whole number and its unit, over zero.
+/// A time over zero: a whole number with its unit, such as `10s`, `500ms` or `7d`.
 pub fn time(text: &str) -> Result<Duration, String> {
     let milliseconds = scaled(text, &TIMES).filter(|milliseconds| *milliseconds > 0);
     milliseconds
@@ -25,7 +25,7 @@ pub fn time(text: &str) -> Result<Duration, String> {
         .ok_or_else(|| "write a whole number and ms, s, m, h or d: 10s".to_string())
 }
 
-/// A time, or none, which has a word.
+/// A time, or none, for which options have a word.
 #[derive(Clone, Copy, Debug, PartialEq, Eq)]
 pub struct MayBeNone(pub Option<Duration>);
 
@@ -36,18 +36,18 @@ pub fn time_or(word: &'static str) -> impl Fn(&str) -> Result<MayBeNone, String>
     }
 }
 
-/// `256MiB`, `1G`, `1048576`: bytes.
+/// A number of bytes, such as `256MiB`, `1G` or `1048576`.
 fn size(text: &str) -> Result<u64, String> {
     scaled(text, &SIZES)
         .ok_or_else(|| "write a whole number, and KiB, MiB or GiB behind it or nothing: 256MiB".to_string())
 }
 
-/// One that is not less than this, for this reason.
+/// A size of at least `least` bytes; `why` says why not less.
 pub fn size_from(least: u64, why: &'static str) -> impl Fn(&str) -> Result<u64, String> + Clone {
     move |text| size(text).and_then(|bytes| if bytes >= least { Ok(bytes) } else { Err(why.into()) })
 }
 
-/// `127.0.0.1:4318`: a host and its port. Whether there is such a one is another question.
+/// A host and its port, such as `127.0.0.1:4318`. Whether there is such a host is not checked.
 pub fn place(text: &str) -> Result<String, String> {
     match text.rsplit_once(':') {
         Some((host, port)) if !host.is_empty() && port.parse::<u16>().is_ok() => Ok(text.to_string()),
@@ -66,10 +66,10 @@ pub fn place_or_off(text: &str) -> Result<MayBePlace, String> {
     }
 }
 
-/// What a socket's path stands behind.
+/// The beginning of a socket's address.
 pub const SOCKET: &str = "unix:";
 
-/// An admin address: `127.0.0.1:4319`, or `unix:PATH`.
+/// An admin address: `127.0.0.1:4319` or `unix:PATH`.
 pub fn operator(text: &str) -> Result<String, String> {
     match text.strip_prefix(SOCKET) {
         Some("") => Err("write unix:PATH, as unix:/run/totxegun/admin.sock".to_string()),
@@ -78,10 +78,10 @@ pub fn operator(text: &str) -> Result<String, String> {
     }
 }
 
-/// What the socket is named in the folder, unless it is elsewhere.
+/// The name of the socket in the folder, unless it is elsewhere.
 pub const SOCKET_NAME: &str = "admin.sock";
 
-/// Where orders are taken, by the addresses and the folder that the service has.
+/// The socket for orders, by the addresses and the folder of the service.
 pub fn orders_at<'a>(mut operate: impl Iterator<Item = &'a str>, data: &Path) -> PathBuf {
     let given = operate.find_map(|one| one.strip_prefix(SOCKET));
     given.map_or_else(|| data.join(SOCKET_NAME), PathBuf::from)
@@ -119,7 +119,7 @@ pub fn counted(number: u64, what: &str) -> String {
     }
 }
 
-/// Senders by their names, with how many there are: so `-` is not read as nobody.
+/// Senders by name, with how many there are. Without the number, `-` could be read as nobody.
 pub fn senders_shown(names: &[String]) -> String {
     match names {
         [] => "none".to_string(),
@@ -148,7 +148,7 @@ pub fn bytes_shown(bytes: u64) -> String {
     }
 }
 
-/// Seconds as people read them: two units at most.
+/// Seconds as people read them, in two units at most.
 pub fn seconds_shown(seconds: u64) -> String {
     match seconds {
         0..=59 => format!("{seconds} s"),

@@ -1,14 +1,14 @@
 //! `totxegun version`: this program's version, and what is known of the book that is linked into it.
 //!
-//! `book/PROVENANCE` has the sum of the proved library, the revision of its sources and the toolchain. `build.rs` links no
-//! library with another sum, and gives the program what the file says.
+//! `book/PROVENANCE` has the checksum of the proved library, the revision of its sources and the toolchain. `build.rs`
+//! links no library with another checksum, and passes the file's words on to the program.
 
 use std::fmt::{Display, Formatter};
 
-/// What a line tells: `totxegun 1.2.3; book: revision R, proved by TOOLCHAIN`.
+/// One line: `totxegun 1.2.3; book: revision R, proved by TOOLCHAIN`.
 pub struct Versions;
 
-/// What was written of the library.
+/// What `book/PROVENANCE` says of the library.
 const REVISION: Option<&str> = option_env!("BOOK_REVISION");
 const TOOLCHAIN: Option<&str> = option_env!("BOOK_TOOLCHAIN");
 

@@ -1,8 +1,9 @@
-//! What operators have done, in `acts.jsonl` of the folder: who, when, what, and what came of it.
+//! The audit log of operators' actions, `acts.jsonl` in the folder: who did what and when, and the outcome. `Desk`
+//! records each action here, except a flush.
 //!
-//! A line is there, durably, before an act is carried out, and another one says how it ended. It is in the folder and not
-//! in the sink: a sink may be another receiver, or be down just when somebody acts. Where the file can't be written the
-//! log says so, and the act goes on: it may be what makes room.
+//! A line is durable before an action is carried out, and a second line has its outcome. The file is in the folder and
+//! not in the sink, since a sink may be another receiver, or down when somebody acts. If the file can't be written, the
+//! log says so and the action goes on: it may be the one that makes room.
 
 use super::user;
 use crate::intake::user::User;
@@ -18,35 +19,36 @@ use std::path::{Path, PathBuf};
 use std::sync::{Arc, Mutex};
 
 const NAME: &str = "acts.jsonl";
-/// The lines before these.
+/// The file with the earlier lines: `NAME` is renamed to it when it is full.
 const EARLIER: &str = "acts.1.jsonl";
 
-/// A file is this long at most, so both have some 50,000 lines.
+/// The size at which a file is full. Both files together hold some 50,000 lines.
 const MOST: u64 = 4 << 20;
 
-/// Of what is written of an act, in characters.
+/// How much of an action's object and outcome is written, in characters.
 const SHOWN: usize = 500;
 
-/// Who acts where the system does not know it.
+/// The name of an operator whom the system does not know.
 const NOBODY: &str = "operator";
 
-/// How root says for whom it acts.
+/// The header by which root says for whom it acts.
 pub const OPERATOR: &str = "x-operator";
 const ROOT: u32 = 0;
-/// Of such a name, in characters.
+/// How much of that name is kept, in characters.
 const NAME_SHOWN: usize = 64;
 
-/// Who asks for an act.
+/// Who asks for an action.
 #[derive(Clone, Debug)]
 pub enum Actor {
-    /// By the connection, where the system knows its user.
+    /// The user of the connection, if the system knows it.
     User(Option<User>),
-    /// By a token, or by what root says.
+    /// A name that a token, root or another instance gives.
     Named(String),
 }
 
 impl Actor {
-    /// Who asks at the socket. Root is believed for whom it acts, as behind `sudo`: it could write the file by itself.
+    /// Who sends a request to the socket. Root is believed if it says for whom it acts (as after `sudo`): it could
+    /// write the file itself.
     pub(super) fn of(request: &Request<Body>) -> Actor {
         let user = request.extensions().get::<User>().copied();
         let told = request.headers().get(OPERATOR).and_then(|name| name.to_str().ok());
@@ -69,18 +71,18 @@ pub struct Acts {
     file: Mutex<()>,
 }
 
-/// What was asked for.
+/// An action, as it is recorded.
 #[derive(Clone, Debug, PartialEq, Eq)]
 pub struct Asked {
     /// `quarantine`, `release`, `dead-letters drop`, `dead-letters resend`, `close`, `reopen`, `adjust`, `rewind`, `forget`, `new sink`.
     pub what: &'static str,
-    /// A sender, a key, a period, an adjustment, a series, a sink.
+    /// Its object: a sender, a key, a period, an adjustment, a series or a sink.
     pub of: String,
-    /// By which of these it was asked for: `--all`, `--force`, `--flush`.
+    /// Which of these options were given: `--all`, `--force`, `--flush`.
     pub given: Vec<&'static str>,
 }
 
-/// What somebody has asked for.
+/// An action, and who asked for it.
 #[derive(Clone, Debug)]
 pub struct Act {
     who: String,
@@ -95,7 +97,7 @@ struct Written<'a> {
     target: &'a str,
     #[serde(skip_serializing_if = "<[_]>::is_empty")]
     args: &'a [&'static str],
-    /// None before it is carried out.
+    /// None in the line from before the action.
     #[serde(skip_serializing_if = "Option::is_none")]
     outcome: Option<&'a str>,
 }
@@ -105,7 +107,7 @@ impl Asked {
         Asked { what, of: of.into(), given: Vec::new() }
     }
 
-    /// With an option, where that was given.
+    /// Adds an option if it was given.
     pub fn with(mut self, option: &'static str, is_given: bool) -> Asked {
         self.given.extend(is_given.then_some(option));
         self
@@ -124,7 +126,7 @@ impl Acts {
         Acts { folder: folder.into(), file: Mutex::new(()) }
     }
 
-    /// Carries out what somebody asks for, and records it with what came of it, where it is an act.
+    /// Runs `doing`. If it is an action (`asked`), one line is written before it and one with its outcome after it.
     pub(super) async fn recorded<Done, Doing: Future<Output = Done>>(
         self: &Arc<Acts>,
         actor: Actor,
@@ -146,12 +148,12 @@ impl Acts {
         done
     }
 
-    /// It is about to be carried out.
+    /// Records that the action is about to be carried out.
     pub fn begins(&self, act: &Act) {
         self.put(act, None);
     }
 
-    /// It was carried out, or not, for this reason.
+    /// Records the outcome, in the file and in the log.
     pub fn ended(&self, act: &Act, outcome: &str) {
         let Act { who, asked: Asked { what, of, given } } = act;
         let outcome = all_shown(cut(outcome, SHOWN));
@@ -170,7 +172,7 @@ impl Acts {
         }
     }
 
-    /// `is_first` of an act: durable when this returns.
+    /// The first line of an action is durable when this returns.
     fn append(&self, line: &Written, is_first: bool) -> std::io::Result<()> {
         let path = self.folder.join(NAME);
         let mut options = OpenOptions::new();
@@ -188,14 +190,15 @@ impl Acts {
         bytes.push(b'\n');
         file.write_all(&bytes)?;
         if is_first {
-            // Not the folder: a fault of it is for who ends the process by it.
+            // The folder is not synced: the sync could report a fault that has to end the process, and here it would
+            // only be logged.
             file.sync_all()?;
         }
         Ok(())
     }
 }
 
-/// Whether its last line was not written whole, as where the disk was full.
+/// Whether the last line was not written whole, as on a full disk.
 fn is_cut(file: &mut File) -> std::io::Result<bool> {
     let mut last = [b'\n'];
     if file.seek(SeekFrom::End(0))? > 0 {
@@ -235,7 +238,7 @@ mod tests {
         assert_eq!(both[1]["target"], "0-a-1 {\"who\":\"root\"}");
     }
 
-    /// Nobody else is believed.
+    /// Nobody but root is believed.
     #[test]
     fn root_says_for_whom_it_acts() {
         let name = |user: Option<u32>, told: &str| {
@@ -280,7 +283,7 @@ mod tests {
         assert!(length(NAME) < 1000 && length(EARLIER) == MOST);
     }
 
-    /// As a disk that became full, or a power cut, leaves it.
+    /// A full disk or a power cut leaves such a line.
     #[test]
     fn an_act_behind_a_line_that_was_cut_has_its_own() {
         let folder = tempfile::tempdir().unwrap();
@@ -299,7 +302,7 @@ mod tests {
         assert_eq!(outcomes, [serde_json::Value::Null, "done".into()]);
     }
 
-    /// As where the disk is full: what makes room goes on.
+    /// As on a full disk: the action may be what makes room.
     #[test]
     fn an_act_goes_on_where_it_can_t_be_written() {
         let acts = Acts::in_folder(Path::new("/nowhere/at/all"));

@@ -1,4 +1,7 @@
-//! What a series counted is adjusted by hand, or late data is booked: once by its key.
+//! `POST /v1/adjustments`: adjusts what a series counted, by hand, or books late data.
+//!
+//! The sink books late data once, by its key (`sinks/sql/settle`). Here the series and the hour of an adjustment are
+//! found, and what can't be booked is refused.
 
 use super::named::{named, Named};
 use super::reach::Answer;
@@ -14,18 +17,18 @@ use std::sync::Arc;
 
 pub const ADJUSTMENTS: &str = "/v1/adjustments";
 
-/// With the longest names of a series.
+/// Enough for the longest names of a series.
 const MAX_BODY: usize = 1 << 20;
 const HOUR: u64 = 3_600_000_000_000;
 
-/// `POST /v1/adjustments`: `late`, or `series`, `hour` and `value`.
+/// The body of `POST /v1/adjustments`: either `late`, or `series`, `hour` and `value`.
 #[derive(Clone, Debug, Default, PartialEq, Eq, Serialize, Deserialize)]
 #[serde(deny_unknown_fields)]
 pub struct AskedAdjustment {
-    /// The key of late data.
+    /// The key of a late point.
     #[serde(default, skip_serializing_if = "Option::is_none")]
     pub late: Option<String>,
-    /// As `totals` shows it, or its number in the sink.
+    /// The series as `totals` shows it, or its number in the sink.
     #[serde(default, skip_serializing_if = "Option::is_none")]
     pub series: Option<String>,
     #[serde(default, skip_serializing_if = "Option::is_none")]
@@ -38,7 +41,7 @@ pub struct AskedAdjustment {
     pub dry_run: bool,
 }
 
-/// Which series somebody means.
+/// Which series the operator means.
 enum Meant {
     Number(i64),
     Named(Named, String),
@@ -53,7 +56,7 @@ impl AskedAdjustment {
         })
     }
 
-    /// What is written down of it.
+    /// What the audit log has of it.
     fn act(&self) -> Asked {
         let text = |text: &Option<String>| text.clone().unwrap_or_default();
         let of = match &self.late {
@@ -66,7 +69,7 @@ impl AskedAdjustment {
         Asked::new("adjust", of)
     }
 
-    /// What is done, but for the series: that is found later.
+    /// The adjustment by hand. Its series is looked up later, so it is number 0 until then.
     fn by_hand(&self) -> Result<(Meant, Adjustment), String> {
         let missing = |what: &str| format!("an adjustment by hand has a {what}");
         let series = self.series.as_deref().ok_or_else(|| missing("series"))?;
@@ -85,7 +88,7 @@ impl AskedAdjustment {
     }
 }
 
-/// Why late data can't be booked as it is, or what it is booked as. A point counts in the hour in which it ends.
+/// What a late point is booked as, or why it can't be booked. A point counts in the hour in which it ends.
 fn booked(point: &LatePoint, asked: &AskedAdjustment) -> Result<Adjustment, String> {
     let by_hand = "give series, hour and value by hand";
     let value = match &point.value {
@@ -166,7 +169,7 @@ impl Desk {
         })
     }
 
-    /// Which series is meant, of those that the sink has.
+    /// Finds the series in the sink, if it is named and not numbered.
     async fn meant(&self, meant: &Meant) -> Result<Which, Answer> {
         let (of, written) = match meant {
             Meant::Number(number) => return Ok(Which::Number(*number)),
@@ -204,7 +207,7 @@ impl Desk {
         }
     }
 
-    /// What the sink has of a series in the hour.
+    /// What the sink has counted of the series in that hour.
     async fn has_in_hour(&self, adjustment: &Adjustment) -> String {
         let (Some(totals), Which::Identified(series)) = (&self.totals, &adjustment.series) else {
             return String::new();
@@ -242,7 +245,7 @@ mod tests {
         }
     }
 
-    /// As a sink counts it: what ends with an hour is of that hour. A histogram's sum is booked.
+    /// A point that ends at the end of an hour is of that hour, as in a sink. Of a histogram the sum is booked.
     #[test]
     fn late_data_is_booked_in_the_hour_in_which_it_ends() {
         let asked = AskedAdjustment::default();

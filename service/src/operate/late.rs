@@ -1,5 +1,6 @@
-//! What is kept of points that their series refused: listed by series, sender, reason and time. Of several instances each has those that
-//! it refused itself.
+//! `GET /late`: lists the points that their series refused, by series, sender, reason and time.
+//!
+//! Each instance keeps the points that it refused itself (`crate::late`), so each lists its own.
 
 use super::named::Named;
 use super::query::Query;
@@ -17,11 +18,11 @@ use std::io;
 
 const SECOND: u64 = 1_000_000_000;
 
-/// So many points are listed if nobody asks for more, and at most.
+/// How many points are listed by default, and at most.
 const LISTED: usize = 1000;
 const MAX_LISTED: usize = 100_000;
 
-/// Which points are meant.
+/// Which points to list.
 #[derive(Debug, Default)]
 struct Wanted {
     key: Option<String>,
@@ -34,11 +35,11 @@ struct Wanted {
     limit: usize,
 }
 
-/// The last of the points that are meant, in the order in which they were refused.
+/// The last `limit` of the points, in the order in which they were refused.
 #[derive(Debug, Default)]
 struct Found {
     points: BTreeMap<u64, LatePoint>,
-    /// Which of them has a key: a repeat is no other point.
+    /// The position of each key. A repeat has the key of the first, and is left out.
     keys: HashMap<String, u64>,
     count: u64,
 }
@@ -82,7 +83,7 @@ impl Wanted {
             && self.series.as_ref().is_none_or(|series| series.has(&point.series()))
     }
 
-    /// Whether a line may be one of such a point: most are not, and these are not parsed.
+    /// Whether a line may have a wanted point. Most lines don't have the wanted key, so they are not parsed.
     fn may_be(&self, line: &[u8]) -> bool {
         let key = self.key.as_deref().unwrap_or_default().as_bytes();
         key.is_empty() || line.windows(key.len()).any(|part| part == key)
@@ -117,7 +118,7 @@ impl Found {
     }
 }
 
-/// A point as a program reads it: with the names of its series.
+/// A point with the names of its series, for programs.
 fn listed(point: &LatePoint) -> Value {
     let mut shown = json!({
         "key": point.key,
@@ -154,7 +155,7 @@ fn listed(point: &LatePoint) -> Value {
 }
 
 impl Desk {
-    /// The point of this key, if it is kept here.
+    /// The point of this key, if this instance keeps it.
     pub(super) async fn late_point(&self, key: &str) -> io::Result<Option<LatePoint>> {
         let wanted = Wanted { key: Some(key.to_string()), limit: 1, ..Wanted::default() };
         let late = self.late.clone();

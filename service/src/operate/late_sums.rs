@@ -1,4 +1,5 @@
-//! What of a period was refused as late or another sender's, and is not booked: by series, sender and reason.
+//! What a period lacks: sums of the points that were refused as late or as another sender's and are not booked, by
+//! series, sender and reason. `GET /late/PERIOD` and the closing of a period show them.
 
 use super::named::named;
 use super::reach::Answer;
@@ -15,21 +16,21 @@ use std::fmt;
 
 const HOUR: u64 = 3_600_000_000_000;
 
-/// How many sums a text has, and how much of a series' name, in characters.
+/// How many sums a text names, and how much of a series' name it shows, in characters.
 const SHOWN: usize = 5;
 const NAME_SHOWN: usize = 200;
 
-/// Of points of one series, which one sender posted and which were refused for one reason.
+/// The sum of the points of one series that one sender posted and that were refused for one reason.
 #[derive(Clone, Debug, PartialEq, Eq, Serialize, Deserialize)]
 pub struct LateSum {
-    /// As an operator may name it.
+    /// In a form in which an operator may name it.
     pub series: String,
     pub sender: String,
     pub reason: Reason,
     pub points: u64,
-    /// What those come to that are not cumulative; of a histogram, their sums.
+    /// The sum of the points that are not cumulative; for a histogram, of their sums.
     pub total: String,
-    /// How many are cumulative, or have no sum.
+    /// How many points are cumulative or have no sum, and so are not in `total`.
     pub without_value: u64,
 }
 
@@ -40,7 +41,7 @@ struct Sum {
     without_value: u64,
 }
 
-/// By series, sender and reason.
+/// The sums by series, sender and reason.
 #[derive(Default)]
 struct Sums {
     all: BTreeMap<(String, String, Reason), Sum>,
@@ -48,7 +49,7 @@ struct Sums {
 }
 
 impl Sums {
-    /// A point counts once, however often it was posted.
+    /// Adds a point once, however often it was posted.
     fn add(&mut self, point: &LatePoint) {
         if !self.keys.insert(point.key.clone()) {
             return;
@@ -91,7 +92,7 @@ impl fmt::Display for LateSum {
     }
 }
 
-/// A line of the first ones; empty if there are none.
+/// The first sums as one line of text. Empty if there are none.
 pub fn not_counted(sums: &[LateSum]) -> String {
     let mut all: Vec<String> = sums.iter().take(SHOWN).map(ToString::to_string).collect();
     let more = sums.len().saturating_sub(SHOWN);
@@ -100,7 +101,7 @@ pub fn not_counted(sums: &[LateSum]) -> String {
 }
 
 impl Desk {
-    /// What is kept here of a period's points; those that the sink has booked are not among them.
+    /// The sums of a period's points that this instance keeps and the sink has not booked.
     pub(super) async fn late_sums(&self, period: &Period) -> Result<Vec<LateSum>, String> {
         let booked = match &self.totals {
             Some(totals) => totals.booked().await?,

@@ -1,8 +1,8 @@
-//! The dead letters: shown, sent again under their own keys, thrown away.
+//! Dead letters: `/dead` lists, shows, resends and drops them.
 //!
-//! The running service alone sends one again: it has the folder and the sink, and holds the key, which a delivery may have
-//! too, so no key is under way twice. A
-//! letter is thrown away only once the sink has it. A service that ends in between sends it again under the same key.
+//! Only the running service resends a dead letter, since it has the folder and the sink. It holds the letter's key,
+//! which a delivery may need too, so a key is never sent twice at a time. A letter is removed only after the sink has
+//! it: if the service ends before, the letter is sent again under the same key.
 
 use super::reach::Answer;
 use super::{Asked, Desk, Unit};
@@ -13,20 +13,20 @@ use crate::work::blocking;
 use serde::{Deserialize, Serialize};
 use serde_json::json;
 
-/// What became of a letter that was sent again.
+/// The outcome of a resend.
 #[derive(Debug, PartialEq, Eq, Serialize, Deserialize)]
 pub struct Resent {
     pub key: String,
     pub taken: bool,
-    /// The sink's reason where it did not take it, or not all of it.
+    /// Why the sink did not take it, or not all of it.
     #[serde(default, skip_serializing_if = "Option::is_none")]
     pub reason: Option<String>,
-    /// It may take it later: now it fails, lets nobody in, or does not answer.
+    /// Whether the sink may take it later: now it fails, denies access or does not answer.
     #[serde(default, skip_serializing_if = "std::ops::Not::not")]
     pub later: bool,
 }
 
-/// What is asked of a letter.
+/// What to do with a letter.
 #[derive(Clone, Copy)]
 pub(super) enum OfLetter {
     Show,
@@ -35,7 +35,7 @@ pub(super) enum OfLetter {
 }
 
 impl OfLetter {
-    /// What is written down of it.
+    /// What the audit log has of it. None if it changes nothing.
     pub fn act(self, key: &str) -> Option<Asked> {
         match self {
             OfLetter::Show => None,
@@ -46,7 +46,7 @@ impl OfLetter {
 }
 
 impl Desk {
-    /// Those of the slots that are here, the oldest first.
+    /// The letters of the shards that are here, the oldest first.
     pub(super) async fn letters(&self) -> Answer {
         let units = self.units.all();
         let listed = blocking(move || {
@@ -54,13 +54,13 @@ impl Desk {
             for unit in units {
                 all.extend(unit.dead.list()?);
             }
-            all.sort_by_key(|letter| letter.since); // letters of one time stay in their slots' order
+            all.sort_by_key(|letter| letter.since); // a stable sort: letters of one time stay in the order of their shards
             Ok(Answer::new(200, json!(all).to_string()))
         });
         answered(listed.await)
     }
 
-    /// Of a letter of a slot that is here.
+    /// Shows, resends or drops a letter of a shard that is here.
     pub(super) async fn letter(&self, what: OfLetter, key: &str) -> Answer {
         let unit = match self.unit_here(self.units.slot_of_key(key)) {
             Ok(unit) => unit,
@@ -89,7 +89,8 @@ impl Desk {
             }
             Fate::TakenPartly { rejected, reason, left } => {
                 let reason = of_part(rejected, &reason, left.is_some());
-                // What the sink has a part of is kept under another key: it must not be sent again.
+                // The sink has a part of the request, so the whole must not be sent again. The rest is kept under
+                // another key.
                 let (why, left) = (reason.clone(), left.unwrap_or(request.body));
                 let keep = move |dead: &Dead, whole: &str| {
                     dead.keep(&format!("{whole}-partial"), &why, &left)?;
@@ -108,8 +109,7 @@ impl Desk {
     }
 }
 
-/// Asks for what the letter of this key is among. Thousands of letters take seconds, and so long nothing else would go on
-/// that this thread has to do.
+/// Calls `Dead` on a thread that may block: to look through thousands of letters takes seconds.
 async fn of_dead<T: Send + 'static>(
     unit: &Unit,
     key: &str,
@@ -126,7 +126,7 @@ fn body(dead: &Dead, key: &str) -> Result<Answer, Fault> {
     }
 }
 
-/// One that was dropped already is as if it were now: who asks had no answer.
+/// A letter that was dropped before counts as dropped now: the operator may not have had the first answer.
 fn dropped(dead: &Dead, key: &str) -> Result<Answer, Fault> {
     match dead.end(key, Became::Dropped)? || dead.became(key)? == Some(Became::Dropped) {
         true => Ok(Answer::new(200, "{}")),
@@ -134,7 +134,7 @@ fn dropped(dead: &Dead, key: &str) -> Result<Answer, Fault> {
     }
 }
 
-/// One that the sink has taken already is answered as it was then.
+/// If the sink has taken the letter already, the answer is that of the first time.
 fn sent_before(dead: &Dead, key: &str) -> Result<Answer, Fault> {
     Ok(match dead.became(key)? {
         Some(Became::Taken) => taken(key, None),
@@ -143,7 +143,7 @@ fn sent_before(dead: &Dead, key: &str) -> Result<Answer, Fault> {
     })
 }
 
-/// There is no letter of this key, of which this has become.
+/// There is no letter of this key; `became` is what happened to it, if that is known.
 fn gone(became: Option<Became>) -> Answer {
     let what = match became {
         Some(Became::Dropped) => "it was thrown away",
@@ -153,7 +153,7 @@ fn gone(became: Option<Became>) -> Answer {
     Answer::told(404, &format!("no such request: {what}"))
 }
 
-/// What stands under no key of a request is of one that the sink has taken, and says why.
+/// A letter whose name is no request's key has the points that the sink left out of a request. The answer says why.
 fn of_a_part(dead: &Dead, key: &str) -> Result<Answer, Fault> {
     let letter = dead.list()?.into_iter().find(|letter| letter.key == key);
     let reason = letter.map_or(String::new(), |letter| format!(": {}", letter.reason));
@@ -171,7 +171,7 @@ fn resent(resent: Resent) -> Answer {
     Answer::new(200, json!(resent).to_string())
 }
 
-/// A letter as it was sent first.
+/// The request of a letter, as it was first sent. None if the name is not of a request's key.
 fn forwarded(name: &str, body: Vec<u8>) -> Option<Forwarded> {
     let key = sent_as(name);
     let (slot, rest) = key.split_once('-')?;
@@ -181,7 +181,7 @@ fn forwarded(name: &str, body: Vec<u8>) -> Option<Forwarded> {
     (made.key() == key).then_some(made)
 }
 
-/// Where it fails nothing but `dead-letters/` is concerned, so the service goes on.
+/// A fault concerns `dead-letters/` alone, so it is logged and the service goes on.
 fn answered(done: Result<Answer, Fault>) -> Answer {
     done.unwrap_or_else(|fault| {
         let reason = fault.to_string();

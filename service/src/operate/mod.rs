@@ -1,9 +1,10 @@
-//! The admin addresses: orders to the keeper, what the service says of itself, the dead letters.
+//! The admin addresses: orders to the keepers, status, metrics, pages and dead letters. `service/operators` serves them by
+//! two handlers: `Desk` at a socket of this machine, where the system says who may connect, and `AtTcp` over TCP, where
+//! everybody reads, and only a token gives orders.
 //!
-//! Orders are taken at a socket of this machine, where the system says who may connect. The address of TCP is read, and
-//! takes orders from whoever has a token (`tcp`). What a browser sends for a page of somebody else is turned away by `web`;
-//! `pages` are the address's own, which only read. Where there are other instances, `reach` asks these for their slots, or says
-//! where to ask.
+//! What must hold: a request that a browser sends for another site's page is refused (`web`), and each action is
+//! recorded before it is carried out (`acts`). With several instances, `reach` asks them for their shards, or says
+//! which one to ask.
 
 mod acts;
 mod adjust;
@@ -61,41 +62,41 @@ const JSON: &str = "application/json";
 const TEXT: &str = "text/plain; charset=utf-8";
 const PROMETHEUS: &str = "text/plain; version=0.0.4";
 
-/// All that an operator may ask. `units` are the slots that are here.
+/// What answers operators. `units` are the shards that are open here.
 pub struct Desk {
     pub units: Arc<Units>,
-    /// Where there are other instances.
+    /// The other instances, if a store is shared.
     pub others: Option<Others>,
     pub shares: Arc<Shares>,
     pub acts: Arc<Acts>,
     pub sink: Arc<dyn Sink>,
-    /// Where the sink can be asked for them.
+    /// None if the sink has no totals to read.
     pub totals: Option<Totals>,
     pub metrics: Arc<Metrics>,
     pub budget: Arc<Budget>,
-    /// Who has posted.
+    /// Which senders have posted.
     pub activity: Arc<SenderActivity>,
     /// Points that their series refused.
     pub late: Arc<LateData>,
-    /// What was posted and delivered a second.
+    /// The rates of posts and deliveries.
     pub pulse: Arc<Pulse>,
-    /// Where senders post.
+    /// The address at which senders post.
     pub listen: String,
-    /// Where operators read over TCP, as it was given.
+    /// The admin address of TCP, as it was given.
     pub operate: String,
-    /// Whether no other machine reaches that.
+    /// Whether no other machine reaches that address.
     pub is_local: bool,
     pub data: String,
-    /// So many fit.
+    /// The limit of series.
     pub max_series: usize,
     pub begun: Instant,
 }
 
-/// A route of the admin address.
+/// A route of the admin addresses.
 enum Route {
-    /// Of all slots.
+    /// A command to all shards.
     Order(Command),
-    /// Of the letter of a key.
+    /// What to do with the dead letter of this key.
     Letter(OfLetter, String),
     Report,
     Metrics,
@@ -106,20 +107,20 @@ enum Route {
     Status,
     Letters,
     Late,
-    /// What of a period is not counted.
+    /// What a period lacks.
     LateOf(String),
-    /// Its body says which.
+    /// The adjustment is in the body.
     Adjust,
-    /// Of a period.
+    /// Closes this period.
     Close(String),
     Open(String),
-    /// `rewind` to this time, or `forget`.
+    /// Rewinds series to this time; none forgets them.
     Amend(Option<String>),
     Page(Page),
 }
 
 impl Route {
-    /// The method that a path wants, and its route.
+    /// The method and the route of a path.
     fn of(path: &str) -> Option<(Method, Route)> {
         let parts: Vec<&str> = path.strip_prefix('/')?.split('/').collect();
         Some(match parts[..] {
@@ -152,7 +153,7 @@ impl Route {
         })
     }
 
-    /// Who may ask for it over TCP.
+    /// Who may use the route over TCP.
     fn over_tcp(&self) -> OverTcp {
         match self {
             Route::Order(_)
@@ -170,13 +171,13 @@ impl Route {
     }
 }
 
-/// Who may ask for a route over TCP. At the socket all routes are for whoever may connect.
+/// Who may use a route over TCP. At the socket, whoever may connect may use all.
 #[derive(Clone, Copy, Debug, PartialEq, Eq)]
 enum OverTcp {
     All,
-    /// Who has a token: it changes something, or shows what senders have sent.
+    /// Whoever has a token: the route changes something, or shows what senders have sent.
     Operators,
-    /// It holds posts up while it is made.
+    /// Nobody: making the answer holds posts up.
     Nobody,
 }
 
@@ -219,9 +220,9 @@ impl Desk {
     fn stranger(&self, route: &Route, request: &Request<Body>) -> Option<String> {
         match route {
             Route::Health | Route::Ready | Route::Startup => None,
-            // Where other machines come, a scrape may be by any name.
+            // If other machines reach the address, a scraper may use any name for it.
             Route::Metrics if !self.is_local => None,
-            // Our pages may ask for what shows one and changes nothing.
+            // Our own pages may ask for pages: these change nothing.
             Route::Page(_) => web::stranger(request, &self.operate, &[web::BY_HAND, web::BY_US]),
             _ => web::stranger(request, &self.operate, &[web::BY_HAND]),
         }
@@ -283,12 +284,12 @@ impl Desk {
     }
 }
 
-/// A part of a path that names something: it may be percent-encoded. What is no text names nothing.
+/// Decodes a percent-encoded part of a path. A part that is not UTF-8 names nothing that exists.
 fn decoded(part: &str) -> String {
     percent_decode_str(part).decode_utf8_lossy().into_owned()
 }
 
-/// Where the same is asked for elsewhere: the answer has the instance's address alone.
+/// Adds the path to a redirection, which has only the address of the other instance.
 fn with_path(mut response: Response<Body>, asked: &Uri) -> Response<Body> {
     if let Some(Ok(at)) = response.headers().get(LOCATION).map(HeaderValue::to_str) {
         let path = asked.path_and_query().map_or("/", |path| path.as_str());
@@ -299,7 +300,7 @@ fn with_path(mut response: Response<Body>, asked: &Uri) -> Response<Body> {
     response
 }
 
-/// HEAD is answered as GET is (RFC 9110, 9.3.2), but for the body, which hyper leaves out.
+/// A HEAD gets what a GET gets (RFC 9110, 9.3.2); hyper leaves out the body.
 fn is_met(wanted: &Method, asked: &Method) -> bool {
     wanted == asked || *wanted == Method::GET && *asked == Method::HEAD
 }

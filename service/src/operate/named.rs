@@ -1,5 +1,5 @@
-//! How an operator names series: as `totals` shows them, `shop.orders{"shop":"s1"}`, as `explain` does,
-//! `shop.orders{shop=s1}`, or by all that identifies one, as the log has it. Attributes are a point's or its resource's.
+//! How an operator names series: as `totals` shows them, `shop.orders{"shop":"s1"}`; as `explain` does,
+//! `shop.orders{shop=s1}`; or by the whole key, as in the log. Attributes may be those of the point or of its resource.
 
 use crate::otlp::series::SeriesKey;
 use crate::sinks::sql::totals::{text, Filter, SeriesTotal};
@@ -8,9 +8,9 @@ use std::str::FromStr;
 
 #[derive(Clone, Debug, PartialEq, Eq)]
 pub enum Named {
-    /// A series by all that identifies it.
+    /// One series, by its key.
     One(SeriesKey),
-    /// All of a name that have these attributes.
+    /// All series of a name that have these attributes.
     Some(Filter),
 }
 
@@ -19,7 +19,7 @@ impl Named {
         match self {
             Named::One(one) => one == key,
             Named::Some(filter) => {
-                // Most are of other names: these are not read.
+                // Most series have another name, and so are not parsed.
                 let has = |name: &String| key.0.contains(&Value::from(name.as_str()).to_string());
                 filter.name.as_ref().is_none_or(has)
                     && SeriesTotal::of_none(key).is_ok_and(|series| filter.takes(&series))
@@ -51,7 +51,7 @@ impl FromStr for Named {
     }
 }
 
-/// What stands between the braces, as JSON or as `key=value`, where a value may be in quotes.
+/// The attributes within braces, as JSON or as `key=value`. A value may be in quotes.
 fn pairs(written: &str) -> Option<Vec<(String, String)>> {
     let mut rest = written.trim_start();
     if rest.is_empty() || rest.starts_with('"') {
@@ -79,14 +79,14 @@ fn pairs(written: &str) -> Option<Vec<(String, String)>> {
     Some(pairs)
 }
 
-/// A text of JSON, and what is behind it.
+/// A JSON string, and the rest after it.
 fn quoted(written: &str) -> Option<(String, &str)> {
     let mut texts = serde_json::Deserializer::from_str(written).into_iter::<String>();
     let text = texts.next()?.ok()?;
     Some((text, &written[texts.byte_offset()..]))
 }
 
-/// A series as it may be named: with the attributes of its point, and of its resource.
+/// The name of a series, with the attributes of its point and of its resource.
 pub fn named(key: &SeriesKey) -> String {
     let Ok(series) = SeriesTotal::of_none(key) else {
         return key.0.to_string();

@@ -1,4 +1,5 @@
-//! What is asked of the keepers and of the books, of all slots together.
+//! Orders to all shards, and the state of all shards together: whether posts are taken, how far a start is, and the
+//! report of the books.
 
 use super::reach::{Answer, Command};
 use super::{reply, Desk, Unit, TEXT};
@@ -11,8 +12,8 @@ use serde_json::json;
 use std::sync::Arc;
 
 impl Desk {
-    /// Why posts are answered 503, where all are. A slot that is taken over is read first: what the others have goes on, here
-    /// or at its instance.
+    /// Why all posts are answered 503; none if some are taken. If other instances are there, a shard that is being read
+    /// does not count: posts for the other shards are taken, here or at their instances.
     pub(super) fn unavailable(&self) -> Option<Reason> {
         let Some(others) = &self.others else {
             return self.units.unavailable();
@@ -39,19 +40,19 @@ impl Desk {
         }
     }
 
-    /// Whether posts of any slot are taken.
+    /// Whether posts of any shard are taken.
     pub fn is_available(&self) -> bool {
         self.unavailable().is_none()
     }
 
-    /// Why a start is not done: how far it is. None once each book here had all of its journal, whatever comes later.
+    /// How far a start is. None once each book here has had all of its journal, whatever happens later.
     pub(super) fn starting(&self) -> Option<String> {
         let begun = &self.units.starting()?.slot;
         let (posts, bytes) = (counted(begun.ungrouped(), "post"), bytes_shown(begun.journal.size().0));
         Some(format!("recovering: {posts} of the journal so far, which has {bytes}"))
     }
 
-    /// Has each slot do what is asked, wherever it is.
+    /// Has all shards carry out a command, wherever they are, and returns one answer.
     pub(super) async fn carry_out(self: &Arc<Self>, who: &str, command: &Command) -> Answer {
         match self.in_all_slots(who, command).await {
             Ok(answers) => match command {
@@ -62,7 +63,7 @@ impl Desk {
         }
     }
 
-    /// Of the slots that are here.
+    /// The reports of the books that are here.
     pub(super) async fn report(&self) -> Response<Body> {
         let mut reports = String::new();
         for unit in self.units.all() {
@@ -75,7 +76,7 @@ impl Desk {
     }
 }
 
-/// While a book is filled nobody waits for it.
+/// A book that is recovering is not waited for.
 async fn report_of(unit: Arc<Unit>) -> Result<String, Answer> {
     if !unit.slot.is_ready() {
         let why = unit.slot.unavailable().unwrap_or(Reason::Recovering);
@@ -87,8 +88,8 @@ async fn report_of(unit: Arc<Unit>) -> Result<String, Answer> {
     }
 }
 
-/// Of an order about a sender: of a release, slots that know nothing of it leave the answer to those that do. If none does, that is
-/// said.
+/// The answer to an order about a sender. If no shard knows the sender, the answer says so. Otherwise the answer to a
+/// release leaves out the shards that don't know it.
 fn of_sender(sender: &str, command: &Command, mut all: Vec<(u16, Answer)>) -> Answer {
     let has_failed = |(_, answer): &(u16, Answer)| answer.status >= 500;
     if all.iter().any(has_failed) || !is_sender(sender) {
@@ -106,7 +107,8 @@ fn of_sender(sender: &str, command: &Command, mut all: Vec<(u16, Answer)>) -> An
     Answer::told(200, &format!("nothing of {sender} is known yet: {what}"))
 }
 
-/// One answer: what one slot could not do is not done, and what another had done before is.
+/// Puts the answers of all shards together: a failure comes first, then a success, since what a shard can't do another
+/// may have done before.
 fn together(all: &[(u16, Answer)]) -> Answer {
     if let [(_, only)] = all {
         return only.clone();
@@ -125,7 +127,7 @@ fn together(all: &[(u16, Answer)]) -> Answer {
     }
 }
 
-/// How many a flush has put into the outbox.
+/// How many requests a flush has put into the outbox.
 fn requests(answer: &Answer) -> Option<u64> {
     answer.says()["requests"].as_u64()
 }
@@ -153,7 +155,8 @@ mod tests {
         assert_eq!(of(&[not, not]), (400, not.1.to_string()));
     }
 
-    /// Else an operator who has the name wrong would think that it is done, or one who is early that it can't be.
+    /// Otherwise an operator who mistypes the name would think that it is done, or one who is early that it can't be
+    /// done.
     #[test]
     fn an_order_about_a_sender_of_whom_nothing_is_known_is_done_and_said_so() {
         let of = |command: fn(String) -> Command, answers: &[(u16, &str)]| {
@@ -168,7 +171,7 @@ mod tests {
         let nothing = |what: &str| (200, format!("nothing of A is known yet: {what}"));
         assert_eq!(of(Command::Quarantine, &[new, new]), nothing("its posts will be refused"));
         assert_eq!(of(Command::Release, &[none, none]), nothing("it is not quarantined"));
-        // Somewhere it is known.
+        // One shard knows the sender.
         assert_eq!(of(Command::Quarantine, &[new, done]), (200, "{}".into()));
         assert_eq!(of(Command::Release, &[none, not]), (400, "not quarantined".into()));
         assert_eq!(of(Command::Release, &[none, done]), (200, "{}".into()));

@@ -1,5 +1,5 @@
-//! Periods of the sink are closed and opened. A close is refused while something waits, and
-//! does not flush by itself: a biller is to know what is not in it.
+//! Closes and reopens periods of the sink. A close is refused while something waits that may belong to the period, and
+//! it does not flush by itself: whoever bills has to know what is missing.
 
 use super::late_sums::not_counted;
 use super::reach::Answer;
@@ -11,11 +11,11 @@ use std::sync::Arc;
 
 /// Closes a period although something waits that may belong to it.
 pub const FORCE: &str = "force";
-/// The same for who has flushed and waited: what waits now came meanwhile.
+/// The same, from a client that has flushed and waited: what waits now came after that.
 pub const FLUSHED: &str = "flush";
 
 impl Desk {
-    /// Closes or opens a period: `is_anyway` also if something waits that may belong to it.
+    /// Closes or reopens a period; with `is_anyway` also if something waits that may belong to it.
     pub(super) async fn settle(
         self: &Arc<Self>,
         actor: Actor,
@@ -51,7 +51,7 @@ impl Desk {
         self.settled(&who, &deed, &more).await
     }
 
-    /// What came of a period and is in no sum of it.
+    /// What was refused of a period, and so is in none of its sums.
     async fn refused_of(&self, period: &Period) -> String {
         let told = match self.late_sums(period).await {
             Ok(sums) if sums.is_empty() => return String::new(),
@@ -61,7 +61,7 @@ impl Desk {
         format!("; refused, and not counted in it: {told} (`totxegun late`, `totxegun adjust --late KEY`)")
     }
 
-    /// What the sink says of a deed; of one that is done this is said too.
+    /// Has the sink carry out a deed. If that succeeds, `and` is added to the answer.
     pub(super) async fn settled(&self, who: &str, deed: &Deed, and: &str) -> Answer {
         match self.sink.settle(who, deed).await {
             Told::Done(told) => Answer::told(200, &(told + and)),
@@ -71,7 +71,8 @@ impl Desk {
     }
 }
 
-/// What was taken of senders and goes to the sink, but is not there yet.
+/// Why the sink may still get something: posts that are not flushed, requests that wait, or a shard that can't be
+/// asked.
 fn not_in_the_sink(status: &Status) -> Option<String> {
     if let Some((slot, why)) = status.unknown() {
         return Some(format!("slot {slot} can't be asked, and may have some ({why})"));
@@ -85,7 +86,7 @@ fn not_in_the_sink(status: &Status) -> Option<String> {
     }
 }
 
-/// What stays out of the sink until an operator acts.
+/// What reaches the sink only after an operator acts: dead letters, and posts of quarantined senders.
 fn kept_back(status: &Status) -> String {
     let held = held(&status.slots).posts;
     let mut text = String::new();

@@ -1,5 +1,5 @@
-//! The query of a path: parameters `key=value` with a `&` between them, percent-encoded, where a `+` is a space too, as forms
-//! of a page have it.
+//! The query of a URL: percent-encoded parameters `key=value`, separated by `&`. A `+` is a space, as in forms of a
+//! page.
 
 use percent_encoding::percent_decode_str;
 
@@ -7,12 +7,12 @@ use percent_encoding::percent_decode_str;
 pub(super) struct Query<'a>(pub &'a str);
 
 impl<'a> Query<'a> {
-    /// Whether a parameter is there, with or without a value.
+    /// Whether there is such a parameter, with or without a value.
     pub fn has(self, key: &str) -> bool {
         self.raw(key).is_some()
     }
 
-    /// The value of the first parameter of this name; empty where there is none.
+    /// The value of the first parameter of this name. Empty if there is none.
     pub fn value(self, key: &str) -> Result<String, String> {
         let value = self.raw(key).unwrap_or_default().replace('+', " ");
         let value = percent_decode_str(&value).decode_utf8();

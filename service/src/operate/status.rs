@@ -1,5 +1,8 @@
-//! What the service says of itself: in JSON, from which `totxegun status` and the operator's page have their words (`shown`),
-//! and in gauges for Prometheus.
+//! The status of the service: as JSON, which `totxegun status` and the overview page put into words (`shown`), and as
+//! gauges for Prometheus (`levels`).
+//!
+//! Each instance gives its own; `merged` adds those of the other instances. The structs here are a format between
+//! instances and for programs.
 
 mod cluster;
 mod levels;
@@ -22,7 +25,7 @@ use crate::shares::Used;
 use serde::{Deserialize, Serialize};
 use std::collections::BTreeSet;
 
-/// `GET /status`.
+/// The answer to `GET /status`.
 #[derive(Debug, Default, Serialize, Deserialize)]
 pub struct Status {
     pub version: String,
@@ -30,30 +33,30 @@ pub struct Status {
     pub uptime_seconds: u64,
     /// Whether posts are taken.
     pub ready: bool,
-    /// Why they are answered 503, in that answer's words.
+    /// Why posts get 503, in the words of that answer.
     pub unavailable: Option<String>,
     pub listen: String,
     pub data: String,
     pub sink: String,
-    /// What was posted and delivered a second, at each look of the last minutes, the oldest first.
+    /// Posts and deliveries a second, at intervals over the last minutes, the oldest first.
     pub rates: Vec<Rates>,
-    /// Requests that the sink refused for good.
+    /// Dead letters: requests that the sink refused for good.
     pub dead_letters: u64,
     pub slots: Vec<SlotStatus>,
-    /// Refusals since the start, the last first.
+    /// Refused posts since the start, the latest first.
     pub refused: First<RefusedStatus>,
-    /// Points that were not taken since the start, of requests that were: those with most points first.
+    /// Points that were rejected since the start out of requests that were taken, the most frequent first.
     pub rejected: First<RejectedStatus>,
-    /// The one that posted last first.
+    /// The sender that posted last comes first.
     pub senders: First<SenderStatus>,
     pub limits: LimitsStatus,
-    /// Those that are nearest to their quota, the nearest first.
+    /// The senders nearest to their quota, the nearest first.
     pub quotas: Vec<Used>,
     /// What `--integer-unit` has rounded since the start.
     pub rounded: Vec<RoundedStatus>,
     pub cumulative: CumulativeStatus,
     pub late: LateStatus,
-    /// Where several instances share a store.
+    /// If several instances share a store.
     #[serde(default, skip_serializing_if = "Option::is_none")]
     pub cluster: Option<ClusterStatus>,
 }
@@ -73,40 +76,40 @@ impl Status {
         self.slots.iter().find_map(|slot| slot.stuck.as_deref().or(slot.trouble.as_deref()))
     }
 
-    /// The first slot of which nothing is known, and why.
+    /// The first shard of which nothing is known, and why.
     pub fn unknown(&self) -> Option<(u16, &str)> {
         let mut slots = self.slots.iter();
         slots.find_map(|slot| Some((slot.slot, slot.unknown.as_deref()?)))
     }
 }
 
-/// Series whose points come cumulative.
+/// Series whose points come as cumulative.
 #[derive(Debug, Default, Serialize, Deserialize)]
 pub struct CumulativeStatus {
     pub series: usize,
-    /// Since the start, how many count from their first point here on: what they had before is left out.
+    /// How many of them, since the start, count only from their first point here: what they had before is left out.
     pub noted: u64,
 }
 
 /// Points that their series refused.
 #[derive(Debug, Default, Serialize, Deserialize)]
 pub struct LateStatus {
-    /// Bytes on disk.
+    /// The bytes on disk.
     pub bytes: u64,
-    /// Since the start, how many were kept, and how many were not, for want of room or of time.
+    /// How many points were kept since the start, and how many were not, for lack of room or time.
     pub kept: u64,
     pub not_kept: u64,
 }
 
-/// How much this instance uses of what it may have.
+/// How much this instance uses of its limits.
 #[derive(Debug, Default, Serialize, Deserialize)]
 pub struct LimitsStatus {
     pub series: Limit,
-    /// Of the book.
+    /// Memory of the book.
     pub memory_bytes: Limit,
-    /// Of requests that are not answered yet.
+    /// Memory of requests that are being answered.
     pub request_bytes: Limit,
-    /// Of the file system of the folder; none where that does not answer.
+    /// Free space of the folder's file system. None if the disk does not answer.
     pub disk_free_bytes: Option<u64>,
 }
 
@@ -116,20 +119,20 @@ pub struct Limit {
     pub limit: u64,
 }
 
-/// Values that were not whole, and what they were rounded by together, in the finer unit of the rule.
+/// Values that had to be rounded, and the sum of these roundings in the finer unit of the rule.
 #[derive(Debug, Serialize, Deserialize)]
 pub struct RoundedStatus {
     pub rule: String,
     #[serde(flatten)]
     pub rounding: Rounding,
-    /// How many series these are of.
+    /// How many series these values are of.
     pub series: usize,
-    /// The series that were rounded by most, this one first.
+    /// The series with the greatest sums of roundings, the greatest first.
     pub greatest: Vec<RoundedSeries>,
 }
 
 impl RoundedStatus {
-    /// A bound in the finer unit of the rule: what is cut off of it is added.
+    /// A bound in the finer unit of the rule, rounded up.
     pub fn in_its_unit(&self, bound: f64) -> String {
         let unit = self.rule.rsplit_once(':').map_or("", |(_, unit)| unit);
         let shown = format!("{:.3} {unit}", (bound * 1000.0).ceil() / 1000.0);
@@ -140,40 +143,40 @@ impl RoundedStatus {
 #[derive(Debug, Default, Serialize, Deserialize)]
 pub struct SlotStatus {
     pub slot: u16,
-    /// Whose it is and under which term, where several instances share the slots.
+    /// The owner and the term, if several instances share the shards.
     #[serde(default, skip_serializing_if = "Option::is_none")]
     pub owner: Option<String>,
     #[serde(default, skip_serializing_if = "Option::is_none")]
     pub term: Option<u64>,
-    /// Why nothing more is known of it than that.
+    /// Why no more than that is known of the shard.
     #[serde(default, skip_serializing_if = "Option::is_none")]
     pub unknown: Option<String>,
-    /// Why its posts are answered 503, in that answer's words.
+    /// Why its posts get 503, in the words of that answer.
     pub unavailable: Option<String>,
     pub series: usize,
     pub quarantined: Vec<String>,
-    /// Posts of quarantined senders that no flush takes, in files of their own.
+    /// Parked posts: those of quarantined senders, in files of their own, which no flush takes.
     pub parked: Held,
-    /// Some of these are of a sender that is quarantined no more: the next flush takes them.
+    /// Whether some of these are of a sender that was released: the next flush takes them.
     pub released: bool,
-    /// Posts that are in no group yet.
+    /// Posts that are in no group of the outbox yet.
     pub posts: u64,
     pub journal: Stock,
     /// Requests that the sink does not have.
     pub waiting: u64,
     pub outbox: Stock,
-    /// Tries of the request that is being delivered.
+    /// How often the request in delivery was tried.
     pub tries: u64,
-    /// Why the last try was not taken.
+    /// Why the last try failed.
     pub trouble: Option<String>,
-    /// How long until the next try.
+    /// The time until the next try.
     #[serde(default, skip_serializing_if = "Option::is_none")]
     pub next_try_seconds: Option<u64>,
     /// Why the first waiting request can't be delivered: its file was changed.
     pub stuck: Option<String>,
 }
 
-/// Bytes on disk, and how old the oldest part is.
+/// The bytes on disk, and the age of the oldest part.
 #[derive(Debug, Default, PartialEq, Eq, Serialize, Deserialize)]
 pub struct Stock {
     pub bytes: u64,
@@ -185,7 +188,7 @@ impl Stock {
         Stock { bytes, age_seconds: since.map(|since| seconds().saturating_sub(since)) }
     }
 
-    /// That of all slots together.
+    /// The sum over all shards, with the age of the oldest part.
     pub fn of_all(slots: &[SlotStatus], of: impl Fn(&SlotStatus) -> &Stock) -> Stock {
         Stock {
             bytes: slots.iter().map(|slot| of(slot).bytes).sum(),
@@ -195,12 +198,12 @@ impl Stock {
 }
 
 impl Desk {
-    /// Of this instance.
+    /// The status of this instance.
     pub(super) fn status(&self) -> Status {
         self.with_posts(self.levels())
     }
 
-    /// The same without what came to it.
+    /// The same without senders and their posts.
     fn levels(&self) -> Status {
         let slots = self.slot_statuses();
         let series = slots.iter().map(|slot| slot.series as u64).sum();
@@ -236,7 +239,7 @@ impl Desk {
             series: Limit { used: series, limit: of_slots.unwrap_or(self.max_series) as u64 },
             memory_bytes: Limit { used, limit },
             request_bytes: Limit { used: budget as u64, limit: limit_of_budget as u64 },
-            // A disk that stalls may not say either how much it has.
+            // A disk that stalls may not answer this question either.
             disk_free_bytes: self.units.disk_answers().then(|| free_bytes(&self.data)).flatten(),
         }
     }
@@ -276,7 +279,7 @@ impl SlotStatus {
     fn at_work(unit: &Unit) -> SlotStatus {
         let Undelivered { number, outbox, delivery } = &unit.undelivered;
         let (journal, since) = unit.slot.journal.size();
-        // Before what waits, as the journal.
+        // In the order in which posts move, as the journal above: none is missed on its way.
         let released = unit.slot.has_released();
         let (waiting, bytes, first) = outbox.waiting();
         let delivery = delivery.state();
@@ -299,7 +302,7 @@ impl SlotStatus {
         }
     }
 
-    /// One of which nobody says more than the store does.
+    /// A shard of which only the store says something.
     fn unknown(slot: u16, owner: &str, term: u64, why: String) -> SlotStatus {
         SlotStatus {
             slot,
@@ -311,18 +314,18 @@ impl SlotStatus {
     }
 }
 
-/// What a file system has left for this process. It is asked as `files` asks before each post: some microseconds.
+/// The free space for this process. `files` asks the same before each post; it takes microseconds.
 fn free_bytes(folder: &str) -> Option<u64> {
     let disk = nix::sys::statvfs::statvfs(folder).ok()?;
     Some(disk.blocks_available() * disk.fragment_size())
 }
 
-/// Who is quarantined: a sender is in each slot, and counts once.
+/// The quarantined senders. A sender is quarantined in each shard, and counts once.
 pub fn quarantined(slots: &[SlotStatus]) -> BTreeSet<&str> {
     slots.iter().flat_map(|slot| &slot.quarantined).map(String::as_str).collect()
 }
 
-/// What is kept back of them. A sender may be in each slot, and counts in each.
+/// The parked posts of all shards. A sender counts once in each shard.
 pub fn held(slots: &[SlotStatus]) -> Held {
     slots.iter().map(|slot| slot.parked).fold(Held::default(), |all, of| Held {
         senders: all.senders + of.senders,

@@ -1,4 +1,6 @@
-//! How the store's database is: on how many servers what is committed is, and for how long a write is not known to be there.
+//! The health of the store's database: on how many servers a commit is, and how long a write's outcome has been
+//! unknown. `status` and the metrics show it. What must hold is checked elsewhere: each write checks by itself whether
+//! a standby is required (`store/postgres/session`).
 
 use super::{DatabaseStatus, Units};
 use crate::cluster;
@@ -7,29 +9,29 @@ use crate::work::locked;
 use std::sync::{Arc, Mutex, Weak};
 use std::time::Duration;
 
-/// How often the standbys are counted. Whether one is asked for at all each write looks at by itself.
+/// How often the standbys are counted.
 const EVERY: Duration = Duration::from_secs(5);
-/// An own beat that is older is in doubt too.
+/// If the last own heartbeat is older than this, its outcome counts as unknown too.
 const BEAT: Duration = Duration::from_secs(2);
-/// If the role may not look.
+/// The reason if the database's role may not see standbys.
 const NOT_SEEN: &str = "its role can't see standbys: GRANT pg_monitor TO it";
 
 pub struct StoreHealth {
-    /// As it was found last, but for what is in doubt.
+    /// What was found last, without the time of unknown outcomes.
     seen: Mutex<DatabaseStatus>,
-    /// Of writes.
+    /// The counters of writes.
     pub counts: Arc<Counts>,
 }
 
 impl StoreHealth {
-    /// Looks until it is dropped.
+    /// Counts standbys until the `StoreHealth` is dropped.
     pub fn begin(store: &Arc<PostgresStore>, asked: Copies) -> Arc<StoreHealth> {
         let health = StoreHealth::of(store.name(), asked, store.counts().clone());
         tokio::spawn(look(store.clone(), Arc::downgrade(&health)));
         health
     }
 
-    /// Nothing is known of it yet.
+    /// The state before the first count.
     pub fn of(database: String, asked: Copies, counts: Arc<Counts>) -> Arc<StoreHealth> {
         let copies_asked = match asked {
             Copies::One => 1,
@@ -39,14 +41,14 @@ impl StoreHealth {
         Arc::new(StoreHealth { seen: Mutex::new(unknown), counts })
     }
 
-    /// As this instance has seen the cluster.
+    /// The state now. `seen` is what this instance knows of the cluster.
     pub fn status(&self, units: &Units, seen: &cluster::Status) -> DatabaseStatus {
         let beat = seen.beat_age.filter(|age| *age > BEAT).unwrap_or_default();
-        // The write that began first.
+        // The oldest write of unknown outcome.
         let unknown_outcome_seconds = beat.max(units.disk_call()).as_secs();
         let status = DatabaseStatus { unknown_outcome_seconds, ..locked(&self.seen).clone() };
         match &seen.few_copies {
-            // Its settings say so, also if its role can't see standbys.
+            // The database's settings say so, even if the role can't see standbys.
             Some(why) => DatabaseStatus { copies: Some(1), why: Some(why.clone()), ..status },
             None => status,
         }
@@ -58,7 +60,7 @@ async fn look(store: Arc<PostgresStore>, health: Weak<StoreHealth>) {
     looks.set_missed_tick_behavior(tokio::time::MissedTickBehavior::Delay);
     loop {
         looks.tick().await;
-        // While it does not answer it is not known.
+        // While the database does not answer, the number is unknown.
         let (copies, why) = match tokio::time::timeout(EVERY, store.copies()).await {
             Ok(Ok(Some(copies))) => (Some(copies), None),
             Ok(Ok(None)) => (None, Some(NOT_SEEN.into())),

@@ -1,5 +1,6 @@
-//! The admin address of TCP, which any program of the machine reaches, and a page in a browser: it is read by all, and
-//! takes orders from who has a token. What holds posts up is for nobody there. Of a socket the kernel says who connects.
+//! The admin address of TCP. Any program of the machine reaches it, and so may a web page in a browser; therefore
+//! everybody may read, only a token gives orders, and what holds posts up is refused. At the socket no token is needed,
+//! since the kernel says who connects.
 
 use super::{is_met, message, Actor, Desk, OverTcp, Route};
 use crate::identity::{by_token, Tokens};
@@ -11,7 +12,7 @@ use std::sync::Arc;
 
 pub struct AtTcp {
     pub desk: Arc<Desk>,
-    /// The socket, where orders are taken without a token.
+    /// The path of the socket, where orders need no token.
     pub orders_at: String,
     pub tokens: Option<Arc<Reloaded<Tokens>>>,
 }
@@ -34,7 +35,7 @@ impl Handler for AtTcp {
 }
 
 impl AtTcp {
-    /// Who gives an order, by the request's token; the error is why it is not taken.
+    /// The operator's name, by the request's token. The error is the refusal.
     fn operator(&self, route: &Route, request: &Request<Body>) -> Result<String, Box<Response<Body>>> {
         let never = |why: &str| Err(Box::new(message(403, why)));
         if let Some(why) = self.desk.stranger(route, request) {

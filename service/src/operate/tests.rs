@@ -1,8 +1,8 @@
-//! Which paths there are, who may ask for each over TCP, and how they are decoded.
+//! Tests which paths there are, who may use each over TCP, and how paths are decoded.
 
 use super::*;
 
-/// Orders, and what shows bodies, are taken at the socket, or with a token.
+/// Orders, and routes that show bodies, need the socket or a token.
 #[test]
 fn each_path_has_one_method() {
     let (read, order, local) = (OverTcp::All, OverTcp::Operators, OverTcp::Nobody);

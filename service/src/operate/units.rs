@@ -1,4 +1,7 @@
-//! The slots that are at work here, for who operates them.
+//! The shards that are open here, for operators.
+//!
+//! `service` puts a shard in when it is opened and removes it when it is closed, so `Units` changes at any time; a
+//! caller keeps a `Unit` by its own `Arc`.
 
 use crate::files::{Dead, Outbox};
 use crate::keeper::Orders;
@@ -15,7 +18,7 @@ use std::sync::atomic::{AtomicBool, Ordering::Relaxed};
 use std::sync::{Arc, Mutex};
 use std::time::Duration;
 
-/// A slot with what belongs to it.
+/// An open shard with what belongs to it.
 pub struct Unit {
     pub slot: Arc<Slot>,
     pub orders: Orders,
@@ -24,24 +27,24 @@ pub struct Unit {
 }
 
 impl Unit {
-    /// What its sink has not taken is tried now.
+    /// Has the sink tried again now.
     pub fn hurry(&self) {
         self.undelivered.delivery.hurry();
     }
 }
 
-/// What a slot has for the sink.
+/// What a shard has for the sink.
 pub struct Undelivered {
     pub number: u16,
     pub outbox: Arc<Outbox>,
     pub delivery: Arc<Attempts>,
 }
 
-/// Those that are here now, of so many. They come and go.
+/// The shards that are open here now, out of all.
 pub struct Units {
     slots: u16,
     here: Mutex<BTreeMap<u16, Arc<Unit>>>,
-    /// Once it was found that each book here has all of its journal.
+    /// Set once each book here had all of its journal.
     started: AtomicBool,
 }
 
@@ -54,32 +57,32 @@ impl Units {
         locked(&self.here).insert(unit.slot.number(), unit);
     }
 
-    /// What it was, until nobody has it any more.
+    /// Removes a shard. It goes on until the last holder drops it.
     pub fn remove(&self, slot: u16) -> Option<Arc<Unit>> {
         locked(&self.here).remove(&slot)
     }
 
-    /// By their numbers, ascending.
+    /// All shards here, by number.
     pub fn all(&self) -> Vec<Arc<Unit>> {
         locked(&self.here).values().cloned().collect()
     }
 
-    /// Whether none is here.
+    /// Whether no shard is open here.
     pub fn is_empty(&self) -> bool {
         locked(&self.here).is_empty()
     }
 
-    /// How many slots there are, here and elsewhere.
+    /// How many shards there are, here and elsewhere.
     pub fn slots(&self) -> u16 {
         self.slots
     }
 
-    /// One that is here.
+    /// The shard, if it is open here.
     pub fn get(&self, slot: u16) -> Option<Arc<Unit>> {
         locked(&self.here).get(&slot).cloned()
     }
 
-    /// Why posts of the slots that are here are answered 503, where those of all of them are.
+    /// Why posts of all shards here get 503. None if one takes posts, or if none is here.
     pub fn unavailable(&self) -> Option<Reason> {
         let reasons: Option<Vec<_>> = self.all().iter().map(|unit| unit.slot.unavailable()).collect();
         reasons?.first().copied()
@@ -90,7 +93,8 @@ impl Units {
         self.all().iter().all(|unit| unit.slot.is_ready())
     }
 
-    /// One whose book lacks some of its journal since the start; none of those that are taken over once that is done.
+    /// A shard whose book has not got all of its journal since the start. Once all have it, shards that are taken over
+    /// later do not count.
     pub fn starting(&self) -> Option<Arc<Unit>> {
         let recovering = |unit: &Arc<Unit>| unit.slot.phase() == Phase::Recovering;
         let found = self.all().into_iter().find(recovering).filter(|_| !self.started.load(Relaxed));
@@ -102,25 +106,26 @@ impl Units {
         self.all().iter().map(|unit| of(unit)).sum()
     }
 
-    /// How many series fit for sure in the slots here, where each has a place of its own; none where no slot is here.
+    /// How many series certainly fit into the shards here, each of which has its own limit. None if no shard is here.
     pub fn max_series(&self) -> Option<usize> {
         let slots = self.all().into_iter();
         let slots = slots.map(|unit| (unit.slot.outbox.series_count(), unit.slot.core().max_series()));
         fit_for_sure(&slots.collect::<Vec<_>>())
     }
 
-    /// The slot that has the dead letter of this key, if there is one.
+    /// The shard that has the dead letter of this key, if there is such a letter. Shard 0 is asked for a key of no
+    /// shard.
     pub fn slot_of_key(&self, key: &str) -> u16 {
         let slot = key.split('-').next().and_then(|slot| slot.parse().ok());
         slot.filter(|slot| *slot < self.slots).unwrap_or(0)
     }
 
-    /// How many requests the sink refused for good.
+    /// How many dead letters there are.
     pub fn dead(&self) -> u64 {
         self.sum(|unit| unit.dead.count())
     }
 
-    /// Of the disk's calls the one that began first.
+    /// How long the oldest pending call of the disk has taken.
     pub fn disk_call(&self) -> Duration {
         let calls = self.all().into_iter().map(|unit| unit.slot.disk_call());
         calls.max().unwrap_or_default()
@@ -131,14 +136,14 @@ impl Units {
     }
 }
 
-/// Of slots with so many series, and room for so many: new ones may all be of the slot that is full first.
+/// `slots` has the number of series and the limit of each shard. New series may all be of the shard that is full first.
 fn fit_for_sure(slots: &[(usize, usize)]) -> Option<usize> {
     let known: usize = slots.iter().map(|(known, _)| known).sum();
     let free = slots.iter().map(|(known, room)| room.saturating_sub(*known));
     Some(known + free.min()?)
 }
 
-/// Whose the series of the slots here are.
+/// The owners of the series here, for quotas.
 impl Owned for Arc<Units> {
     fn seen(&self) -> (u64, usize) {
         let (mut state, mut series) = (DefaultHasher::new(), 0);
@@ -170,7 +175,7 @@ impl Owned for Arc<Units> {
 mod tests {
     use super::*;
 
-    /// Else the alert on series would not fire before a slot is full.
+    /// Otherwise the alert on series would not fire before a shard is full.
     #[test]
     fn so_many_series_fit_until_the_first_slot_is_full() {
         assert_eq!(fit_for_sure(&[]), None);

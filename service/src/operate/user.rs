@@ -1,11 +1,11 @@
-//! The name of a user.
+//! The name of a local user, for the audit log.
 
 use crate::intake::user::User;
 
-/// Who a user is that this process' namespace has no number for, as with `PrivateUsers=yes`.
+/// The number of users that the namespace of this process has no number for, as with `PrivateUsers=yes`.
 const OF_ANOTHER_NAMESPACE: u32 = 65534;
 
-/// The user's name, or `uid N`; none where it is of another namespace.
+/// The user's name, or `uid N`. None if the user is of another namespace.
 pub fn name(User(uid): User) -> Option<String> {
     if uid == OF_ANOTHER_NAMESPACE {
         return None;

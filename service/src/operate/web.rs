@@ -1,26 +1,26 @@
-//! What a browser sends for a page of somebody else.
+//! Refuses requests that a browser sends for another site's page.
 //!
-//! Any page may have the browser of who works on this machine send a request here, and a page whose own name is made to
-//! mean this machine gets the answer too. So a request that says it is of a page is refused, and one to a name that is
-//! none of ours. An IP address is no such name: whoever writes one has come to it.
+//! Any page can have the browser of somebody on this machine send a request here, and by DNS rebinding the page even
+//! gets the answer. So a request is refused if it says that it comes from a page, or if its host is not one of ours. An
+//! IP address is always ours, since nobody can rebind it.
 
 use crate::log::shown;
 use hyper::header::{HeaderMap, HOST, ORIGIN};
 use hyper::{Body, Request};
 use std::net::IpAddr;
 
-/// How a browser says whose a request is.
+/// The header in which a browser says where a request comes from.
 const FETCH_SITE: &str = "sec-fetch-site";
-/// That of a person, who has typed the address.
+/// The value if a person has typed the address.
 pub const BY_HAND: &[u8] = b"none";
-/// Of a page of the same scheme, host and port as what it asks for. With `Host` looked at, it is one of ours.
+/// The value for a page of the same scheme, host and port. Since `Host` is checked too, the page is ours.
 pub const BY_US: &[u8] = b"same-origin";
 
-/// Of a name that is none of ours, in characters.
+/// How much of a foreign host name is shown, in characters.
 const SHOWN: usize = 100;
 
-/// Why a request is refused as one of a page, other than by one of these sites: none where it is no such request. `ours` is
-/// the address that is listened on, as it was given.
+/// Why a request is refused as one of a page; none if it is not. Requests from `sites` are allowed. `ours` is the
+/// address that is listened on, as it was given.
 pub fn stranger(request: &Request<Body>, ours: &str, sites: &[&[u8]]) -> Option<String> {
     of_a_page(request.headers(), sites).or_else(|| of_another_name(request, ours))
 }
@@ -36,7 +36,7 @@ fn of_another_name(request: &Request<Body>, ours: &str) -> Option<String> {
     ))
 }
 
-/// A request that says it is of a page, other than by one of these sites.
+/// Refuses a request that says that it comes from a page, unless it is from one of `sites`.
 fn of_a_page(headers: &HeaderMap, sites: &[&[u8]]) -> Option<String> {
     let what = match headers.get(FETCH_SITE) {
         _ if headers.contains_key(ORIGIN) => "an Origin",
@@ -48,7 +48,7 @@ fn of_a_page(headers: &HeaderMap, sites: &[&[u8]]) -> Option<String> {
     ))
 }
 
-/// Whether a host, with or without its port, is an IP address, a name of the loopback, or what is listened on.
+/// Whether a host, with or without a port, is an IP address, a name of the loopback or the host that is listened on.
 pub fn is_ours(host: &str, ours: &str) -> bool {
     let name = without_port(host);
     let is_name = |other: &str| name.eq_ignore_ascii_case(other);
@@ -61,7 +61,7 @@ pub fn is_ours(host: &str, ours: &str) -> bool {
 
 fn without_port(host: &str) -> &str {
     match host.rsplit_once(':') {
-        // A colon of an IPv6 address is within brackets.
+        // The colons of an IPv6 address are within brackets.
         Some((name, port)) if port.bytes().all(|byte| byte.is_ascii_digit()) => name,
         _ => host,
     }
@@ -131,7 +131,7 @@ mod tests {
         assert!(asked(&[("host", "evil.example:4319"), (site, "same-origin")]).is_some());
     }
 
-    /// As where a page's own name is made to mean this machine.
+    /// As by DNS rebinding.
     #[test]
     fn other_names_are_turned_away() {
         for host in [

@@ -1,4 +1,4 @@
-//! How a sink is written on the command line.
+//! The address of a sink, as it is written on the command line.
 
 use super::postgres::Server;
 use super::{roots, Access};
@@ -6,7 +6,7 @@ use crate::files::KnownSink;
 use std::path::PathBuf;
 use std::str::FromStr;
 
-/// The address of a sink.
+/// Where to deliver, with what the options of an OTLP sink add.
 #[derive(Clone, Debug, PartialEq, Eq)]
 pub enum Address {
     Sqlite(PathBuf),
@@ -15,7 +15,7 @@ pub enum Address {
 }
 
 impl Address {
-    /// Its kind and place, as a folder remembers them: no user, no password, no query.
+    /// The kind and the place, as a folder remembers them: without user, password and query.
     pub fn known(&self) -> KnownSink {
         match self {
             Address::Sqlite(path) => KnownSink::new("sqlite", &path.to_string_lossy()),
@@ -32,7 +32,7 @@ pub enum BadAddress {
     #[error("`{0}:` is not a kind of sink: write sqlite:PATH, postgres://USER@HOST:PORT/DB, http://HOST:PORT/PATH or \
         https://HOST/PATH")]
     Unknown(String),
-    /// This and the next show no address, since that may have a password.
+    /// This and the next show no address, since it may have a password.
     #[error("the sink's URL is not valid: {0}; write http://HOST:PORT/PATH or https://HOST/PATH")]
     Url(String),
     #[error(
@@ -45,7 +45,7 @@ pub enum BadAddress {
 impl FromStr for Address {
     type Err = BadAddress;
 
-    /// `sqlite:PATH`, `postgres://..`, `http://..`, `https://..`, or a path.
+    /// Reads `sqlite:PATH`, `postgres://..`, `http://..`, `https://..`, or the path of a SQLite file.
     fn from_str(text: &str) -> Result<Address, BadAddress> {
         if text.is_empty() {
             return Err(BadAddress::Empty);
@@ -62,13 +62,13 @@ impl FromStr for Address {
                 Ok(Address::Postgres(server.into()))
             }
             _ if scheme.contains('/') => Ok(Address::Sqlite(text.into())),
-            // Also HOST:PORT, which would else be a file.
+            // HOST:PORT ends here too. Otherwise it would be taken for a file.
             _ => Err(BadAddress::Unknown(scheme.into())),
         }
     }
 }
 
-/// A URL without a path is a collector's base, whose metrics are at `/v1/metrics`.
+/// A URL without a path is the base of a collector, which takes metrics at `/v1/metrics`.
 fn otlp(url: String) -> Result<Address, BadAddress> {
     let bad = |why: &str| BadAddress::Url(why.into());
     let uri: hyper::Uri = url.parse().map_err(|error| bad(&format!("{error}")))?;
@@ -79,7 +79,7 @@ fn otlp(url: String) -> Result<Address, BadAddress> {
     if authority.as_str().contains('@') {
         return Err(bad("a name and password in it would not be sent: give a header `authorization`"));
     }
-    // The client would take the scheme's own port for one that is none, and so another server.
+    // hyper would replace a port that is none by the scheme's default port, and so reach another server.
     let port = authority.as_str()[authority.host().len()..].strip_prefix(':');
     if port.is_some_and(|port| !port.parse().is_ok_and(|port: u16| port > 0)) {
         return Err(bad("its port is not one of 1 to 65535"));

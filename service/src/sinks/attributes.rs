@@ -1,10 +1,10 @@
-//! Attribute lists as objects, as the tables of sinks have them.
+//! Turns attribute lists into objects, the form that the tables of sinks have.
 
 use crate::otlp::series::NotForwarded;
 use serde_json::{Map, Value};
 
-/// An attribute list as one object, `{"key":value}`: its keys are distinct and in order, and a value's JSON type is
-/// its type, so nothing is lost.
+/// An attribute list as one object, `{"key":value}`. Nothing is lost: keys are distinct and in order, and the JSON type
+/// of a value is its type.
 pub(super) fn object(list: &str) -> Result<Map<String, Value>, NotForwarded> {
     let bad = || {
         let start: String = list.chars().take(300).collect();
@@ -22,7 +22,7 @@ pub(super) fn object(list: &str) -> Result<Map<String, Value>, NotForwarded> {
     Ok(object)
 }
 
-/// `{"intValue":"5"}` is 5, `{"stringValue":"5"}` is "5", `{}` is null, `{"arrayValue":{"values":[..]}}` an array.
+/// `{"intValue":"5"}` becomes 5, `{"stringValue":"5"}` "5", `{}` null, and `{"arrayValue":{"values":[..]}}` an array.
 fn single(value: Value) -> Option<Value> {
     let Value::Object(object) = value else {
         return value.is_null().then_some(Value::Null);

@@ -1,18 +1,18 @@
-//! How long to wait before a request is sent again.
+//! How long `delivery` waits before it sends a request again.
 
 use std::hash::{BuildHasher, Hasher};
 use std::time::Duration;
 
 const FIRST_WAIT: Duration = Duration::from_millis(50);
-/// A sink that is away is asked whether it is back: that costs nobody much.
+/// The longest wait for a sink that can't be reached: asking it costs nobody much.
 pub(super) const LONGEST_OF_AWAY: Duration = Duration::from_millis(if cfg!(test) { 100 } else { 2000 });
-/// One that is there may be busy.
+/// The longest wait for a sink that answers, since it may be busy.
 pub(super) const LONGEST_OF_BUSY: Duration = Duration::from_secs(60);
-/// A sink that asks for more by `Retry-After` is asked again after this all the same.
+/// The longest `Retry-After` that is followed.
 const LONGEST_ASKED: Duration = Duration::from_secs(15 * 60);
 
-/// How long to wait after so many tries, more than none, that failed. It doubles up to a bound, and a random part of
-/// up to a half is taken away, so that many services don't come back at once. A sink that asks for longer gets it.
+/// The wait after `tries` failures, of which there is at least one. It doubles up to `longest`, and a random part of up
+/// to a half is taken off, so that many services don't come back at once. If the sink asks for more, it gets that.
 pub(super) fn wait(tries: u64, longest: Duration, asked: Option<Duration>) -> Duration {
     let doublings = tries.saturating_sub(1).min(16) as u32;
     let whole = FIRST_WAIT.saturating_mul(1 << doublings).min(longest);
@@ -20,7 +20,7 @@ pub(super) fn wait(tries: u64, longest: Duration, asked: Option<Duration>) -> Du
     wait.max(asked.map_or(Duration::ZERO, |asked| asked.min(LONGEST_ASKED)))
 }
 
-/// A random number from 0 to below 1: the standard library's own keys are random.
+/// A random number from 0 to below 1: the standard library draws random keys for hashing.
 fn fraction() -> f64 {
     let word = std::collections::hash_map::RandomState::new().build_hasher().finish();
     (word >> 11) as f64 / (1u64 << 53) as f64

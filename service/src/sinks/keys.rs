@@ -1,29 +1,29 @@
-//! One key is sent once at a time: the delivery and an operator may have the same request, where a run was killed before
-//! the outbox knew that it lies in `dead-letters/`.
+//! Makes sure that a key is sent once at a time. The delivery and an operator may have the same request, if the service
+//! was killed after it stored a dead letter and before the outbox noted that.
 
 use crate::work::locked;
 use std::collections::HashSet;
 use std::sync::Mutex;
 use tokio::sync::Notify;
 
-/// The keys that are under way at a sink.
+/// The keys that are being sent to a sink.
 #[derive(Default)]
 pub struct Keys {
     held: Mutex<HashSet<String>>,
     freed: Notify,
 }
 
-/// A key that nobody else sends meanwhile.
+/// A key that nobody else sends while this is held.
 pub struct Held<'k> {
     keys: &'k Keys,
     key: String,
 }
 
 impl Keys {
-    /// Waits until nobody else has the key.
+    /// Waits until nobody else holds the key.
     pub async fn hold(&self, key: &str) -> Held<'_> {
         loop {
-            let freed = self.freed.notified(); // before it is looked, so that no end is missed
+            let freed = self.freed.notified(); // registered before the look, so that no release is missed
             if locked(&self.held).insert(key.to_string()) {
                 let key = key.to_string();
                 return Held { keys: self, key };

@@ -1,4 +1,6 @@
-//! A part of a request: the points that a sink could not add, as a request of their own.
+//! The points of a request that a sink could not add, as a request of their own.
+//!
+//! `sql` collects them, and `delivery` keeps them as a dead letter.
 
 use super::Fate;
 use crate::log;
@@ -6,8 +8,8 @@ use crate::otlp::series::ForwardedPoint;
 use serde_json::Value;
 use std::collections::BTreeMap;
 
-/// Why a request is refused whose key is that of another one. No folder gives a key twice, but for one that was put
-/// back over itself, or a copy of a disk.
+/// Why a request is refused if its key is that of another one. A folder gives no key twice, unless it was restored over
+/// itself, or its disk was copied.
 pub(super) const OTHER_REQUEST: &str =
     "its key is that of another request, which was taken: the folder was restored over itself, or two services run on \
      copies of it";
@@ -15,18 +17,18 @@ pub(super) const OTHER_REQUEST: &str =
 /// How much of a series is shown, in characters.
 const SERIES_SHOWN: usize = 300;
 
-/// A point for an error: its interval, and its series as far as that is short.
+/// A point for an error: its interval, and its series, cut if that is long.
 pub(super) fn shown(point: &ForwardedPoint) -> String {
     let series = log::shown(&point.series.0, SERIES_SHOWN);
     format!("({}, {}] of {series}", point.start, point.end)
 }
 
-/// What of a request was not added although the rest was.
+/// The points of a request that were not added although the others were.
 #[derive(Debug, Default, PartialEq, Eq)]
 pub(super) struct LeftOut {
-    /// Until when the series of each point had others, by the places of points in the request.
+    /// The time until which the series of each point has others, by the point's index in the request.
     pub(super) places: BTreeMap<usize, u64>,
-    /// Of the first of them.
+    /// Why the first of them was not added.
     reason: String,
     /// Whether these are all points of the request.
     pub(super) is_all: bool,
@@ -37,7 +39,7 @@ impl LeftOut {
         self.places.is_empty()
     }
 
-    /// A point that is not added, since its series has others until then.
+    /// Notes a point that is not added, since its series has others until `until`.
     pub(super) fn add(&mut self, point: &ForwardedPoint, until: u64) {
         if self.places.range(..point.place).next().is_none() {
             self.reason = format!("{} is not added, since its series has points until {until}", shown(point));
@@ -45,13 +47,13 @@ impl LeftOut {
         self.places.insert(point.place, until);
     }
 
-    /// As a database keeps it: a JSON array of places and times.
+    /// The form in which a database keeps it: a JSON array of indexes and times.
     pub(super) fn noted(&self) -> String {
         let pairs: Vec<(&usize, &u64)> = self.places.iter().collect();
-        serde_json::to_string(&pairs).unwrap_or_default() // numbers are always written
+        serde_json::to_string(&pairs).unwrap_or_default() // serialising numbers does not fail
     }
 
-    /// As it was noted, of a request of these points.
+    /// Reads what was noted of the request with these points.
     pub(super) fn read<'p>(
         noted: &str,
         points: impl Iterator<Item = &'p ForwardedPoint>,
@@ -67,7 +69,7 @@ impl LeftOut {
         Ok(left)
     }
 
-    /// Of a request of so many points.
+    /// Sets `is_all`, by the number of points of the request.
     pub(super) fn of(self, points: usize) -> LeftOut {
         LeftOut { is_all: self.places.len() == points, ..self }
     }
@@ -90,7 +92,7 @@ impl LeftOut {
     }
 }
 
-/// The request with these points alone. None where it is no request that the gateway forwards.
+/// The request with only these points. None if it is not a request that the gateway makes.
 fn part(body: &[u8], places: &BTreeMap<usize, u64>) -> Option<Vec<u8>> {
     let mut request: Value = serde_json::from_slice(body).ok()?;
     let mut place = 0;
@@ -111,7 +113,7 @@ fn part(body: &[u8], places: &BTreeMap<usize, u64>) -> Option<Vec<u8>> {
     Some(request.to_string().into_bytes())
 }
 
-/// Keeps those elements of a list of which `one` says so. Whether one is left.
+/// Keeps the elements for which `one` returns true. Returns whether any are left.
 fn keep(list: &mut Value, mut one: impl FnMut(&mut Value) -> Option<bool>) -> Option<bool> {
     let list = list.as_array_mut()?;
     let mut kept = Vec::new();

@@ -1,4 +1,6 @@
-//! Where forwarded requests go: one at a time, in order, under one key each, however often.
+//! Sinks: where `delivery` sends the requests of the outbox, one at a time and in order.
+//!
+//! What must hold: a sink takes a request whole or not at all, and once under one key, however often it is sent.
 //!
 //! A further kind of sink is one file that implements [`Sink`], a variant of [`Address`] and its line in [`open`].
 
@@ -36,39 +38,39 @@ use std::pin::Pin;
 use std::sync::Arc;
 use std::time::Duration;
 
-/// What became of a request.
+/// The outcome of a delivery.
 #[derive(Clone, Debug, PartialEq, Eq)]
 pub enum Fate {
     Taken,
-    /// The request was taken, but for some of its points, which the sink will never take. It must not be sent again:
-    /// the points that were taken would count twice.
+    /// The request was taken except for some points, which the sink will never take. It must not be sent again: the
+    /// points that were taken would count twice.
     TakenPartly {
         rejected: u64,
         reason: String,
-        /// A request of the points that were not taken, where the sink says which.
+        /// A request of the points that were not taken, if the sink says which they are.
         left: Option<Vec<u8>>,
     },
-    /// It is sent again, not before so long.
+    /// The request is sent again, after `after` at the earliest.
     Again {
         reason: String,
         after: Option<Duration>,
     },
-    /// The sink could not be reached, so it was not sent. It is sent again soon.
+    /// The sink could not be reached, so nothing was sent. The request is sent again soon.
     Away {
         reason: String,
     },
-    /// The sink says that it has failed, not whether that passes. It is sent again for a while, not before so long, and
-    /// then put aside.
+    /// The sink says that it has failed, but not whether that will pass. The request is sent again for a while, after
+    /// `after` at the earliest, and then becomes a dead letter.
     Failed {
         reason: String,
         after: Option<Duration>,
     },
-    /// The sink does not let this service in (any more): it is treated as one that has failed, and counted apart.
+    /// The sink denies this service access. It is treated as a sink that has failed, and counted separately.
     Denied {
         reason: String,
         after: Option<Duration>,
     },
-    /// It is never taken: it is put aside.
+    /// The sink will never take it: it becomes a dead letter.
     Refused {
         reason: String,
     },
@@ -88,17 +90,17 @@ impl Fate {
     }
 }
 
-/// How many requests are one transaction of a database, at most.
+/// How many requests one transaction of a database takes at most.
 const TOGETHER: usize = 1000;
 
-/// A forwarded request under its key.
+/// A request of the outbox, with its key.
 #[derive(Clone, Debug, PartialEq, Eq)]
 pub struct Forwarded {
-    /// `SLOT-EPOCH-NUMBER`: the same bytes have the same key, for ever.
+    /// The key is `SLOT-EPOCH-NUMBER`: a request keeps its key and its bytes for ever.
     pub slot: u16,
     pub epoch: String,
     pub number: u64,
-    /// JSON, as the gateway wrote it.
+    /// JSON, as the book wrote it.
     pub body: Vec<u8>,
 }
 
@@ -108,42 +110,44 @@ impl Forwarded {
     }
 }
 
-/// What a sink has of a slot that its outbox does not know.
+/// What a sink has of a shard that the shard's outbox does not know.
 #[derive(Clone, Debug, Default, PartialEq, Eq)]
 pub struct Beyond {
     pub requests: u64,
-    /// When it took the first and the last of them, as it writes times.
+    /// When the sink took the first and the last of them, in its own form.
     pub since: String,
     pub until: String,
 }
 
-/// What a sink answers.
+/// The future answer of a sink.
 pub type Answer<'a, T> = Pin<Box<dyn Future<Output = T> + Send + 'a>>;
 
 /// A sink takes a request whole or not at all, and once under one key.
 pub trait Sink: Send + Sync {
-    /// One that may have been put aside: a database takes it behind later ones.
+    /// Delivers a request that may be a dead letter: a database takes it even after later ones.
     fn deliver<'a>(&'a self, request: &'a Forwarded) -> Answer<'a, Fate> {
         self.deliver_of(request, None)
     }
 
-    /// One in its place, of a slot that this instance may have: where the sink is in the database that has the slot's row, it takes
-    /// the request and notes that it has, in one transaction, and takes none of an earlier owner.
+    /// Delivers a request in its order. `tenure` says under which term and epoch this instance has the shard. If the
+    /// sink is in the database that has the shard's row, it takes the request and notes that in one transaction, and
+    /// takes nothing from an earlier owner.
     fn deliver_of<'a>(&'a self, request: &'a Forwarded, tenure: Option<&'a Tenure>) -> Answer<'a, Fate>;
 
-    /// Learns from which epochs those of a slot's requests go on, before any of these comes: what it has beyond where the last one
-    /// goes on. A sink that keeps no keys has nothing to say.
+    /// Tells the sink which epoch each epoch of a shard's keys continues, before any of its requests comes. Returns what
+    /// the sink has that one of these epochs does not know of: the store went back. A sink that keeps no keys has nothing
+    /// to say.
     fn goes_on<'a>(&'a self, _slot: u16, _epochs: &'a Epochs) -> Answer<'a, Result<Beyond, Fate>> {
         Box::pin(std::future::ready(Ok(Beyond::default())))
     }
 
-    /// How many requests it takes in one go.
+    /// How many requests one call of `deliver_together` may have.
     fn most_together(&self) -> usize {
         1
     }
 
-    /// Takes all of these whole, in one go, or nothing of them; whether it has. Where it has not each is delivered by itself,
-    /// by which it is known why.
+    /// Takes all of these requests whole, in one go, or none of them. Returns whether it did. If not, each is delivered
+    /// by itself, and that shows why.
     fn deliver_together<'a>(
         &'a self,
         _all: &'a [Forwarded],
@@ -152,33 +156,33 @@ pub trait Sink: Send + Sync {
         Box::pin(std::future::ready(false))
     }
 
-    /// Closes or opens a period, or adjusts: wholly or not at all, between two requests.
+    /// Closes or reopens a period, or makes an adjustment: wholly or not at all, between two requests.
     fn settle<'a>(&'a self, _who: &'a str, _deed: &'a Deed) -> Answer<'a, Told> {
         let why = "keeps no periods: only a SQLite or PostgreSQL sink can close, reopen and adjust them";
         let told = Told::Refused(format!("the sink {} {why}", self.name()));
         Box::pin(std::future::ready(told))
     }
 
-    /// What it is, for `status`: `sqlite PATH`, `otlp URL`, `postgres USER@HOST:PORT/DB`. It shows no header and no
-    /// password.
+    /// What the sink is, for `status`: `sqlite PATH`, `otlp URL` or `postgres USER@HOST:PORT/DB`, without headers and
+    /// passwords.
     fn name(&self) -> String;
 
-    /// Who sends a request holds its key until its fate is dealt with.
+    /// Whoever sends a request holds its key until its fate is dealt with.
     fn keys(&self) -> &Keys;
 
-    /// Where it looks up whose series are; none of a sink that does not keep it.
+    /// Where the sink looks up the senders of series. None if the sink does not keep senders.
     fn owners(&self) -> Option<&Owners> {
         None
     }
 }
 
-/// What remembers the sink: asked whenever one with an id is opened.
+/// Remembers which sink this is. It is asked whenever a sink with an id is opened.
 pub trait Memory: Send + Sync {
-    /// Whether requests may go into the sink of this id, else why not; without one it is empty, or of a schema that had
-    /// none. `is_replaced` says that this run had it open and found it replaced, which was told.
+    /// Whether requests may go into the sink of this id, or why not. A sink without an id is empty, or has a schema
+    /// without ids. `is_replaced` says that this run had it open and found it replaced, which is in the log already.
     fn admit(&self, id: Option<&str>, is_replaced: bool) -> Result<(), String>;
 
-    /// Which database has the store of the slots, by its own word.
+    /// The identity of the database that has the store, as that database gives it.
     fn store_database(&self) -> Option<String> {
         None
     }
@@ -191,8 +195,8 @@ impl Memory for () {
     }
 }
 
-/// Opens a sink. What may mend itself (a file that is locked, a server that is down) is no fault here: deliveries
-/// are tried again until the sink takes them. What can't mend itself is one.
+/// Opens a sink. A fault that may pass (a locked file, a server that is down) is no error here, since deliveries are
+/// retried until the sink takes them. A fault that can't pass is an error.
 pub fn open(
     address: &Address,
     retention: Retention,

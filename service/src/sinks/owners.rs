@@ -1,4 +1,4 @@
-//! Whose each series is: a database has it in a column of the series.
+//! The senders of series, which a database has in a column of the series.
 
 use super::Forwarded;
 use crate::files::Outbox;
@@ -7,9 +7,9 @@ use crate::work::locked;
 use std::collections::HashMap;
 use std::sync::{Arc, Mutex, Weak};
 
-/// What knows the owners of a slot's series.
+/// Knows the senders of a shard's series.
 pub trait KnowsOwners: Send + Sync {
-    /// The name of the sender that a series belongs to: a commit has it of each series that it has. None of one that is in no commit,
+    /// The sender that a series belongs to. A commit has it for each of its series; none if the series is in no commit,
     /// or was forgotten since.
     fn owner(&self, series: &Digest) -> Option<String>;
 }
@@ -20,18 +20,18 @@ impl KnowsOwners for Outbox {
     }
 }
 
-/// The slots that are delivered here.
+/// What knows the senders, for each shard that is delivered here.
 #[derive(Default)]
 pub struct Owners(Mutex<HashMap<u16, Weak<dyn KnowsOwners>>>);
 
 impl Owners {
-    /// Who knows the owners of a slot's series from now on, as long as it is there.
+    /// From now on `knows` answers for this shard, as long as it exists.
     pub fn put<K: KnowsOwners + 'static>(&self, slot: u16, knows: &Arc<K>) {
         let knows: Weak<K> = Arc::downgrade(knows);
         locked(&self.0).insert(slot, knows);
     }
 
-    /// Who knows whose the series of a request are; none if nobody delivers its slot here.
+    /// What knows the senders of a request's series. None if its shard is not delivered here.
     pub(super) fn of(&self, request: &Forwarded) -> Option<Arc<dyn KnowsOwners>> {
         locked(&self.0).get(&request.slot).and_then(Weak::upgrade)
     }

@@ -1,10 +1,12 @@
-//! Periods of a sink: which are closed, what comes for them later, and what is adjusted by hand.
+//! Periods of a sink: which are closed, where later points of them count, and what is adjusted by hand.
 //!
-//! What a sink has of a closed hour does not change any more. What comes for it later counts in the first hour from now on
-//! that is open, beside a row that says to which hour it belongs. So do adjustments: the sums of hours, days and months are
-//! those of all accepted points. To open an hour moves nothing back, since it may have been billed where it was counted. All
-//! of it is in the sink, and is read in the transaction that takes a request: so a close and a delivery are one after the
-//! other, and a close is there or not.
+//! What a sink has of a closed hour does not change any more. A point that comes for it later counts in the first open
+//! hour from now on, beside a row that says to which hour it belongs. So does an adjustment. Therefore the sums of
+//! hours, days and months are always those of all accepted points. Reopening an hour moves nothing back, since it may
+//! have been billed where it was counted.
+//!
+//! All of this is in the sink, and is read in the transaction that takes a request. So a close and a delivery come one
+//! after the other, and a close is there or not.
 
 mod period;
 
@@ -21,16 +23,16 @@ pub enum Deed {
     Adjust(Adjustment),
 }
 
-/// What is added to what a series counted in an hour, also if it counted nothing there; of a histogram, to its sum.
+/// Adds to what a series counted in an hour, even if it counted nothing there; for a histogram, to its sum.
 #[derive(Clone, Debug, PartialEq, Eq)]
 pub struct Adjustment {
     pub series: Which,
     pub hour: Period,
     pub value: i64,
     pub reason: String,
-    /// The key of late data that is booked by it, once; empty if there is none.
+    /// The key of the late data that this books, once. Empty if there is none.
     pub late_key: String,
-    /// It is only said what would be done.
+    /// Only say what would be done.
     pub is_dry: bool,
 }
 
@@ -42,24 +44,24 @@ pub enum Which {
     Identified(Box<SeriesTotal>),
 }
 
-/// So many bytes of a reason.
+/// The longest reason, in bytes.
 pub const MOST_REASON: usize = 1000;
 
-/// What became of a deed; each with what is said of it.
+/// The outcome of a deed, with what to tell the operator.
 #[derive(Clone, Debug, PartialEq, Eq)]
 pub enum Told {
     Done(String),
     Refused(String),
-    /// The sink did not answer: the same may be asked again.
+    /// The sink did not answer: the operator may ask again.
     Later(String),
 }
 
 /// A row of the table `closed`.
 #[derive(Clone, Debug, PartialEq, Eq)]
 pub(super) struct Row {
-    /// As it was written.
+    /// The period as it was written.
     pub(super) period: String,
-    /// From this hour since 1970 to before that one.
+    /// The first hour since 1970, and the one after the last.
     pub(super) from: i64,
     pub(super) to: i64,
     pub(super) who: String,
@@ -81,7 +83,7 @@ impl Row {
     }
 }
 
-/// All that is closed, and the hour that it is.
+/// All that is closed, and the current hour.
 #[derive(Clone, Debug, Default, PartialEq, Eq)]
 pub struct Closed {
     pub(super) rows: Vec<Row>,
@@ -89,8 +91,9 @@ pub struct Closed {
 }
 
 impl Closed {
-    /// In which hour counts what belongs to this one: in itself while it is open, else in the first open one from now on; by a
-    /// clock that was set back from its own on, since what is before that may be billed.
+    /// The hour in which a point of this hour counts: the same hour if it is open, else the first open one from now on.
+    /// If the clock was set back to before the hour, it is the first open one after the hour, since what is before may
+    /// have been billed.
     pub(super) fn counted_in(&self, hour: i64) -> i64 {
         match self.end(hour) {
             None => hour,
@@ -104,18 +107,18 @@ impl Closed {
         }
     }
 
-    /// What is said of a period that is closed.
+    /// What to say of a closed period. None if it is open.
     pub fn of(&self, period: &Period) -> Option<String> {
         self.rows.iter().find(|row| row.has(period)).map(Row::shown)
     }
 
-    /// Where a closed period ends that has this hour.
+    /// The end of the closed period that has this hour.
     fn end(&self, hour: i64) -> Option<i64> {
         let has = |row: &&Row| row.from <= hour && hour < row.to;
         self.rows.iter().filter(has).map(|row| row.to).max()
     }
 
-    /// Whether it is closed now, else what to say: that it was before, or that it can't be.
+    /// Whether the period can be closed, or what to say instead: that it is closed already, or why it can't be.
     pub(super) fn close(&self, period: &Period) -> Result<(), Told> {
         if let Some(row) = self.rows.iter().find(|row| row.has(period)) {
             return Err(Told::Done(format!("{period} was closed before: {}", row.shown())));
@@ -129,7 +132,7 @@ impl Closed {
         Ok(())
     }
 
-    /// Whether it is opened now, else what to say.
+    /// Whether the period can be reopened, or what to say instead.
     pub(super) fn open(&self, period: &Period) -> Result<(), Told> {
         if self.rows.iter().any(|row| (row.from, row.to) == (period.from, period.to)) {
             return Ok(());
@@ -143,7 +146,7 @@ impl Closed {
         }
     }
 
-    /// What to say of one that is opened: what else is closed of it.
+    /// What to say of a reopened period, with what else of it is still closed.
     pub(super) fn opened(&self, period: &Period) -> String {
         let is_it = |row: &Row| (row.from, row.to) == (period.from, period.to);
         let others = self.rows.iter().filter(|row| row.overlaps(period) && !is_it(row));
@@ -162,8 +165,8 @@ pub(super) fn closed(period: &Period) -> String {
     )
 }
 
-/// Why a month or a day can't be exported of which hours were deleted, those before this one: a bill of what is left would say
-/// nothing of that.
+/// Why a month or a day can't be exported if some of its hours, those before `from`, were deleted: a bill of the rest
+/// would not say that something is missing.
 pub(super) fn deleted(period: &Period, from: i64) -> String {
     format!(
         "hours before {} were deleted (--keep-hours), so there is no whole {period} any more",
@@ -171,12 +174,12 @@ pub(super) fn deleted(period: &Period, from: i64) -> String {
     )
 }
 
-/// Of adjustments together, without their signs: so sums of any of them fit 64 bits.
+/// The limit for all adjustments together, without their signs. So the sum of any of them fits 64 bits.
 const MAX_ADJUSTED: i64 = 1 << 62;
 
-/// What a sink has of adjustments.
+/// What a sink has of adjustments before this one.
 pub(super) struct Adjusted {
-    /// What all come to, without their signs.
+    /// The sum of all, without their signs.
     pub(super) so_far: i64,
     /// The first hour that is not deleted.
     pub(super) hours_from: i64,
@@ -192,7 +195,7 @@ impl Which {
 }
 
 impl Adjustment {
-    /// Whether it is one.
+    /// Checks all that can be checked without the sink.
     pub fn check(&self) -> Result<(), String> {
         let Adjustment { hour, value, reason, .. } = self;
         if hour.to - hour.from > 1 {
@@ -209,7 +212,7 @@ impl Adjustment {
         }
     }
 
-    /// The sink has no such series.
+    /// The answer if the sink has no such series.
     pub(super) fn has_no_series(&self) -> Told {
         let series = self.series.shown();
         Told::Refused(format!(
@@ -217,7 +220,7 @@ impl Adjustment {
         ))
     }
 
-    /// In which hour it counts, else why it can't be made: also not into an hour that is deleted, since no view would have it.
+    /// The hour in which it counts, or why it can't be made. A deleted hour is refused, since no view would show it.
     pub(super) fn counted_in(&self, adjusted: &Adjusted, closed: &Closed) -> Result<i64, Told> {
         let Adjustment { hour, value, .. } = self;
         let counted_in = closed.counted_in(hour.from);
@@ -248,7 +251,7 @@ impl Adjustment {
         Told::Done(format!("{has} {series} has {value:+} in {hour}{where_to}"))
     }
 
-    /// It was made by an earlier call, whose answer may have been lost.
+    /// The answer if an earlier call made it, whose answer may have been lost.
     pub(super) fn was_there(&self, who: &str, at: i64) -> Told {
         let at = utc(at.unsigned_abs());
         Told::Done(match self.late_key.as_str() {
@@ -290,7 +293,7 @@ mod tests {
         ] {
             assert_eq!(closed.counted_in(period(hour).from), period(counted).from, "{hour}");
         }
-        // By a clock that was set back, also to before all that is closed.
+        // The clock was set back, also to before all that is closed.
         for now in ["2026-10-31T23", "2026-09-15T07", "1970-01-01T00"] {
             let back = Closed { now: period(now).from, ..closed.clone() };
             assert_eq!(back.counted_in(period("2026-10-01T00").from), period("2026-12-02T00").from, "{now}");

@@ -1,22 +1,23 @@
-//! A request without points that says where series end from now on (`totxegun rewind`).
+//! A request without points that moves the ends of series back (`totxegun rewind`).
 //!
-//! It stands in the outbox behind all that was forwarded of these series before, and ahead of all that is forwarded after. So
-//! a sink rewinds them once and in its place, also after a kill, or after hours in which it was away.
+//! In the outbox it comes after everything that was forwarded of these series before, and before everything that is
+//! forwarded later. So a sink rewinds them once and at the right place, even after a kill or after hours without a
+//! connection.
 
 use crate::otlp::series::SeriesKey;
 use serde::{Deserialize, Serialize};
 use serde_json::json;
 
-/// How a body begins and ends that is one; the book's own begin with `resourceMetrics`.
+/// How the body of a rewind begins and ends. The book's own requests begin with `resourceMetrics`.
 const BEGIN: &str = r#"{"rewind":"#;
 const END: &str = r#","resourceMetrics":[]}"#;
-/// The most bytes of keys in one, but for a longer key.
+/// The most bytes of keys in one request, except for a single longer key.
 const LONGEST: usize = if cfg!(test) { 100 } else { 1 << 20 };
 
-/// These series end at this time, in nanoseconds since 1970, where they ended later.
+/// These series end at `to`, in nanoseconds since 1970, if they ended later.
 ///
-/// What a sink counted of them after that stays counted. A point that begins there or later is added: the book takes
-/// each point once, in order, from there on.
+/// What a sink counted of them after `to` stays counted. A point that begins at `to` or later is added, since from
+/// there on the book takes each point once, in order.
 #[derive(Debug, PartialEq, Eq, Serialize, Deserialize)]
 pub struct Rewind {
     pub(super) to: u64,
@@ -24,7 +25,7 @@ pub struct Rewind {
 }
 
 impl Rewind {
-    /// The requests that say it.
+    /// The requests that rewind these series.
     pub fn requests(series: &[SeriesKey], to: u64) -> Vec<Vec<u8>> {
         let (mut requests, mut length) = (Vec::<Rewind>::new(), 0);
         for key in series {
@@ -44,7 +45,7 @@ impl Rewind {
         format!("{BEGIN}{}{END}", json!(self)).into_bytes()
     }
 
-    /// What a request says, where it is one.
+    /// Reads a request. None if it is not a rewind.
     pub(super) fn of(body: &[u8]) -> Option<Rewind> {
         let inner = body.strip_prefix(BEGIN.as_bytes())?.strip_suffix(END.as_bytes())?;
         serde_json::from_slice(inner).ok()

@@ -1,4 +1,4 @@
-//! The machine's root certificates, by which a sink behind TLS is told.
+//! Root certificates by which a sink is trusted, and the certificate that this client shows.
 
 use rustls::{Certificate, ClientConfig, PrivateKey, RootCertStore};
 use rustls_pemfile::Item;
@@ -19,22 +19,22 @@ pub enum NoRoots {
 pub(crate) const NO_NAME: &str =
     "with TLS it needs the name of a host, for which its certificate is, and no IP address";
 
-/// Whether a certificate can be for it: the TLS here knows names alone, also where a certificate has addresses.
+/// Whether a certificate can be for this host: rustls only checks names here, even if a certificate has addresses.
 pub(crate) fn is_name(host: &str) -> bool {
     matches!(host.try_into(), Ok(rustls::ServerName::DnsName(_)))
 }
 
-/// Those of the machine, or of the file in SSL_CERT_FILE.
+/// The roots of the machine, or of the file in SSL_CERT_FILE.
 pub(crate) fn of_machine() -> Result<RootCertStore, NoRoots> {
     of(rustls_native_certs::load_native_certs())
 }
 
-/// The files in PEM by which a client is told apart from others, and tells its server.
+/// Files in PEM by which a client trusts a server, and proves to it who it is.
 #[derive(Clone, Debug, Default, PartialEq, Eq)]
 pub struct ClientFiles {
-    /// Roots that are believed in the place of the machine's.
+    /// Roots that are trusted instead of the machine's.
     pub roots: Option<PathBuf>,
-    /// What is shown to the server.
+    /// The certificate for the server.
     pub certificate: Option<PathBuf>,
     pub key: Option<PathBuf>,
 }
@@ -44,7 +44,7 @@ impl ClientFiles {
         *self == ClientFiles::default()
     }
 
-    /// As the files are now.
+    /// Reads the files as they are now.
     pub(crate) fn client_config(&self) -> Result<ClientConfig, NoRoots> {
         let roots = match &self.roots {
             Some(file) => roots_in(file)?,
@@ -90,7 +90,7 @@ fn roots_in(file: &Path) -> Result<RootCertStore, NoRoots> {
     Ok(roots)
 }
 
-/// A client that believes these roots, and shows no certificate of its own.
+/// A client that trusts these roots, and shows no certificate.
 pub(crate) fn client_config(roots: RootCertStore) -> ClientConfig {
     ClientConfig::builder().with_safe_defaults().with_root_certificates(roots).with_no_client_auth()
 }
@@ -98,7 +98,7 @@ pub(crate) fn client_config(roots: RootCertStore) -> ClientConfig {
 fn of(found: std::io::Result<Vec<rustls_native_certs::Certificate>>) -> Result<RootCertStore, NoRoots> {
     let mut roots = RootCertStore::empty();
     for found in found.map_err(NoRoots::Unreadable)? {
-        // Stores have certificates of forms that rustls does not read. The others do.
+        // Stores have certificates in forms that rustls does not read. The others suffice.
         let _ = roots.add(&Certificate(found.0));
     }
     if roots.is_empty() {

@@ -1,10 +1,10 @@
-//! Hours, days and months since 1970, in UTC: in which an interval counts.
+//! The hours, days and months of UTC since 1970 in which intervals count.
 
 use crate::log::date;
 
 pub(super) const HOUR_NS: u64 = 3_600_000_000_000;
 
-/// The hour in which an interval counts that ends then: one that ends at a full hour, in the hour before.
+/// The hour in which an interval counts that ends at `end_ns`. If that is a full hour, it is the hour before.
 pub(super) fn hour_of(end_ns: u64) -> i64 {
     (end_ns.saturating_sub(1) / HOUR_NS) as i64
 }
@@ -18,7 +18,7 @@ pub(super) fn month_of(day: i64) -> i64 {
     (year * 12 + month - 1) as i64 - 1970 * 12
 }
 
-/// The first hour after the month of this one.
+/// The first hour after the month of this hour.
 pub(super) fn after_month(hour: i64) -> i64 {
     let month = month_of(day_of(hour));
     let days = (day_of(hour)..).take_while(|day| month_of(*day) == month).count();

@@ -1,4 +1,4 @@
-//! The file of settings, by the program: what comes before what, what is refused, and what is not shown.
+//! Tests the file of settings with the program: what comes before what, what is refused, and what is not shown.
 
 use super::{program, refused, totxegun};
 
@@ -12,7 +12,7 @@ fn written(text: &str) -> (tempfile::TempDir, String) {
     (folder, path)
 }
 
-/// The command line before the environment, and that before the file.
+/// The command line wins over the environment, and the environment over the file.
 #[test]
 fn each_value_is_shown_with_where_it_comes_from() {
     let (_folder, path) = written(FILE);

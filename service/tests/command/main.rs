@@ -1,4 +1,4 @@
-//! The command line, by the program itself: what it prints, and the status that it ends with.
+//! Tests the command line with the program itself: what it prints, and the status with which it ends.
 
 mod config;
 mod tokens;
@@ -27,7 +27,7 @@ fn refused(words: &[&str], status: i32, part: &str) {
     assert!(text.contains(part), "{words:?}: {text}");
 }
 
-/// As behind `| head -c 0`.
+/// As before `| head -c 0`.
 #[test]
 fn who_reads_no_further_ends_it_quietly() {
     let (reader, writer) = std::io::pipe().unwrap();
@@ -186,7 +186,7 @@ fn a_password_of_the_sink_is_not_shown() {
     }
 }
 
-/// Else half a file looks like a bill of no series.
+/// Otherwise half a file would look like a bill without series.
 #[test]
 fn an_export_that_fails_prints_nothing() {
     let export = ["export", "--month", "2026-11", "--csv"];
@@ -196,7 +196,7 @@ fn an_export_that_fails_prints_nothing() {
     refused(&[&export[..], &["--data", "/nowhere"]].concat(), 1, "give the sink by --sink");
 }
 
-/// Connections on which nobody posts would else take the files that the journal needs.
+/// Otherwise idle connections could take the files that the journal needs.
 #[test]
 fn few_open_files_are_few_connections() {
     let folder = tempfile::tempdir().unwrap();
@@ -215,7 +215,7 @@ fn few_open_files_are_few_connections() {
     }
 }
 
-/// It may be gigabytes of what senders sent.
+/// The copy may have gigabytes of what senders sent.
 #[test]
 fn an_interrupt_leaves_no_copy_of_a_folder() {
     use nix::sys::signal::{kill, Signal};
@@ -227,7 +227,7 @@ fn an_interrupt_leaves_no_copy_of_a_folder() {
     )
     .unwrap();
     std::fs::create_dir(data.path().join("dead-letters")).unwrap();
-    // Who copies it waits for somebody who writes.
+    // Copying this file waits for somebody who writes to it.
     let pipe = data.path().join("dead-letters/0-a-1.json");
     nix::unistd::mkfifo(&pipe, nix::sys::stat::Mode::from_bits_truncate(0o600)).unwrap();
     for signal in [Signal::SIGINT, Signal::SIGTERM] {

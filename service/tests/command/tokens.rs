@@ -1,8 +1,8 @@
-//! Tokens on the command line: they are made, given, and never shown again.
+//! Tests tokens on the command line: they are made, given, and never shown again.
 
 use super::totxegun;
 
-/// As `totxegun token NAME 2> FILE` makes one.
+/// `totxegun token NAME 2> FILE` makes such a file.
 #[test]
 fn a_file_of_more_than_a_token_is_refused_without_showing_it() {
     let at = tempfile::tempdir().unwrap();

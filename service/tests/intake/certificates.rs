@@ -1,4 +1,4 @@
-//! Certificates of `openssl`, and clients that show them.
+//! Certificates made by `openssl`, and clients that show them.
 
 use std::path::Path;
 use std::process::{Command, Stdio};
@@ -20,19 +20,19 @@ pub fn openssl(at: &Path, words: &[&str]) {
 
 const KEY: [&str; 5] = ["-newkey", "ec", "-pkeyopt", "ec_paramgen_curve:prime256v1", "-nodes"];
 
-/// NAME.pem and NAME.key of a root.
+/// Makes NAME.pem and NAME.key of a root.
 pub fn root(at: &Path, name: &str) {
     root_that_says(at, name, name);
 }
 
-/// The same, with a subject that need not be its name.
+/// The same, with a subject that may differ from its name.
 pub fn root_that_says(at: &Path, name: &str, subject: &str) {
     let (key, chain, subject) = (format!("{name}.key"), format!("{name}.pem"), format!("/CN={subject}"));
     let words = ["req", "-x509", "-keyout", &key, "-out", &chain, "-subj", &subject, "-days", "20"];
     openssl(at, &[&words[..], &KEY].concat());
 }
 
-/// NAME.pem and NAME.key, signed by a root, for so many days.
+/// Makes NAME.pem and NAME.key, signed by a root, for this many days.
 pub fn signed(at: &Path, root: &str, name: &str, days: &str) {
     std::fs::write(at.join("names"), format!("subjectAltName=DNS:{name}\nbasicConstraints=CA:FALSE\n"))
         .unwrap();
@@ -44,12 +44,12 @@ pub fn signed(at: &Path, root: &str, name: &str, days: &str) {
     openssl(at, &[&words[..], &["-extfile", "names", "-days", days, "-out", &chain]].concat());
 }
 
-/// Of `openssl ca`, which alone says to the second when a certificate ends.
+/// Settings of `openssl ca`, the only command that sets the end of a certificate to the second.
 const TO_THE_SECOND: &str =
     "[ca]\ndefault_ca=d\n[d]\nnew_certs_dir=.\ndatabase=index\nrand_serial=yes\ndefault_md=sha256\n\
     policy=p\n[p]\ncommonName=optional\n";
 
-/// NAME.pem and NAME.key, signed by a root, for so many seconds from now.
+/// Makes NAME.pem and NAME.key, signed by a root, valid for this time from now on.
 pub fn signed_for(at: &Path, root: &str, name: &str, time: Duration) {
     signed(at, root, name, "20");
     std::fs::write(at.join("to-the-second"), TO_THE_SECOND).unwrap();
@@ -64,7 +64,7 @@ pub fn signed_for(at: &Path, root: &str, name: &str, time: Duration) {
     openssl(at, &[&words[..], &times, &["-extfile", "names", "-in", &asked, "-out", &chain]].concat());
 }
 
-/// A folder with the root `ca` and the certificate `localhost`.
+/// Makes a folder with the root `ca` and the certificate `localhost`.
 pub fn folder() -> tempfile::TempDir {
     let at = tempfile::tempdir().unwrap();
     root(at.path(), "ca");
@@ -72,7 +72,7 @@ pub fn folder() -> tempfile::TempDir {
     at
 }
 
-/// TLS by that certificate; with roots of senders, and tokens, where these files are named.
+/// TLS with that certificate; with roots for senders, and tokens, if these files are named.
 pub fn door(at: &Path, client_ca: Option<&str>, tokens: Option<&str>) -> Door {
     let tls = Files {
         named: Named::OF_SENDERS,
@@ -91,12 +91,12 @@ fn chain(at: &Path, name: &str) -> Vec<rustls::Certificate> {
     found.into_iter().map(rustls::Certificate).collect()
 }
 
-/// A client that believes a root, and may show a certificate.
+/// A client that trusts a root, and may show a certificate.
 pub fn client(at: &Path, root: &str, shown: Option<&str>) -> rustls::ClientConfig {
     client_of(rustls::DEFAULT_VERSIONS, at, root, shown)
 }
 
-/// The same that speaks some versions of TLS alone.
+/// The same with only these versions of TLS.
 pub fn client_of(
     versions: &[&'static rustls::SupportedProtocolVersion],
     at: &Path,

@@ -1,4 +1,4 @@
-//! Connections as senders treat them: in pieces, many requests at once, half closed, gone.
+//! Tests connections as senders use them: in pieces, with many requests at once, half closed, and gone.
 
 use crate::support::{json, post, Served, BODY, LATE};
 use std::time::Duration;
@@ -155,15 +155,15 @@ async fn a_sender_that_asks_for_the_end_gets_it_behind_its_answer() {
     assert!(late.ends().await, "whether the body comes is not known");
 }
 
-/// Else it would keep its place from who waits for one.
+/// Otherwise it would keep its place while another sender waits for one.
 #[tokio::test]
 async fn a_sender_that_does_not_read_its_answer_is_closed_where_another_waits() {
     let limits = Limits {
         connections: 1,
-        head: Duration::from_secs(8), // who reads has two seconds
+        head: Duration::from_secs(8), // a sender has two seconds for reading
         idle: Duration::from_secs(600),
     };
-    // More than the system keeps for a sender that keeps little itself.
+    // More than the system buffers for a sender that buffers little itself.
     let long = Outcome::refused(Reason::Unreadable, "x".repeat(8 << 20));
     let served = Served::limited(limits, LATE, long, 64 << 20).await;
     let deaf = tokio::net::TcpSocket::new_v4().unwrap();

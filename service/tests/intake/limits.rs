@@ -1,4 +1,4 @@
-//! Bytes, times and connections that are bounded, and the end.
+//! Tests limits of bytes, times and connections, and the end of the service.
 
 use crate::support::{gzip, json, post, Served, BODY, LATE, PATIENCE};
 use std::time::{Duration, Instant};
@@ -59,7 +59,7 @@ async fn a_slow_head_and_a_slow_body_are_ended() {
     assert!(idle.ends().await);
 }
 
-/// Else its sender could take 503 for the answer to its next request.
+/// Otherwise its sender could take the 503 for the answer to its next request.
 #[tokio::test]
 async fn an_empty_line_behind_a_body_is_no_head_that_is_slow() {
     let served = Served::impatient().await;
@@ -88,7 +88,7 @@ async fn a_cut_body_is_no_post() {
     assert_eq!(served.budget.used(), 0);
 }
 
-/// It repeats the post: so nothing of it is lost, and nobody has to do anything.
+/// The sender repeats the post, so nothing is lost, and nobody has to do anything.
 #[tokio::test]
 async fn a_sender_that_goes_away_within_a_body_is_no_malformed_request() {
     let served = Served::start().await;
@@ -137,7 +137,7 @@ async fn what_is_over_the_bytes_of_all_posts_is_refused_for_good() {
     }
 }
 
-/// Else a few would keep all others out, for as long as a body may take.
+/// Otherwise a few senders would keep all others out, for as long as a body may take.
 #[tokio::test]
 async fn bodies_that_come_slowly_leave_the_memory_to_others() {
     let (most, quarter) = (4 << 20, 1 << 20);
@@ -195,7 +195,7 @@ async fn idle_connections_leave_their_places_to_those_that_wait() {
     assert!(begun.elapsed() < 2 * patience, "alone it is kept for {:?}", 3 * patience);
 }
 
-/// Else who posts pays for who only holds a place.
+/// Otherwise senders that post would suffer from those that only hold a place.
 #[tokio::test]
 async fn who_idles_leaves_a_place_before_who_posts() {
     let limits = Limits { connections: 4, head: Duration::from_secs(60), idle: Duration::from_secs(600) };

@@ -1,4 +1,5 @@
-//! The senders' address, by a client that writes bytes: what goes on to a slot, what is answered, and in which kind.
+//! Tests the senders' address by a client that writes bytes: what is passed on to a shard, what is answered, and in
+//! which encoding.
 
 mod certificates;
 mod connections;

@@ -1,4 +1,4 @@
-//! Who a sender is: by its certificate, by its token, and what it may call itself.
+//! Tests who a sender is: by its certificate, by its token, and by what it may call itself.
 
 use crate::certificates::{client, client_of, door, folder, root, root_that_says, signed, signed_for};
 use crate::support::{post, Answer, Client, Served, BODY};
@@ -9,7 +9,7 @@ use tokio::io::{AsyncRead, AsyncWrite};
 use totxegun::identity::{AllowedHosts, Door};
 use totxegun::metrics::Metrics;
 
-/// By `printf t0ken-N | sha256sum`.
+/// Digests of tokens, by `printf t0ken-N | sha256sum`.
 const OF_1: &str = "sha256:8380bfcbf4fc84857bd24cfcd1f2632ffb6185c54aaf33d2d2ad4fb2468b7611";
 const OF_2: &str = "sha256:626baab8982f0eaad4934ff0d77a6ae4f31731db88ab5d67f126b03cf8a72931";
 
@@ -27,7 +27,7 @@ fn tokens(at: &Path, text: &str) {
     std::fs::write(at.join("tokens"), text).unwrap();
 }
 
-/// The headers of a post, the status of its answer, and what its text has.
+/// The headers of a post, the status of its answer, and a part of its text.
 const OF_TOKENS: [(&str, u16, &str); 16] = [
     ("Authorization: Bearer t0ken-1\r\n", 200, ""),
     ("authorization: bearer  t0ken-1\r\nx-sender: shop-1\r\n", 200, ""),
@@ -81,7 +81,7 @@ async fn a_token_that_is_taken_out_stops_within_a_second() {
         tokio::time::sleep(Duration::from_millis(10)).await;
     }
     assert_eq!((of("t0ken-1").await, of("t0ken-2").await), (401, 200));
-    // An editor that empties the file before it writes must refuse nobody.
+    // An editor that empties the file before it writes must not cause refusals.
     tokens(at.path(), "");
     tokio::time::sleep(Duration::from_millis(50)).await;
     tokens(at.path(), &format!("# shops\nshop-2 {OF_2}\n"));
@@ -90,7 +90,7 @@ async fn a_token_that_is_taken_out_stops_within_a_second() {
         assert_eq!(of("t0ken-2").await, 200);
         tokio::time::sleep(Duration::from_millis(10)).await;
     }
-    // The last one is as the others.
+    // Removing the last token works like removing another.
     tokens(at.path(), "# shops\n");
     let begun = Instant::now();
     while of("t0ken-2").await == 200 {
@@ -122,7 +122,7 @@ async fn a_certificate_names_its_sender() {
     assert_eq!(senders(&served), ["shop-1", "shop-1", "shop-1", "shop-7", "shop-2"]);
 }
 
-/// Else a web page whose own name is made to mean this machine has a browser post under any name.
+/// Otherwise, by DNS rebinding, a web page could have a browser post under any name.
 #[tokio::test]
 async fn who_proves_nothing_posts_to_a_name_of_ours() {
     let hosts = || AllowedHosts::new(["box-1:4318".to_string(), "totxegun".to_string()]);
@@ -151,7 +151,7 @@ async fn who_proves_nothing_posts_to_a_name_of_ours() {
             answer.message()
         );
     }
-    // A page knows no token.
+    // A page knows no token, so with tokens any host will do.
     let at = folder();
     tokens(at.path(), &format!("shop-1 {OF_1}\n"));
     let metrics = Arc::new(Metrics::new().unwrap());
@@ -162,7 +162,7 @@ async fn who_proves_nothing_posts_to_a_name_of_ours() {
     assert_eq!(served.ask(by_token.as_bytes()).await.status, 200);
 }
 
-/// Its lines say what those may have who show one: nobody needs a token.
+/// The lines set quotas for senders with certificates. Nobody needs a token.
 #[tokio::test]
 async fn a_file_of_shares_alone_lets_certificates_in() {
     let at = folder();
@@ -173,7 +173,7 @@ async fn a_file_of_shares_alone_lets_certificates_in() {
     assert_eq!(asked(&mut shop, "").await.status, 200);
 }
 
-/// Else an operator is told of nobody, or of the first one alone.
+/// Otherwise an operator would read no name, or only the first one.
 #[tokio::test]
 async fn who_is_refused_is_told_by_the_name_that_is_known() {
     let at = folder();
@@ -220,7 +220,7 @@ async fn certificates_of_strangers_end_the_handshake() {
         (None, false),
     ] {
         let config = client(at.path(), "ca", shown);
-        // With TLS 1.3 the client is done before it is refused: it is told by the first that it reads.
+        // With TLS 1.3 the client has finished the handshake before it is refused: it learns that when it first reads.
         let is_taken = match served.secure(config).await {
             Err(_) => false,
             Ok(mut client) => {
@@ -232,7 +232,7 @@ async fn certificates_of_strangers_end_the_handshake() {
     assert_eq!(senders(&served), ["sound"]);
 }
 
-/// A session that is resumed shows no certificate, and has the name that the first handshake proved.
+/// A resumed session shows no certificate, and would have the name that the first handshake proved.
 #[tokio::test]
 async fn a_certificate_that_has_ended_posts_no_more_by_an_earlier_session() {
     let at = folder();
@@ -255,7 +255,8 @@ async fn a_certificate_that_has_ended_posts_no_more_by_an_earlier_session() {
     }
 }
 
-/// Else all ways through thirty of one name are tried, on the one thread of handshakes, and nobody gets in any more.
+/// Otherwise all paths through thirty certificates of one name would be tried on the only thread for handshakes, and
+/// nobody could connect any more.
 #[tokio::test]
 async fn a_long_chain_of_a_stranger_is_refused_at_once() {
     let at = folder();
@@ -305,7 +306,7 @@ async fn a_root_that_is_taken_out_ends_its_certificates() {
     let answer = asked(&mut second, "").await;
     assert!(answer.status == 401 && answer.message().contains("certificate"), "{answer:?}");
     assert_eq!(asked(&mut first, "").await.status, 200);
-    // The last one is as the others, for who is there and for who comes.
+    // Removing the last root works like removing another, for open connections and for new ones.
     std::fs::write(at.path().join("roots"), "").unwrap();
     let begun = Instant::now();
     while asked(&mut first, "").await.status == 200 {

@@ -1,11 +1,11 @@
-//! What is a post, and what is answered.
+//! Tests what is a post, and what is answered.
 
 use crate::support::{gzip, json, post, Served, BODY};
 use bytes::Bytes;
 use prost::Message;
 use totxegun::otlp::{Outcome, Reason};
 
-/// `google.rpc.Status`, as far as it is answered.
+/// The fields of `google.rpc.Status` that answers have.
 #[derive(Clone, PartialEq, Message)]
 struct Status {
     #[prost(int32, tag = "1")]
@@ -156,7 +156,7 @@ async fn what_a_slot_says_is_answered() {
     assert_eq!(read["partialSuccess"]["rejectedDataPoints"], "7");
 }
 
-/// Else its bytes would be read as the beginning of the next answer.
+/// Otherwise its bytes would be read as the beginning of the next answer.
 #[tokio::test]
 async fn an_answer_to_head_has_no_body() {
     let served = Served::start().await;
@@ -172,7 +172,8 @@ async fn an_answer_to_head_has_no_body() {
     assert!(second.starts_with("HTTP/1.1 200 "), "{second}");
 }
 
-/// An empty body of protobuf is a request of no points: 200 would say that those behind the head were taken.
+/// An empty body of protobuf is a request without points. If the length is missing, 200 would say that the points after
+/// the head were taken.
 #[tokio::test]
 async fn a_post_says_how_long_its_body_is() {
     let served = Served::start().await;

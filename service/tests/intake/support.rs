@@ -18,14 +18,14 @@ use totxegun::otlp::{Original, Outcome, Reading};
 use totxegun::slot::{Request, Slots};
 
 pub const BODY: &str = r#"{"resourceMetrics":[]}"#;
-/// For tests of what is late; all others have time, also on a busy machine.
+/// Time limits: `LATE` for tests of slow senders; all others have time enough even on a busy machine.
 pub const LATE: Duration = Duration::from_millis(400);
 pub const PATIENCE: Duration = Duration::from_secs(30);
 
-/// Keeps what it is given, and answers as it was told.
+/// Keeps the posts that it gets, and gives the answer that it was told to give.
 pub struct Kept {
     pub posts: Mutex<Vec<(String, Bytes)>>,
-    /// Whose requests were answered without asking, and how.
+    /// The senders of requests that were answered without asking, with the answers.
     pub turned: Mutex<Vec<(String, u16, String)>>,
     pub outcome: Outcome,
 }
@@ -71,7 +71,7 @@ impl Served {
         Served::within(PATIENCE, outcome, max_bytes, connections).await
     }
 
-    /// Who is slower than `LATE` is not waited for.
+    /// An intake that does not wait for senders slower than `LATE`.
     pub async fn impatient() -> Served {
         Served::within(LATE, Outcome::taken(0), 64 << 20, 8).await
     }
@@ -127,7 +127,7 @@ impl Served {
         Client { stream: TcpStream::connect(self.address).await.unwrap(), read: Vec::new() }
     }
 
-    /// One request on a connection of its own.
+    /// Sends one request on a connection of its own.
     pub async fn ask(&self, request: &[u8]) -> Answer {
         let mut client = self.client().await;
         client.write(request).await;
@@ -171,7 +171,7 @@ impl<S: AsyncRead + AsyncWrite + Unpin> Client<S> {
         self.stream.write_all(bytes).await.unwrap();
     }
 
-    /// Reads until `until` is found in what was read. False where the connection ends before.
+    /// Reads until `until` is found in what was read. False if the connection ends before.
     pub async fn more(&mut self) -> bool {
         let mut part = [0; 4096];
         let reading = tokio::time::timeout(Duration::from_secs(20), self.stream.read(&mut part));
@@ -204,7 +204,7 @@ impl<S: AsyncRead + AsyncWrite + Unpin> Client<S> {
         Answer { status, head, body: self.read.drain(..length).collect() }
     }
 
-    /// Whether a request is answered 200, where the connection may end before.
+    /// Whether a request is answered 200. The connection may end before.
     pub async fn takes(&mut self, request: &[u8]) -> bool {
         if self.stream.write_all(request).await.is_err() {
             return false;
@@ -217,7 +217,7 @@ impl<S: AsyncRead + AsyncWrite + Unpin> Client<S> {
         true
     }
 
-    /// Whether the connection ends without a further byte.
+    /// Whether the connection ends without another byte.
     pub async fn ends(&mut self) -> bool {
         self.read.is_empty() && !self.more().await
     }

@@ -1,4 +1,5 @@
-//! TLS at the senders' address: answers as without it, handshakes that stall, and certificates that change.
+//! Tests TLS at the senders' address: answers are those of plain HTTP, handshakes may stall, and certificates may
+//! change.
 
 use crate::certificates::{client, door, folder, root, signed};
 use crate::support::{gzip, json, post, Client, Served, BODY, LATE};
@@ -19,7 +20,7 @@ impl Served {
         self.secure_to("localhost", config).await
     }
 
-    /// A connection to who shows a certificate for this name.
+    /// Connects to a server that shows a certificate for this name.
     async fn secure_to(
         &self,
         name: &str,
@@ -33,7 +34,7 @@ impl Served {
     }
 }
 
-/// The status and the text of an answer, but for its date.
+/// The status and the text of an answer, without its date.
 async fn said<S: tokio::io::AsyncRead + tokio::io::AsyncWrite + Unpin>(
     client: &mut Client<S>,
     request: &[u8],
@@ -44,7 +45,7 @@ async fn said<S: tokio::io::AsyncRead + tokio::io::AsyncWrite + Unpin>(
     (lines.collect::<Vec<_>>().join("\n"), answer.body)
 }
 
-/// Posts, and framing that may be read in two ways.
+/// Posts, and requests whose framing is ambiguous.
 fn requests() -> Vec<Vec<u8>> {
     let head = "POST /v1/metrics HTTP/1.1\r\nHost: a\r\nContent-Type: application/json\r\n";
     let chunked = "Transfer-Encoding: chunked\r\n";
@@ -91,7 +92,7 @@ async fn answers_over_tls_are_those_without() {
     assert_eq!(kept.answer().await.status, 200);
 }
 
-/// Whether `openssl s_client` makes a handshake with these words.
+/// Whether `openssl s_client` completes a handshake with these arguments.
 fn connects(served: &Served, words: &[&str]) -> bool {
     let address = served.address.to_string();
     let done = Command::new("openssl")
@@ -121,7 +122,7 @@ async fn tls_1_2_and_1_3_are_spoken_for_http_1_1() {
     assert!(wrong_name.is_err(), "a client sees that it is somebody else's certificate");
 }
 
-/// So many connections whose handshakes stall: of every other one the beginning of a ClientHello has come.
+/// Opens connections whose handshakes stall. Every other one has sent the beginning of a ClientHello.
 async fn stalled(served: &Served, count: usize) -> Vec<TcpStream> {
     let mut stalled = Vec::new();
     for number in 0..count {
@@ -166,7 +167,7 @@ async fn a_handshake_that_stalls_leaves_its_place_to_who_waits() {
     let at = folder();
     let served = Served::behind_with(door(at.path(), None, None), with_places(4)).await;
     let _stalled = stalled(&served, 24).await;
-    // Each of the 24 has a second of one of the four places.
+    // Each of the 24 takes one of the four places for a second.
     let came =
         tokio::time::timeout(Duration::from_secs(20), served.secure(client(at.path(), "ca", None))).await;
     let mut client = came.expect("it comes to its turn").unwrap();
@@ -187,16 +188,16 @@ async fn a_handshake_has_ten_seconds() {
     assert!(begun.elapsed() > Duration::from_secs(8));
 }
 
-/// Else it would have its place for ever: TLS still has a part of the answer, and sends it before the end.
+/// Otherwise it would keep its place for ever: TLS still has a part of the answer, which it sends before the end.
 #[tokio::test]
 async fn a_sender_that_does_not_read_its_answer_leaves_its_place() {
     let at = folder();
     let limits = Limits {
         connections: 1,
-        head: Duration::from_secs(8), // who reads has two seconds
+        head: Duration::from_secs(8), // a sender has two seconds for reading
         idle: Duration::from_secs(600),
     };
-    // More than the system keeps for a sender that keeps little itself.
+    // More than the system buffers for a sender that buffers little itself.
     let long = Outcome::refused(Reason::Unreadable, "x".repeat(8 << 20));
     let served = Served::all(door(at.path(), None, None), limits, LATE, long, 64 << 20).await;
     let deaf = TcpSocket::new_v4().unwrap();
@@ -214,11 +215,12 @@ async fn a_sender_that_does_not_read_its_answer_leaves_its_place() {
     drop(deaf);
 }
 
-/// Posts on connections of its own, until the new certificate is used: how many posts were taken.
+/// Posts on connections of its own until the new certificate is used. Returns how many posts were taken.
 async fn posts_until_new(served: Arc<Served>, old: rustls::ClientConfig, new: rustls::ClientConfig) -> usize {
     let (mut taken, mut is_new) = (0, false);
     while !is_new {
-        // Who believes the old one alone is told no later than at its handshake: nothing was posted then.
+        // A client that trusts only the old certificate learns of the change in its handshake at the latest, before it
+        // posts.
         let mut client = match served.secure(old.clone()).await {
             Ok(client) => client,
             Err(_) => {
@@ -232,7 +234,7 @@ async fn posts_until_new(served: Arc<Served>, old: rustls::ClientConfig, new: ru
     taken
 }
 
-/// Each of many connections posts once, while certificate and key are exchanged one after the other.
+/// Each of many connections posts once while the certificate and then its key are replaced.
 #[tokio::test(flavor = "multi_thread", worker_threads = 2)]
 async fn a_new_certificate_is_used_and_no_post_is_lost() {
     let at = folder();
@@ -250,7 +252,7 @@ async fn a_new_certificate_is_used_and_no_post_is_lost() {
     }
     signed(&path.join("made"), "new", "localhost", "20");
     std::fs::copy(path.join("made/localhost.pem"), path.join("localhost.pem")).unwrap();
-    tokio::time::sleep(Duration::from_millis(700)).await; // the key is not that of the certificate meanwhile
+    tokio::time::sleep(Duration::from_millis(700)).await; // meanwhile the key is not that of the certificate
     assert!(!load.is_finished());
     std::fs::copy(path.join("made/localhost.key"), path.join("localhost.key")).unwrap();
     let taken = tokio::time::timeout(Duration::from_secs(10), load).await.expect("it is used").unwrap();

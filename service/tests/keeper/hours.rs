@@ -1,4 +1,5 @@
-//! Hours are kept apart, over checkpoints, quarantines, kills and starts: by hour the sums are those of the posts.
+//! Tests that hours are kept apart over checkpoints, quarantines, kills and starts: by hour, the sums are those of the
+//! posts.
 
 use crate::numbered::{points, post_by_number, Chance};
 use crate::support::{all, message, sums, text, Place, Run};
@@ -14,10 +15,10 @@ const HOUR: u64 = 3_600_000_000_000;
 const SENDERS: u64 = 3;
 const SERIES: u64 = 4;
 
-/// By the metric's name and the hour in which it ends.
+/// By the metric's name and the hour in which a point ends.
 type Sums = BTreeMap<(String, u64), i64>;
 
-/// Takes all that waits, as a sink does. A series' spans have to follow one another, each within an hour.
+/// Takes all that waits, like a sink. The intervals of a series have to follow one another, each within an hour.
 async fn deliver(outbox: &Outbox, sums: &mut Sums, last: &mut BTreeMap<String, u64>) {
     while outbox.waiting().0 > 0 {
         let (waiting, body) = outbox.first().await.unwrap();
@@ -36,7 +37,7 @@ async fn deliver(outbox: &Outbox, sums: &mut Sums, last: &mut BTreeMap<String, u
 
 #[derive(Default)]
 struct Model {
-    /// Of each series where it ends.
+    /// The end of each series.
     ends: BTreeMap<String, u64>,
     sums: Sums,
     quarantined: BTreeSet<String>,
@@ -44,7 +45,7 @@ struct Model {
 }
 
 impl Model {
-    /// One point of each series, or of each of several hours; they begin a second before they end.
+    /// Draws one point of a series, or one for each of several hours. Points begin a second before they end.
     fn draw(&mut self, sender: &str, chance: &mut Chance) -> Vec<(String, u64, u64, i64)> {
         let hours = match chance.below(4) {
             0 => 2 + chance.below(24),
@@ -58,7 +59,7 @@ impl Model {
             for _ in 0..hours {
                 end += 1_000_000_000 * (2 + chance.below(if hours > 1 { 4000 } else { 900 }));
                 if (end - 1_000_000_000) / HOUR != (end - 1) / HOUR {
-                    end += 1_000_000_000; // else the point itself is of two hours
+                    end += 1_000_000_000; // otherwise the point itself would span two hours
                 }
                 post.push((name.clone(), end - 1_000_000_000, end, 1 + chance.below(50) as i64));
             }
@@ -133,7 +134,7 @@ async fn each_hour_has_what_was_posted_of_it() {
     }
 }
 
-/// Else each right point of its series is refused until that time has come.
+/// Otherwise each right point of its series would be refused until that time has come.
 #[tokio::test(flavor = "multi_thread")]
 async fn a_point_of_a_clock_ahead_is_left_out() {
     const SECOND: u64 = 1_000_000_000;
@@ -160,7 +161,7 @@ async fn a_point_of_a_clock_ahead_is_left_out() {
     }
     let next = points(&[point("a", now + 2 * SECOND), point("b", now), point("c", now + 2 * SECOND)]);
     assert_eq!(post_by_number(&run, "s", next.clone(), &reading).await, all());
-    // The places of refusals are those of the request.
+    // The indexes of refused points are those in the request.
     let other = points(&[point("d", now + YEAR), point("d", now), point("a", now + 4 * SECOND)]);
     let refused = post_by_number(&run, "t", other, &reading).await;
     let Outcome::Taken { rejected, parts, .. } = &refused else { panic!("{refused:?}") };

@@ -1,4 +1,4 @@
-//! Slot and keeper over files on disk, with the book that is linked in.
+//! Tests a shard with its keeper over files on disk, with the book that is linked in.
 
 mod hours;
 mod numbered;

@@ -1,5 +1,5 @@
-//! Posts of both encodings, over checkpoints, quarantines, kills and starts: the journal has them by number, and what an earlier
-//! version has written as a text goes on.
+//! Tests posts of both encodings over checkpoints, quarantines, kills and starts: the journal has their points by
+//! number, and texts that an earlier version has written still work.
 
 use crate::support::{all, message, point, text, Place, Run};
 use bytes::Bytes;
@@ -12,10 +12,10 @@ use totxegun::otlp::{Outcome, Reading};
 
 const SENDERS: u64 = 4;
 const SERIES: u64 = 6;
-/// Points have less, but for those that nobody takes.
+/// The greatest value of a point that is drawn. Points with more are those that nobody takes.
 const MOST_VALUE: i64 = 50;
 
-/// A small generator: the same numbers in each run.
+/// A small generator, with the same numbers in each run.
 pub struct Chance(pub u64);
 
 impl Chance {
@@ -33,7 +33,7 @@ fn fixed64(number: u8, bits: u64) -> Vec<u8> {
     [&[number << 3 | 1][..], &bits.to_le_bytes()].concat()
 }
 
-/// The same in protobuf as `point` in JSON, of several series.
+/// The same as `point` has in JSON, in protobuf and for several series.
 pub fn points(series: &[(String, u64, u64, i64)]) -> Bytes {
     let metrics = series.iter().flat_map(|(name, start, end, value)| {
         let point = [fixed64(2, *start), fixed64(3, *end), fixed64(6, *value as u64)].concat();
@@ -48,12 +48,12 @@ pub async fn post_by_number(run: &Run, sender: &str, body: Bytes, reading: &Arc<
     run.slot.request(sender.into(), numbered.into()).await
 }
 
-/// What is known of what was taken.
+/// What is known of the points that were taken.
 #[derive(Default)]
 struct Model {
-    /// Of each series where it ends, and its sum.
+    /// The end and the sum of each series.
     series: BTreeMap<String, (u64, i64)>,
-    /// The last point of each: its start and its value.
+    /// The last point of each series: its start and its value.
     last: BTreeMap<String, (u64, i64)>,
     quarantined: BTreeSet<String>,
     in_protobuf: usize,
@@ -86,7 +86,7 @@ impl Model {
         }
     }
 
-    /// What was taken is not taken again, and answered as the first time, in either encoding; what is late is refused.
+    /// Repeats are not taken again, and get the answer of the first time, in either encoding; late points are refused.
     async fn repeats_are_known(&self, run: &Run, reading: &Arc<Reading>) {
         for (name, (end, _)) in &self.series {
             let sender = name.split('-').next().unwrap();
@@ -154,7 +154,7 @@ async fn what_was_taken_in_both_encodings_is_forwarded_once() {
     }
 }
 
-/// What the journal has that is in no group.
+/// The posts of the journal that are in no group.
 fn in_journal(place: &Place) -> Vec<Replayed> {
     let (journal, outbox) = folder(place).slot().unwrap();
     let mut found = Vec::new();
@@ -195,16 +195,16 @@ async fn points_of_both_encodings_are_in_the_journal_by_number() {
         Body::Points(points) => points.each().map(<[u64]>::to_vec).collect(),
         Body::Text(_) => panic!("{read:?}"),
     });
-    let words: Vec<BTreeSet<Vec<u64>>> = words.collect(); // of a text it is book by book
+    let words: Vec<BTreeSet<Vec<u64>>> = words.collect(); // a text has them book by book
     assert_eq!(words[0], [[0, 10, 20, 5], [1, 10, 20, -6i64 as u64]].map(Vec::from).into());
-    // The series of the text have the numbers that they had.
+    // The series of the text have the same numbers as before.
     assert_eq!(words[1], [[0, 20, 30, 7], [1, 20, 30, 8], [2, 20, 30, 9]].map(Vec::from).into());
     let name = |number, name: &str| (number, name.to_string());
     assert_eq!(named(&found[0]), [name(0, "a"), name(1, "b")]);
     assert_eq!(named(&found[1]), [name(2, "c")]);
 }
 
-/// It had each post in JSON as its text.
+/// That version wrote each post in JSON as its text.
 #[tokio::test(flavor = "multi_thread")]
 async fn texts_that_an_earlier_version_has_written_go_on() {
     let (place, mut sums) = (Place::new(), BTreeMap::<String, i64>::new());
@@ -239,7 +239,7 @@ async fn texts_that_an_earlier_version_has_written_go_on() {
     assert_eq!(taken.collect::<BTreeMap<_, _>>(), sums);
 }
 
-/// Points of some series, behind all before.
+/// Points of some series, later than all before.
 fn drawn(chance: &mut Chance, number: u64, sums: &mut BTreeMap<String, i64>) -> Vec<(String, u64, u64, i64)> {
     let first = chance.below(4);
     let points = (first..first + 2).map(|series| {

@@ -1,4 +1,4 @@
-//! Posts, checkpoints, quarantines and starts: what is refused, and what comes out of it.
+//! Tests posts, checkpoints, quarantines and starts: what is refused, and what is forwarded.
 
 use crate::support::{all, message, point, sums, Place, Run};
 use bytes::Bytes;
@@ -36,7 +36,7 @@ async fn posts_and_checkpoints() {
     assert_eq!((sum, spans), (11, vec![(10, 30)]));
 }
 
-/// Also where there are other books, each time.
+/// Even with another number of books at each start.
 #[tokio::test(flavor = "multi_thread")]
 async fn repeats_are_answered_as_the_first_time_over_restarts() {
     let mut place = Place::new();
@@ -125,7 +125,7 @@ fn has_no_fault(run: &Run) {
     }
 }
 
-/// What was taken since the last group may be more than a book adds up at once: then a start takes it in parts.
+/// What was taken since the last group may be more than a book can add up at once. Then a start takes it in parts.
 #[tokio::test(flavor = "multi_thread")]
 async fn a_replay_that_meets_a_limit_makes_room_and_goes_on() {
     let place = Place::new();
@@ -134,7 +134,7 @@ async fn a_replay_that_meets_a_limit_makes_room_and_goes_on() {
     let too_large = run.post("A", point("a", 20, 30, 5)).await;
     assert_eq!(message(&too_large), (503, "too large"));
     run.abort().await;
-    // As where a kill came between a flush and the commit of its group.
+    // As after a kill between a flush and the commit of its group.
     let folder = totxegun::files::Folder::open(&place.data(), totxegun::files::Durability::Process);
     let (journal, outbox) = folder.unwrap().slot().unwrap();
     for (start, value) in [(20, 5), (30, -7)] {
@@ -151,7 +151,7 @@ async fn a_replay_that_meets_a_limit_makes_room_and_goes_on() {
     assert_eq!(sums(&run.stop().await), [("a", i64::MAX - 2)]);
 }
 
-/// Senders that post one after the other until it ends: how many posts each has now, after those that it had.
+/// Senders that post one post after another until `ends`. Returns how many posts each has now, with those that it had.
 async fn load(run: &Arc<Run>, had: &[u64], ends: &Arc<AtomicBool>) -> Vec<u64> {
     let mut tasks = tokio::task::JoinSet::new();
     for (sender, had) in had.iter().copied().enumerate() {
@@ -198,7 +198,7 @@ async fn a_checkpoint_under_load_splits_no_post_and_loses_none() {
         has_no_fault(&run);
         let Ok(run) = Arc::try_unwrap(run) else { panic!("it is in use") };
         if part == 1 {
-            // What is in the journal alone is there at the next start.
+            // The next start has what is in the journal alone.
             run.abort().await;
             continue;
         }
@@ -249,7 +249,7 @@ async fn many_series_are_flushed_and_primed() {
     assert_eq!(taken.values().map(|(sum, _)| sum).sum::<i64>(), 14_000);
 }
 
-/// What identifies its series takes as much as a request may have: it is taken, forwarded and primed.
+/// What identifies the series is as long as a request may be. It is taken, forwarded and seeded.
 #[tokio::test(flavor = "multi_thread")]
 async fn a_series_of_4_mib_is_taken_and_primed() {
     let place = Place::new();

@@ -1,4 +1,4 @@
-//! A slot with its keeper over a folder, and what its outbox has.
+//! A shard with its keeper over a folder, and what its outbox has.
 
 use bytes::Bytes;
 use serde_json::{json, Value as Json};
@@ -19,10 +19,10 @@ use totxegun::slot::{Request, Shared, Slot};
 
 const PATIENCE: Duration = Duration::from_secs(120);
 
-/// A folder.
+/// A folder for a test.
 pub struct Place {
     folder: Option<tempfile::TempDir>,
-    /// How many fit: it may be others at each start.
+    /// The limit of series, which may differ at each start.
     pub max_series: usize,
     /// How far from the service's clock points may end.
     pub clock: Clock,
@@ -46,7 +46,7 @@ impl Place {
     }
 
     pub async fn run_with(&self, settings: Settings) -> Run {
-        // Shown where a test fails.
+        // Shown if a test fails.
         let _ = tracing_subscriber::fmt().with_test_writer().try_init();
         let folder = Folder::open(&self.data(), Durability::Process).unwrap();
         let (journal, outbox) = folder.slot().unwrap();
@@ -73,7 +73,8 @@ impl Place {
     }
 }
 
-/// Where a test fails its folder stays: a keeper that is still at work in it would end the process before that is told.
+/// If a test fails its folder stays. A keeper that still works in it would otherwise end the process before the failure
+/// is reported.
 impl Drop for Place {
     fn drop(&mut self) {
         if std::thread::panicking() {
@@ -102,7 +103,7 @@ impl Run {
         }
     }
 
-    /// Every second post that can be goes by number, as one of protobuf.
+    /// Every second post, if it can be, is sent by number like one of protobuf.
     pub async fn post(&self, sender: &str, body: Bytes) -> Outcome {
         let is_second = self.posts.fetch_add(1, Ordering::Relaxed) % 2 == 1;
         let by_number = in_protobuf(&body).filter(|_| is_second);
@@ -115,7 +116,7 @@ impl Run {
         self.orders.order(order).await.expect("it is ending")
     }
 
-    /// How many requests a checkpoint brought.
+    /// How many requests a checkpoint made.
     pub async fn checkpoint(&self) -> u64 {
         match self.order(Order::Checkpoint).await {
             Done::Flushed { requests } => requests,
@@ -129,17 +130,17 @@ impl Run {
         taken(&self.outbox).await
     }
 
-    /// Ends as a kill does: nothing is flushed.
+    /// Ends like a kill: nothing is flushed.
     pub async fn abort(self) {
         self.task.abort();
         let _ = self.task.await;
     }
 }
 
-/// By the name of the metric: the values added up, and the spans in the order in which they were forwarded.
+/// By the name of the metric: the sum of the values, and the intervals in the order in which they were forwarded.
 pub type Taken = BTreeMap<String, (i64, Vec<(u64, u64)>)>;
 
-/// Takes all that waits, as a sink does. Spans of a series have to follow one another.
+/// Takes all that waits, like a sink. The intervals of a series have to follow one another.
 pub async fn taken(outbox: &Outbox) -> Taken {
     let mut taken = Taken::new();
     while outbox.waiting().0 > 0 {
@@ -164,7 +165,7 @@ pub fn sums(taken: &Taken) -> Vec<(&str, i64)> {
     taken.iter().map(|(name, (sum, _))| (name.as_str(), *sum)).collect()
 }
 
-/// A body of sums in protobuf.
+/// A body of sums, in protobuf.
 fn in_protobuf(body: &[u8]) -> Option<Bytes> {
     let mut request: Json = serde_json::from_slice(body).ok()?;
     for resource in request.get_mut("resourceMetrics")?.as_array_mut()? {
@@ -183,12 +184,12 @@ fn in_protobuf(body: &[u8]) -> Option<Bytes> {
     protobuf_of_forwarded(&serde_json::to_vec(&request).ok()?).ok().map(Bytes::from)
 }
 
-/// A body of one point.
+/// A body with one point.
 pub fn point(name: &str, start: u64, end: u64, value: i64) -> Bytes {
     text(&[(name.into(), start, end, value)])
 }
 
-/// A body of points, each of its series.
+/// A body with points, each of its own series.
 pub fn text(points: &[(String, u64, u64, i64)]) -> Bytes {
     let metric = |(name, start, end, value): &(String, u64, u64, i64)| {
         format!(

@@ -1,4 +1,4 @@
-//! Posts that a start puts in together.
+//! Tests posts that a start puts into the book together.
 
 use crate::support::{all, point, sums, Place, Run};
 use bytes::Bytes;
@@ -8,7 +8,7 @@ use totxegun::files::{Durability, Folder, Names, Post, Replayed};
 const HOUR: u64 = 3_600_000_000_000;
 const SENDERS: [&str; 3] = ["A", "B", "C"];
 
-/// Posts of some senders between each other, over two hours, of which no group has any; then a kill.
+/// Interleaved posts of some senders, over two hours and in no group; then a kill.
 async fn killed(place: &Place) {
     let run = place.run().await;
     for at in (0..40).map(|number| 100 + number * HOUR / 20) {
@@ -39,7 +39,7 @@ async fn they_come_to_what_each_by_itself_comes_to() {
     }
 }
 
-/// What a journal says of numbers.
+/// The series that a journal defines, by number.
 #[derive(Default)]
 struct Said(HashMap<u64, Bytes>);
 
@@ -53,7 +53,7 @@ impl Names for Said {
     }
 }
 
-/// As no run leaves it.
+/// No run leaves such a journal.
 #[tokio::test(flavor = "multi_thread")]
 async fn one_that_is_refused_keeps_none_of_the_others_out() {
     let place = Place::new();

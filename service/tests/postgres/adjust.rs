@@ -1,4 +1,4 @@
-//! Adjustments by hand and of late data, in both sinks.
+//! Tests adjustments by hand and of late data, in both sinks.
 
 use crate::model::{both, Counted, Database, Model};
 use crate::open;
@@ -16,7 +16,8 @@ pub fn by_hand(series: Which, hour: u64, value: i64, reason: &str) -> Adjustment
     Adjustment { series, hour, value, reason, late_key: String::new(), is_dry: false }
 }
 
-/// By hand or of late data, in any hour, also one of which the sink has no row; each once, however often it is asked for.
+/// Adjusts by hand or books late data, in any hour, even if the sink has no row of it; each once, however often it is
+/// asked for.
 pub async fn adjust(
     model: &mut Model,
     sink: &dyn Sink,
@@ -36,7 +37,7 @@ pub async fn adjust(
         series: Which::Number(series.parse().unwrap()),
         hour: period(hour, 1),
         value: if value == 0 { 1 } else { value },
-        // Late data may have the same reason as others.
+        // Late points may have the same reason.
         reason: if is_late { "late".into() } else { format!("reason {}", model.corrected) },
         late_key: if is_late { format!("{:016x}", model.corrected) } else { String::new() },
         is_dry: false,
@@ -49,7 +50,7 @@ pub async fn adjust(
     for _ in 0..1 + random.below(2) {
         done(sink, Deed::Adjust(adjustment.clone())).await;
     }
-    // Another reason makes no other adjustment of the same late data.
+    // The same late data with another reason is no other adjustment.
     let again = Adjustment { reason: "again".into(), ..adjustment };
     if is_late {
         let told = done(sink, Deed::Adjust(again)).await;
@@ -57,7 +58,7 @@ pub async fn adjust(
     }
 }
 
-/// It is found by all that identifies it, or by its number, and in an hour of which nothing is there.
+/// A series is found by its identity or by its number, and adjusted in an hour that has no row.
 #[tokio::test(flavor = "multi_thread")]
 async fn a_series_is_adjusted_by_its_identity() {
     let server = Server::start();
@@ -85,7 +86,7 @@ async fn a_series_is_adjusted_by_its_identity() {
     }
 }
 
-/// Else nobody would look whether that hour is deleted, or how much was adjusted so far.
+/// Otherwise nobody would check whether the hour is deleted, or how much was adjusted so far.
 #[tokio::test(flavor = "multi_thread")]
 async fn nothing_is_adjusted_where_the_horizon_is_gone() {
     let server = Server::start();

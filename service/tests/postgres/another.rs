@@ -1,11 +1,11 @@
-//! A database that is not the one that is remembered.
+//! Tests a database that is not the remembered one.
 
 use super::server::{sum, Server};
 use super::{again, open, taken};
 use std::sync::{Arc, Mutex};
 use totxegun::sinks::{self, Memory, Retention};
 
-/// Takes the first sink, and then no other.
+/// Remembers the first sink, and admits no other.
 #[derive(Default)]
 struct First(Mutex<Option<String>>);
 
@@ -35,14 +35,15 @@ async fn a_database_is_known_by_its_id_once_it_is_reached() {
     let id = first.0.lock().unwrap().clone();
     assert_eq!(id, Some(server.ask_of("one", "select id from totxegun.sink")));
     drop(one);
-    // Nothing is made in another.
+    // In another database nothing is made.
     server.ask("create database two");
     assert_eq!(open("two").err().as_deref(), Some("another sink"));
     assert_eq!(server.ask_of("two", "select count(*) from pg_namespace where nspname = 'totxegun'"), "0");
-    // The same under another name.
+    // The same database under another name.
     server.ask("alter database one rename to three");
     taken(&*open("three").ok().unwrap(), 2, sum("a", 200, 300, 5)).await;
-    // One that could not be reached at the start is met at the first delivery, which goes on where it is put back.
+    // A database that could not be reached at the start is checked at the first delivery, which succeeds once the right
+    // one is back.
     let late = open("late").ok().unwrap();
     server.ask("create database late");
     again(&*late, 3, sum("a", 300, 400, 5), "another sink").await;
@@ -71,7 +72,7 @@ async fn nothing_is_deleted_in_another_database() {
     again(&*late, 2, sum("a", 300, 400, 5), "another sink").await;
     tokio::time::sleep(std::time::Duration::from_secs(4)).await;
     assert_eq!(server.ask_of("theirs", "select count(*) from totxegun.intervals"), "1");
-    // In ours such a span goes.
+    // In ours such an interval is deleted.
     let ours = open_ours("ours");
     taken(&*ours, 1, sum("a", 100, 200, 5)).await;
     while server.ask_of("ours", "select count(*) from totxegun.intervals") != "0" {

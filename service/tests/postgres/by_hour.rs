@@ -1,4 +1,4 @@
-//! The hours of a series, by a view such as the schema has.
+//! Tests reading the hours of a series, by a view such as the schema has.
 
 use crate::server::{histogram, sum, sum_named, Server};
 use crate::{open, taken};
@@ -6,7 +6,7 @@ use tokio::task::block_in_place;
 use totxegun::sinks::sql::reading::{hours, totals};
 use totxegun::sinks::Address;
 
-/// In the place of the view: each series has its total in the hour 5, and 1 in the one before.
+/// Replaces the view: each series has its total in hour 5, and 1 in the hour before.
 const VIEW: &str = "drop view if exists totxegun.by_hour;
     create view totxegun.by_hour as select to_timestamp(5 * 3600) as hour, total, count, series from totxegun.totals
     union all select to_timestamp(4 * 3600), 1, null, series from totxegun.totals";

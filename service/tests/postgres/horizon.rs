@@ -1,4 +1,4 @@
-//! What is being deleted, and what a clock that was wrong leaves behind.
+//! Tests what readers see while hours are deleted, and what a wrong clock leaves behind.
 
 use crate::kept::{now, until};
 use crate::points::HOUR;
@@ -10,7 +10,8 @@ use totxegun::sinks::Retention;
 const DAY: u64 = 24 * HOUR;
 const TWO_DAYS: Option<Duration> = Some(Duration::from_secs(2 * 86_400));
 
-/// Its rows go one after another: here a series is locked, as by a request that is under way, and so is what its metric has.
+/// The rows of an hour are deleted one after another. Here a series is locked, as by a request in progress, and so are
+/// the hours of its metric.
 #[tokio::test(flavor = "multi_thread")]
 async fn an_hour_that_is_being_deleted_is_there_whole_or_not_at_all() {
     let Some(server) = Server::start() else { return };
@@ -44,7 +45,7 @@ async fn an_hour_that_is_being_deleted_is_there_whole_or_not_at_all() {
     assert_eq!(server.ask(late), "0");
 }
 
-/// Machines and senders shared it: so there are intervals of its time, behind which nothing that is right comes.
+/// Machines and senders shared the clock, so there are intervals of its time, and no right point comes after them.
 #[tokio::test(flavor = "multi_thread")]
 async fn a_clock_that_all_shared_and_was_ahead_keeps_out_nothing_that_comes() {
     let Some(server) = Server::start() else { return };

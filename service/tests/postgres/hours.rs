@@ -1,4 +1,4 @@
-//! Hours are what the spans come to, whatever order requests come in.
+//! Tests that hours are the sums of intervals, in whatever order requests come.
 
 use crate::model::both;
 use crate::points::{body, lines, value, Point, Random, Value, HOUR};
@@ -6,12 +6,12 @@ use crate::server::{sum, Server};
 use crate::{open, refused, request, taken};
 use totxegun::sinks::Fate;
 
-/// 2024-02-29, a leap day, at 20:00, and the end of that month.
+/// 2024-02-29, a leap day, at 20:00; and the end of that month.
 const FIRST: u64 = 1_709_236_800_000_000_000;
 const MARCH: u64 = 1_709_251_200_000_000_000;
 
-/// Of one service after the other: spans that never overlap, of ten hours, some of which are longer than an hour, and of
-/// which some end with the hour.
+/// Intervals of several services, one after another. They never overlap, and span ten hours; some are longer than an
+/// hour, and some end with an hour.
 fn spans(random: &mut Random) -> Vec<Point> {
     let mut all = Vec::new();
     for name in ["a", "b", "h", "hh"] {
@@ -33,7 +33,7 @@ fn spans(random: &mut Random) -> Vec<Point> {
 const BY_HOUR: &str = "select name, hour, hour.points, hour.total, hour.count, hour.without_sum, hour.buckets
     from totxegun.hours join totxegun.series on series.id = hours.series order by 1, 2";
 
-/// The view, which has no `without_sum`, and no count of sums.
+/// The query of a view, which has no `without_sum`, and no count for sums.
 fn view(of: &str) -> String {
     format!(
         "select name, to_char({of} at time zone 'UTC', 'YYYY-MM-DD'), points, total, coalesce(count, 0), 0, buckets \
@@ -60,7 +60,7 @@ async fn hours_days_and_months_are_the_sums_of_spans() {
         let mut random = Random(seed);
         let all = spans(&mut random);
         let mut order: Vec<usize> = (0..all.len()).collect();
-        // They come as if they had been put aside: most in the order of their times, and some much later.
+        // They are sent as dead letters: most in the order of their times, and some much later.
         taken(&*services[0], 1_000_000, body(&[])).await;
         order.sort_by_cached_key(|place| all[*place].end + random.below(5) / 4 * random.below(4 * HOUR));
         for (number, part) in (0..).zip(order.chunks(7)) {
@@ -101,7 +101,7 @@ async fn a_span_counts_in_the_hour_of_its_last_nanosecond() {
         );
         assert_eq!(server.ask(&query), found, "{view}");
     }
-    // At the end of 2016 a second was inserted, which times since 1970 don't count.
+    // There was a leap second at the end of 2016, which times since 1970 don't count.
     const LEAP: u64 = 1_483_228_800_000_000_000;
     for (number, (start, end)) in (20..).zip([(LEAP - 9, LEAP), (LEAP, LEAP + 9)]) {
         taken(&*sink, number, sum("leap", start, end, 1)).await;
@@ -114,7 +114,7 @@ async fn a_span_counts_in_the_hour_of_its_last_nanosecond() {
     assert_eq!(server.ask(buckets), "|-5|7\n-5|10|0\n10||2");
 }
 
-/// In order a point begins where its series ends, or later, wherever that is.
+/// In order, a point has to begin at the end of its series or later, wherever that is.
 #[tokio::test(flavor = "multi_thread")]
 async fn what_begins_before_its_series_ends_is_left() {
     let server = Server::start();
@@ -143,7 +143,7 @@ async fn what_begins_before_its_series_ends_is_left() {
     }
 }
 
-/// No request finds an hour that another one is just writing.
+/// No request reads an hour while another one writes it.
 #[tokio::test(flavor = "multi_thread")]
 async fn services_that_share_series_write_one_hour() {
     let Some(server) = Server::start() else { return };
@@ -163,7 +163,7 @@ async fn services_that_share_series_write_one_hour() {
                 let part = [point("a"), point("h")];
                 let mut request = request(round, body(&part));
                 request.slot = service as u16;
-                // Another one may have come first with what is later.
+                // Another service may have sent later points first.
                 match sink.deliver(&request).await {
                     Fate::Taken => points.extend(part),
                     Fate::Refused { reason } => assert!(reason.contains("is not added"), "{reason}"),

@@ -1,4 +1,4 @@
-//! Intervals read as they came, and take few bytes.
+//! Tests that intervals are read as they were sent, and take few bytes.
 
 use crate::points::{body, Point, Value};
 use crate::server::{histogram, sum, Server};
@@ -12,7 +12,7 @@ const BUCKETS: [[u64; 3]; 5] = [
     [u64::MAX, 1 << 63, (1 << 63) - 1],
 ];
 
-/// The count too, whether it is what the buckets come to or not.
+/// So is the count, whether it is the sum of the buckets or not.
 #[tokio::test(flavor = "multi_thread")]
 async fn intervals_read_as_they_came() {
     let Some(server) = Server::start() else { return };
@@ -45,7 +45,7 @@ async fn intervals_read_as_they_came() {
     assert_eq!(server.ask(counts), "4", "those that are not what the buckets come to");
 }
 
-/// Of a histogram of 11 buckets, each below 128: with what a page has of each row 76 bytes, and of a sum 60.
+/// 76 bytes for a histogram of 11 buckets, each below 128, and 60 for a sum, with what a page has of each row.
 #[tokio::test(flavor = "multi_thread")]
 async fn an_interval_takes_few_bytes() {
     let Some(server) = Server::start() else { return };

@@ -1,4 +1,4 @@
-//! What is made ahead and deleted in the background, while deliveries go on.
+//! Tests what is made ahead and deleted in the background while deliveries go on.
 
 use crate::points::HOUR;
 use crate::server::{sum, sums, Server};
@@ -29,7 +29,7 @@ pub async fn until(server: &Server, query: &str, answer: &str) {
     panic!("{query}: {} and not {answer}", server.ask(query));
 }
 
-/// A day of long ago, as it was made then.
+/// Makes an old day's partition, as it was made at the time.
 fn make_day(server: &Server, ns: u64) -> String {
     let name = server.ask(&format!(
         "select 'interval_' || to_char(to_timestamp({}) at time zone 'UTC', 'YYYYMMDD')",
@@ -44,7 +44,7 @@ fn make_day(server: &Server, ns: u64) -> String {
     name
 }
 
-/// Whatever was deleted is in totals and hours, and is never counted again.
+/// Deleted intervals stay in totals and hours, and are never counted again.
 #[tokio::test(flavor = "multi_thread")]
 async fn old_intervals_are_deleted_and_not_counted_again() {
     let Some(server) = Server::start() else { return };
@@ -52,7 +52,7 @@ async fn old_intervals_are_deleted_and_not_counted_again() {
     let before = open(&address);
     let (old, older) = (now() - 3 * DAY, now() - 40 * DAY);
     let name = make_day(&server, old);
-    // The second lies within what the hour has of the series; so does a gap.
+    // The second request lies within the series' time in that hour; so does a gap.
     let edges = [("a", old, old + 10, 1), ("a", old + 30, old + 40, 4)];
     taken(&*before, 2, sums(&edges)).await;
     taken(&*before, 1, sum("a", old + 20, old + 30, 2)).await;
@@ -64,7 +64,7 @@ async fn old_intervals_are_deleted_and_not_counted_again() {
     let sink = open_with(&address, Retention { intervals: days(2), ..Retention::default() });
     until(&server, "select count(*) from totxegun.intervals", "1").await;
     assert_eq!(server.ask(&format!("select to_regclass('totxegun.{name}') is null")), "t");
-    // The same requests, under their own keys and under others; and a point of which nobody knows.
+    // The same requests, under their own keys and under others; and a point that was never sent before.
     taken(&*sink, 1, sum("a", old + 20, old + 30, 2)).await;
     refused(&*sink, 12, sum("a", old + 20, old + 30, 2), "is not added").await;
     refused(&*sink, 13, sum("a", old + 10, old + 20, 2), "is not added").await;
@@ -95,7 +95,7 @@ async fn old_hours_are_deleted_and_not_counted_again() {
     assert_eq!(server.ask("select count(*) from totxegun.intervals"), "4");
 }
 
-/// How many points of a period, or why it is not exported.
+/// How many points of a period are exported, or why it is not.
 async fn exported(address: &str, period: &str) -> Result<i64, String> {
     let (address, what) = (address.parse().unwrap(), What::Of(period.parse().unwrap()));
     let read = move || {
@@ -109,7 +109,7 @@ async fn exported(address: &str, period: &str) -> Result<i64, String> {
     tokio::task::spawn_blocking(read).await.unwrap()
 }
 
-/// Else a bill that is made again says that nothing was counted, with the status of a whole one.
+/// Otherwise a bill that is made again would say that nothing was counted, with the status of a complete one.
 #[tokio::test(flavor = "multi_thread")]
 async fn a_month_or_a_day_of_which_hours_were_deleted_is_not_exported_as_one_without_points() {
     let Some(server) = Server::start() else { return };
@@ -136,13 +136,13 @@ async fn a_month_or_a_day_of_which_hours_were_deleted_is_not_exported_as_one_wit
     assert_eq!(exported(&address, &new).await, Ok(1));
 }
 
-/// What is there goes by the clock; what comes behind the last hour of it is not left out.
+/// Deleting follows the clock, but points after the last hour that is there are not left out.
 #[tokio::test(flavor = "multi_thread")]
 async fn a_clock_that_was_ahead_leaves_out_nothing_that_comes() {
     let Some(server) = Server::start() else { return };
     let address = server.by_socket("postgres");
     let before = open(&address);
-    let old = (now() / DAY - 400) * DAY; // so this clock is 400 days ahead
+    let old = (now() / DAY - 400) * DAY; // so the database's clock is 400 days ahead
     taken(&*before, 1, sum("a", old, old + 9, 1)).await;
     taken(&*before, 2, sum("a", old + HOUR, old + HOUR + 9, 2)).await;
     drop(before);
@@ -155,7 +155,7 @@ async fn a_clock_that_was_ahead_leaves_out_nothing_that_comes() {
     assert_eq!(server.ask("select total from totxegun.by_day"), "4");
 }
 
-/// Who reads for long holds up the deletion, and no delivery longer than a step waits: a second.
+/// A long reader holds up the deletion. No delivery waits longer than a step, which is a second.
 #[tokio::test(flavor = "multi_thread")]
 async fn deliveries_go_on_while_a_reader_holds_up_a_deletion() {
     let Some(server) = Server::start() else { return };
@@ -182,7 +182,7 @@ async fn deliveries_go_on_while_a_reader_holds_up_a_deletion() {
     until(&server, &format!("select to_regclass('totxegun.{name}') is null"), "t").await;
 }
 
-/// Intervals that came before their day was made are moved into it, and a kill in between moves none of them.
+/// Intervals that came before their day was made are moved into it. After a kill in between none of them is moved.
 #[tokio::test(flavor = "multi_thread")]
 async fn days_are_made_ahead() {
     let Some(server) = Server::start() else { return };
@@ -194,7 +194,7 @@ async fn days_are_made_ahead() {
     assert_eq!(server.ask(last), today);
     taken(&*sink, 1, sum("a", now() - 10, now(), 1)).await;
     assert_eq!(server.ask("select count(*) from totxegun.interval_other"), "0");
-    // Whatever ends the step, nothing of it is there.
+    // Whatever makes the step fail, nothing of it is there.
     server.run_file(
         "postgres",
         "create function public.fails() returns event_trigger language plpgsql as $$ begin
@@ -202,7 +202,7 @@ async fn days_are_made_ahead() {
         create event trigger killed on ddl_command_end when tag in ('ALTER TABLE') execute function public.fails()",
     );
     server.ask(&format!("drop table totxegun.{today}"));
-    // Its first nanosecond, its last one, and those beside.
+    // The day's first and last nanosecond, and those beside.
     let day = (now() / DAY + 3) * DAY;
     for (number, end) in [day, day + 1, day + DAY, day + DAY + 1].into_iter().enumerate() {
         taken(&*sink, 10 + number as u64, sum("b", end - 1, end, 1)).await;
@@ -227,7 +227,7 @@ async fn days_are_made_ahead() {
     assert_eq!(server.ask("select sum(points) from totxegun.hours"), "5");
 }
 
-/// What was made ahead of it then is no reason to make none of the days that come.
+/// Days that such a clock has made far ahead do not keep the next days from being made.
 #[tokio::test(flavor = "multi_thread")]
 async fn days_are_made_behind_a_clock_that_was_ahead() {
     let Some(server) = Server::start() else { return };

@@ -1,5 +1,5 @@
-//! What a database adds of several lives of a folder, and of what was put aside. All orders, up to a bound, are in
-//! `tests/sink_model.py`.
+//! Tests what a database adds of several lives of a folder, and of dead letters. `tests/sink_model.py` tries all orders
+//! up to a bound.
 
 use super::model::{both, Database};
 use super::rewind::rewind;
@@ -27,7 +27,7 @@ async fn left_of(sink: &dyn Sink, epoch: &str, number: u64, body: String, until:
         }
         other => panic!("{epoch} {number}: {other:?}"),
     }
-    // As behind a kill before it was kept.
+    // Repeated, as after a kill before the part was kept.
     assert_eq!(sink.deliver(&request).await, fate);
 }
 
@@ -50,21 +50,21 @@ async fn a_folder_in_the_place_of_a_lost_one_adds_nothing_twice() {
     for database in both(&server) {
         let sink = open(&database.address());
         taken_of(&*sink, "e", 7, sum("a", 100, 200, 1)).await;
-        // It knows nothing of the first: what it takes begins anywhere.
+        // The second life knows nothing of the first, so its points begin anywhere.
         left_of(&*sink, "f", 1, sum("a", 50, 60, 2), 200).await;
         left_of(&*sink, "f", 2, sum("a", 150, 250, 4), 200).await;
         in_order_of(&*sink, "f", 4, sum("a", 300, 400, 8)).await;
-        // One that was put aside, and one that begins before the floor.
+        // A dead letter, and a request that begins before the floor.
         taken_of(&*sink, "f", 3, sum("a", 200, 300, 16)).await;
         left_of(&*sink, "f", 0, sum("a", 199, 200, 32), 200).await;
-        // What the lost one had sent, and what it had put aside.
+        // A request of the lost life, and a dead letter of it.
         taken_of(&*sink, "e", 7, sum("a", 100, 200, 1)).await;
         left_of(&*sink, "e", 6, sum("a", 90, 100, 64), 400).await;
         assert_eq!(total(&database), "3|25");
     }
 }
 
-/// Nobody saw that the folder is a copy: its numbers come again.
+/// Nobody noticed that the folder is a copy, so its numbers come again.
 #[tokio::test(flavor = "multi_thread")]
 async fn a_copy_that_goes_on_under_the_same_keys_adds_nothing_twice() {
     let server = Server::start();
@@ -74,10 +74,10 @@ async fn a_copy_that_goes_on_under_the_same_keys_adds_nothing_twice() {
         taken(&*sink, 2, sum("a", 200, 300, 2)).await;
         refused(&*sink, 2, sum("b", 200, 300, 4), "key is that of another request").await;
         taken(&*sink, 4, sum("b", 300, 400, 8)).await;
-        // Put aside by the copy, which has counted from 200 on: not a letter of the first.
+        // A dead letter of the copy, which has counted from 200 on; it is none of the first life.
         left_of(&*sink, "e", 3, sum("a", 200, 350, 16), 300).await;
         taken(&*sink, 7, sum("a", 350, 400, 32)).await;
-        // Sent in order, though a later number was taken: no folder does that which was not put back.
+        // Sent in order after a later number was taken. Only a folder that was restored does that.
         match sink.deliver_of(&of("e", 6, sum("a", 300, 310, 64)), None).await {
             Fate::Refused { reason } => assert!(reason.contains("has points until 400"), "{reason}"),
             other => panic!("{other:?}"),
@@ -93,7 +93,7 @@ async fn what_was_put_aside_before_a_rewind_is_not_added_behind_it() {
         let sink = open(&database.address());
         taken(&*sink, 1, sum("a", 100, 200, 1)).await;
         taken(&*sink, 4, rewind(&["a"], 150)).await;
-        // All from there on is posted again.
+        // Everything from there on is posted again.
         taken(&*sink, 5, sum("a", 150, 300, 2)).await;
         left_of(&*sink, "e", 3, sum("a", 200, 250, 4), 300).await;
         taken(&*sink, 7, sum("a", 400, 500, 8)).await;
@@ -103,7 +103,7 @@ async fn what_was_put_aside_before_a_rewind_is_not_added_behind_it() {
     }
 }
 
-/// An order to forget a series tells the sink of no earlier end.
+/// An order to forget a series does not give the sink an earlier end.
 #[tokio::test(flavor = "multi_thread")]
 async fn what_was_put_aside_before_a_series_was_forgotten_is_not_added_behind_it() {
     let server = Server::start();
@@ -125,7 +125,7 @@ async fn a_rewind_is_a_boundary_for_its_series_alone() {
         let sink = open(&database.address());
         in_order(&*sink, 0, 1, sum("a", 100, 200, 1)).await;
         in_order(&*sink, 0, 3, sum("b", 100, 200, 1)).await;
-        // One that the sink has, and one that it has not.
+        // One of the series is in the sink, and one is not.
         in_order(&*sink, 0, 4, rewind(&["b"], 150)).await;
         in_order(&*sink, 0, 5, rewind(&["c"], u64::MAX)).await;
         in_order(&*sink, 0, 6, sum("a", 300, 400, 2)).await;
@@ -134,7 +134,7 @@ async fn a_rewind_is_a_boundary_for_its_series_alone() {
     }
 }
 
-/// Numbers of two slots say nothing of each other.
+/// The numbers of two slots have nothing to do with each other.
 #[tokio::test(flavor = "multi_thread")]
 async fn a_rewind_of_another_slot_takes_no_boundary_back() {
     let server = Server::start();
@@ -145,14 +145,14 @@ async fn a_rewind_of_another_slot_takes_no_boundary_back() {
         in_order(&*sink, 1, 2, sum("b", 100, 200, 1)).await;
         in_order(&*sink, 1, 3, rewind(&["b"], 150)).await;
         in_order(&*sink, 0, 6, sum("a", 300, 400, 2)).await;
-        // What is posted again, and what it was before.
+        // The point that is posted again, and the one from before.
         taken(&*sink, 5, sum("a", 200, 300, 4)).await;
         left_of(&*sink, "e", 3, sum("a", 200, 300, 8), 400).await;
         assert_eq!(total(&database), "3|7");
     }
 }
 
-/// As in a database that was made anew, or put back.
+/// As in a database that was made again, or restored.
 #[tokio::test(flavor = "multi_thread")]
 async fn a_rewind_is_a_boundary_for_a_series_without_points() {
     let server = Server::start();
@@ -179,7 +179,7 @@ async fn a_letter_of_before_a_rewind_leaves_no_room_for_what_is_posted_again() {
     }
 }
 
-/// A letter that another one passes while it waits for a lock is late.
+/// A dead letter is late if another request passes it while it waits for a lock.
 #[tokio::test(flavor = "multi_thread")]
 async fn what_is_late_is_known_under_the_locks() {
     let Some(server) = Server::start() else { return };
@@ -214,7 +214,7 @@ async fn until(server: &Server, count: &str) {
     panic!("{count}");
 }
 
-/// By one reader, whichever database it is.
+/// The same reader is used for both kinds of database.
 #[tokio::test(flavor = "multi_thread")]
 async fn totals_are_read_alike() {
     let server = Server::start();

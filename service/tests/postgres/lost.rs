@@ -1,4 +1,4 @@
-//! A schema that is taken away from a service.
+//! Tests a schema that is taken away while the service runs.
 
 use super::server::{sum, Server};
 use super::{open, taken};
@@ -27,7 +27,7 @@ impl Visit for Warnings {
     }
 }
 
-/// Else a fresh one would be made in silence, and who looks at it finds everything gone.
+/// Otherwise a new one would be made in silence, and whoever looks at it would find everything gone.
 #[tokio::test]
 async fn a_schema_that_is_renamed_or_dropped_is_told_of() {
     let Some(server) = Server::start() else { return };

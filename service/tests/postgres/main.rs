@@ -79,7 +79,7 @@ async fn what_is_taken() {
         }
     }
     taken(&*sink, 31, sum("a", 200, 300, -7)).await;
-    // As one that was put aside.
+    // As a dead letter.
     taken(&*sink, 29, sum("a", 50, 100, 1)).await;
     assert_eq!(server.ask("select name, points, total from totxegun.totals order by 1"), "a|3|-1\nb|18|18");
     let most = u64::MAX;
@@ -115,7 +115,7 @@ async fn what_is_taken() {
     );
 }
 
-/// What stands beside it in the request is taken, once; a repeat says the same, so the rest is not lost by a kill.
+/// The other points of the request are taken, once. A repeat gets the same answer, so a kill does not lose the rest.
 #[tokio::test(flavor = "multi_thread")]
 async fn of_a_request_the_points_that_begin_too_early_alone_are_left() {
     let server = Server::start();
@@ -142,7 +142,7 @@ async fn of_a_request_the_points_that_begin_too_early_alone_are_left() {
     }
 }
 
-/// A folder was put back over itself: the key comes again with other points, some of which begin alike.
+/// A folder was restored over itself: the key comes again with other points, some of which begin at the same time.
 #[tokio::test(flavor = "multi_thread")]
 async fn a_request_is_told_from_another_of_its_key_by_each_of_its_points() {
     let server = Server::start();
@@ -161,7 +161,7 @@ async fn a_request_is_told_from_another_of_its_key_by_each_of_its_points() {
     }
 }
 
-/// The server's certificate is looked at, by the roots of the machine.
+/// The server's certificate is checked by the roots of the machine.
 #[tokio::test(flavor = "multi_thread")]
 async fn by_tls() {
     let Some(mut server) = Server::start() else { return };
@@ -178,10 +178,11 @@ async fn by_tls() {
         ),
         "t"
     );
-    // A root that did not sign it, a name that the certificate does not have, and none, though it has the address.
+    // A root that did not sign it; a name that the certificate does not have; and an address that the certificate has,
+    // but no name.
     std::env::set_var("SSL_CERT_FILE", server.folder.path().join("other.pem"));
     again(&*open(&address("localhost")), 2, sum("a", 2, 3, 1), "TLS").await;
-    // Its root named by the address, and its password in a file that nobody else may read.
+    // The root is named in the address, and the password is in a file that nobody else may read.
     let file = server.folder.path().join("passwords");
     std::fs::write(&file, format!("# by hand\nlocalhost:{port}:*:shop:p\n")).unwrap();
     std::env::set_var("PGPASSFILE", &file);
@@ -244,7 +245,8 @@ async fn what_is_told() {
     refuses("latin", "LATIN1");
 }
 
-/// So a server answers each request while it has no number left for a transaction: each would be put aside for good.
+/// A server answers every request so if it has no transaction numbers left. Without this, each would become a dead
+/// letter.
 #[tokio::test(flavor = "multi_thread")]
 async fn a_limit_of_the_server_is_waited_for() {
     let Some(server) = Server::start() else { return };
@@ -284,7 +286,7 @@ async fn what_is_lost_on_the_way() {
     assert_eq!(server.ask("select total from totxegun.totals"), "3", "it was committed");
     taken(&*sink, 2, sum("a", 2, 3, 2)).await;
     assert_eq!(server.ask("select points, total from totxegun.totals"), "2|3");
-    // A lock that somebody keeps is given up, and leaves nothing.
+    // If somebody keeps a lock, the delivery is given up and leaves nothing.
     let direct = open(&server.by_socket("postgres"));
     let held = server.hold("begin; select * from totxegun.series_totals for update; select pg_sleep(13)");
     tokio::time::sleep(Duration::from_secs(1)).await;

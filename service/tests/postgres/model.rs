@@ -1,4 +1,4 @@
-//! What was done to a sink, as a plain list, and what its views have to say of it.
+//! A plain list of what was done to a sink, and what the sink's views have to show.
 
 use crate::points::{Point, Value};
 use crate::server::Server;
@@ -6,7 +6,7 @@ use std::collections::{BTreeMap, BTreeSet};
 use std::process::Command;
 use totxegun::sinks::periods::{hour_shown, Period};
 
-/// An interval has one of so many places in an hour.
+/// How many places for intervals an hour has.
 pub const PLACES: u64 = 6;
 pub const NAMES: [&str; 4] = ["a", "b", "h", "hh"];
 
@@ -15,7 +15,7 @@ pub enum Database<'a> {
     Postgres(&'a Server, &'static str),
 }
 
-/// A SQLite file, and a database of the server, where there is one.
+/// A SQLite file, and a database of the server if there is one.
 pub fn both(server: &Option<Server>) -> Vec<Database<'_>> {
     let lite = Database::Lite(tempfile::tempdir().unwrap());
     let postgres = server.as_ref().map(|server| Database::Postgres(server, "postgres"));
@@ -30,7 +30,8 @@ impl Database<'_> {
         }
     }
 
-    /// `HOUR(x)` of a query is the hour since 1970 of a time of a view, `t.` the schema, `LIST(x)` a list as JSON.
+    /// Runs a query on either database. `HOUR(x)` stands for the hour since 1970 of a view's time, `t.` for the schema,
+    /// and `LIST(x)` for a list as JSON.
     pub fn ask(&self, query: &str) -> String {
         match self {
             Database::Lite(folder) => {
@@ -57,7 +58,7 @@ impl Database<'_> {
     }
 }
 
-/// What counts somewhere.
+/// What counts in one place.
 #[derive(Clone, Debug, Default, PartialEq, Eq)]
 pub struct Counted {
     pub points: u64,
@@ -101,7 +102,7 @@ impl Counted {
 #[derive(Default)]
 pub struct Model {
     pub hours: BTreeMap<(&'static str, u64), Counted>,
-    /// By name, the hour to which it belongs, and the one in which it counts.
+    /// By name, the hour to which a point belongs, and the hour in which it counts.
     pub late: BTreeMap<(&'static str, u64, u64), Counted>,
     pub closed: BTreeSet<(u64, u64)>,
     pub taken: BTreeSet<(&'static str, u64)>,
@@ -136,7 +137,7 @@ impl Model {
         }
     }
 
-    /// Of hours, what longer times come to.
+    /// The hours added up to longer times.
     pub fn by(&self, longer: impl Fn(u64) -> u64) -> BTreeMap<(&'static str, u64), Counted> {
         let mut all = BTreeMap::<_, Counted>::new();
         for ((name, hour), counted) in &self.hours {

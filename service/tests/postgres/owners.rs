@@ -1,4 +1,4 @@
-//! Who posts each series, as the database has it.
+//! Tests the column of series that has their senders.
 
 use super::kept::until;
 use super::model::both;
@@ -24,7 +24,7 @@ async fn each_series_has_its_sender() {
     for database in both(&server) {
         let sink = open(&database.address());
         let senders = || database.ask("select name, sender from t.series order by 1");
-        // By hand, while nobody delivers its slot here.
+        // A dead letter, while nobody delivers its slot here.
         taken(&*sink, 1, sum("early", 100, 200, 1)).await;
         assert_eq!(senders(), "early|");
         let names = [("a", "ann"), ("c", "cy"), ("early", "eve"), ("h", "-")];
@@ -35,7 +35,7 @@ async fn each_series_has_its_sender() {
         let all = [request(3, sum("c", 100, 200, 1)), request(4, sum("early", 200, 300, 1))];
         assert!(sink.deliver_together(&all, None).await);
         assert_eq!(senders(), "a|ann\nb|\nc|cy\nearly|eve");
-        // It stays, whoever is named later.
+        // The sender stays, whatever name comes later.
         let others = Arc::new(Names([(key("a").digest(), "other"), (key("b").digest(), "bob")].into()));
         sink.owners().expect("a database has them").put(0, &others);
         let again = request(5, sums(&[("a", 200, 300, 1), ("b", 200, 300, 1)]));
@@ -44,7 +44,8 @@ async fn each_series_has_its_sender() {
     }
 }
 
-/// Who waits for a series that another makes has locked none that is there: who makes it may want that one next.
+/// A request that waits for a series which another transaction makes must not hold locks on existing series: the other
+/// may want one of these next.
 #[tokio::test(flavor = "multi_thread")]
 async fn senders_are_written_down_behind_new_series() {
     let Some(server) = Server::start() else { return };
@@ -55,7 +56,7 @@ async fn senders_are_written_down_behind_new_series() {
     let names =
         Arc::new(Names([("a", "ann"), ("m", "mia")].map(|(of, name)| (key(of).digest(), name)).into()));
     one.owners().expect("a database has them").put(0, &names);
-    // Somebody has the hour of a metric, for which a request waits with its series made.
+    // Somebody holds the hour of a metric. A request waits for it after it has made its series.
     let _held = server.hold("begin; select from totxegun.metric_hours for update; select pg_sleep(60)");
     let (sleeping, waiting) = (
         "from pg_stat_activity where query like '%pg_sleep(60)' and pid <> pg_backend_pid()",

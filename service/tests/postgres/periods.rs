@@ -1,4 +1,4 @@
-//! Periods that are closed, late points and adjustments, in both sinks, beside a plain list of what was done.
+//! Tests closed periods, late points and adjustments in both sinks, against a plain list of what was done.
 
 use crate::adjust::{adjust, by_hand};
 use crate::kept::until;
@@ -37,7 +37,7 @@ pub async fn not_done(sink: &dyn Sink, deed: Deed, part: &str) {
     }
 }
 
-/// One of a series' places in the hours around now, some hours of which are to come.
+/// Draws a place of a series in the hours around now, some of which are to come.
 fn place(random: &mut Random, now: u64) -> (&'static str, u64) {
     let hour = now - 60 + random.below(63);
     (NAMES[random.below(4) as usize], hour * PLACES + random.below(PLACES))
@@ -48,7 +48,7 @@ fn point(name: &str, place: u64, value: Value) -> Point {
     Point { name: name.into(), start: place * length, end: (place + 1) * length, value }
 }
 
-/// What is done in one step, at random.
+/// Does one random step.
 async fn step(model: &mut Model, sink: &dyn Sink, database: &Database<'_>, random: &mut Random, now: u64) {
     match random.below(20) {
         0..=9 => {
@@ -97,7 +97,7 @@ async fn step(model: &mut Model, sink: &dyn Sink, database: &Database<'_>, rando
     }
 }
 
-/// An interval that is half of one that is there, in order.
+/// Sends, in order, an interval that is half of an existing one.
 async fn overlap(model: &mut Model, sink: &dyn Sink, random: &mut Random) {
     let all: Vec<_> = model.taken.iter().collect();
     let Some((name, place)) = all.get(random.below(200) as usize) else {
@@ -109,16 +109,16 @@ async fn overlap(model: &mut Model, sink: &dyn Sink, random: &mut Random) {
     refused(sink, (1 << 40) + model.refused, body(&[half]), "is not added").await;
 }
 
-/// Whether all of it was done within one hour.
+/// Returns whether all of it was done within one hour.
 async fn tried(database: &Database<'_>, seed: u64) -> bool {
     let (mut model, mut random, now_) = (Model::default(), Random(seed), now());
     let address = database.address();
     let mut sink = open(&address);
-    // So that the others come as if they had been put aside, in any order of their times.
+    // After this the others are dead letters, and may come in any order of their times.
     taken(&*sink, 1 << 39, body(&[])).await;
     for count in 0..80 {
         if count == 20 {
-            // So each seed has late points.
+            // So that each seed has late points.
             let day = (now_ - 40) / 24 * 24;
             done(&*sink, Deed::Close(period(day, 24))).await;
             model.closed.insert((day, day + 24));
@@ -152,7 +152,7 @@ async fn what_counts_where_is_right_over_closes_late_points_and_adjustments() {
     }
 }
 
-/// It can be read once its wait for a standby is cut, and would be lost with this server, after the bill.
+/// If its wait for a standby is cancelled, a close can be read. Yet it would be lost with this server, after the bill.
 #[tokio::test(flavor = "multi_thread")]
 async fn what_no_standby_has_is_not_closed() {
     let Some(server) = Server::start() else { return };
@@ -221,7 +221,7 @@ async fn what_can_t_be_done_is_named_and_changes_nothing() {
     not_done(&*otlp, Deed::Close(period(1, 1)), "otlp http://127.0.0.1:1/v1/metrics keeps no periods").await;
 }
 
-/// Else it is said to be done, and is on no bill.
+/// Otherwise an adjustment would be confirmed and be on no bill.
 #[tokio::test(flavor = "multi_thread")]
 async fn an_hour_that_is_deleted_is_adjusted_only_while_it_is_closed() {
     let Some(server) = Server::start() else { return };
@@ -241,13 +241,13 @@ async fn an_hour_that_is_deleted_is_adjusted_only_while_it_is_closed() {
     let adjust = || Deed::Adjust(by_hand(Which::Number(1), hour, -1, "by hand"));
     not_done(&*sink, adjust(), "were deleted (--keep-hours)").await;
     assert_eq!(server.ask(of_all), "2|0");
-    // What is closed is adjusted where that counts.
+    // A closed hour is adjusted in the hour in which it counts.
     done(&*sink, Deed::Close(period(hour, 1))).await;
     done(&*sink, adjust()).await;
     assert_eq!(server.ask(of_all), "2|-1");
 }
 
-/// As by a clock that was ahead once: what came late then counts far behind all intervals.
+/// As after a clock was ahead once: late points then count in an hour long after all intervals.
 #[tokio::test(flavor = "multi_thread")]
 async fn what_came_late_is_no_reason_to_leave_out_what_comes() {
     let Some(server) = Server::start() else { return };
@@ -263,7 +263,7 @@ async fn what_came_late_is_no_reason_to_leave_out_what_comes() {
     until(&server, "select hours_from from totxegun.horizon", &hour.to_string()).await;
 }
 
-/// Deliveries that were answered before a close are in the period, and those that begin behind it are late.
+/// Deliveries that were answered before a close are in the period, and those that begin after it are late.
 #[tokio::test(flavor = "multi_thread")]
 async fn a_close_comes_between_two_deliveries() {
     let Some(server) = Server::start() else { return };
@@ -310,7 +310,7 @@ async fn a_close_comes_between_two_deliveries() {
     assert_ne!((closed.as_str(), late.as_str()), ("0", "0"));
 }
 
-/// Whatever connection is cut, a deed is there wholly or not at all, and asked again it comes to the same.
+/// Whichever connection is cut, a deed is there wholly or not at all, and a repeat has the same result.
 #[tokio::test(flavor = "multi_thread")]
 async fn deeds_and_late_points_over_cut_connections() {
     let Some(server) = Server::start() else { return };
@@ -347,7 +347,7 @@ async fn deeds_and_late_points_over_cut_connections() {
         let one = request(number, sum("a", start, start + 10, 100));
         while sink.deliver(&one).await != Fate::Taken {}
     }
-    // Four adjustments of 1, and twelve intervals of 100, of which eight came while the hour was closed.
+    // Four adjustments of 1, and twelve intervals of 100, eight of which came while the hour was closed.
     let found = "select sum(total), sum(adjustments), sum(total_adjusted) from totxegun.";
     assert_eq!(server.ask(&format!("{found}totals")), "1201|4|1205");
     assert_eq!(server.ask(&format!("{found}by_hour")), "1201|4|1205");

@@ -1,4 +1,4 @@
-//! Points as a plain list, what they come to by hours, and requests of them.
+//! Points as a plain list, their sums by hour, and requests of them.
 
 use std::collections::BTreeMap;
 
@@ -18,7 +18,7 @@ pub struct Point {
     pub value: Value,
 }
 
-/// What points come to.
+/// The sums of points.
 #[derive(Default)]
 struct Total {
     points: u64,
@@ -28,7 +28,7 @@ struct Total {
     buckets: Option<[u64; 3]>,
 }
 
-/// A request of these points.
+/// A request with these points.
 pub fn body(points: &[Point]) -> String {
     let metrics: Vec<String> = points.iter().map(metric).collect();
     format!(
@@ -54,7 +54,8 @@ fn metric(point: &Point) -> String {
     }
 }
 
-/// Lines of name, `key` of a point's last nanosecond, points, total, count, without_sum and buckets, in their order.
+/// The sums as lines of name, `key` of a point's last nanosecond, points, total, count, without_sum and buckets, in
+/// order.
 pub fn lines(points: &[Point], key: impl Fn(u64) -> String) -> String {
     let mut totals: BTreeMap<(String, String), Total> = BTreeMap::new();
     for point in points {
@@ -79,7 +80,7 @@ pub fn lines(points: &[Point], key: impl Fn(u64) -> String) -> String {
     totals.into_iter().map(line).collect::<Vec<String>>().join("\n")
 }
 
-/// Numbers that look random, the same in each run.
+/// Numbers that look random, and are the same in each run.
 pub struct Random(pub u64);
 
 impl Random {
@@ -89,7 +90,7 @@ impl Random {
     }
 }
 
-/// A value of a series by its name: those that begin with `h` are histograms.
+/// A value for a series of this name: names that begin with `h` are histograms.
 pub fn value(name: &str, random: &mut Random) -> Value {
     match name.starts_with('h') {
         false => Value::Sum(random.below(2001) as i64 - 1000),

@@ -1,4 +1,4 @@
-//! Who may read the tables, what these say of themselves, and what a reader leaves and is told.
+//! Tests who may read the tables, what they say of themselves, and what readers leave behind and are told.
 
 use crate::kept::{now, until};
 use crate::model::both;
@@ -31,7 +31,7 @@ async fn a_role_reads_all_and_writes_nothing() {
     assert_eq!(server.ask(may), "f");
 }
 
-/// What is there says what it is.
+/// Each table, view and column has a text.
 #[tokio::test(flavor = "multi_thread")]
 async fn each_table_view_and_column_has_a_comment() {
     let Some(server) = Server::start() else { return };
@@ -42,7 +42,7 @@ async fn each_table_view_and_column_has_a_comment() {
     assert_eq!(server.ask(dumb), "0");
 }
 
-/// Whoever can't make roles delivers all the same, and the role that an administrator makes is let in.
+/// A service that can't make roles delivers nevertheless, and grants rights to the role that an administrator makes.
 #[tokio::test(flavor = "multi_thread")]
 async fn without_a_right_to_make_roles_all_goes_on() {
     let Some(server) = Server::start() else { return };
@@ -63,7 +63,7 @@ async fn without_a_right_to_make_roles_all_goes_on() {
     panic!("the role is not let in");
 }
 
-/// Else each page of totals is a line in the server's log, as of a client that crashed.
+/// Otherwise each page of totals would be a line in the server's log, like a crash of a client.
 #[tokio::test(flavor = "multi_thread")]
 async fn who_reads_leaves_no_transaction_open() {
     let Some(server) = Server::start() else { return };
@@ -85,7 +85,7 @@ async fn who_reads_leaves_no_transaction_open() {
     assert_eq!(&log()[before..], "");
 }
 
-/// An operator may read several.
+/// An operator may read several databases.
 #[tokio::test(flavor = "multi_thread")]
 async fn what_is_odd_in_a_database_says_in_which() {
     let server = Server::start();

@@ -1,4 +1,5 @@
-//! What begins where `totxegun rewind` has put a series back, although the sink has what a wrong clock has put ahead.
+//! Tests what begins after `totxegun rewind` has moved the end of a series back, although the sink has points of a
+//! clock that was ahead.
 
 use super::model::both;
 use super::server::{histogram, sum, Server};
@@ -8,7 +9,7 @@ use totxegun::sinks::Rewind;
 
 const MINUTE: u64 = 60_000_000_000;
 const HOUR: u64 = 60 * MINUTE;
-/// A right span ends there.
+/// A correct interval ends here.
 const BEGIN: u64 = 500_000 * HOUR + 55 * MINUTE;
 
 pub fn key(name: &str) -> SeriesKey {
@@ -28,13 +29,13 @@ fn key_of(name_and_unit: &str, kind: &str, attributes: &str) -> SeriesKey {
     SeriesKey(format!(r#"[[],"s","1",[],"{name_and_unit}",{kind},{attributes}]"#).into())
 }
 
-/// Of `a` by ten minutes, of the histogram too.
+/// Bodies for `a` and a histogram, each of ten minutes.
 fn bodies(start: u64) -> [String; 2] {
     let end = start + 10 * MINUTE;
     [sum("a", start, end, 1), histogram("h", start, end, Some(3), [2, 1, 0])]
 }
 
-/// Each request comes twice, as behind a kill before its acknowledgement, and to a sink that is opened anew.
+/// Each request comes twice, as after a kill before its acknowledgement, and the sink is opened again in between.
 #[tokio::test(flavor = "multi_thread")]
 async fn what_begins_behind_a_rewind_counts_once_whatever_was_ahead() {
     let server = Server::start();
@@ -76,7 +77,7 @@ async fn what_begins_behind_a_rewind_counts_once_whatever_was_ahead() {
             database.ask("select name, sum(points) from t.by_day group by 1 order by 1"),
             "a|28\nb|1\nh|28"
         );
-        // What begins before the series ends is left as ever.
+        // Points that begin before the end of the series are left out as ever.
         let sink = open(&address);
         for body in [
             sum("a", BEGIN - MINUTE, BEGIN + MINUTE, 1),
@@ -89,7 +90,7 @@ async fn what_begins_behind_a_rewind_counts_once_whatever_was_ahead() {
     }
 }
 
-/// A sink that was away gets it in its place; to one that has nothing of the series it says nothing.
+/// A sink that was down gets the rewind in order. If it has nothing of the series, the rewind changes nothing.
 #[tokio::test(flavor = "multi_thread")]
 async fn a_rewind_of_what_is_not_there_changes_nothing() {
     let server = Server::start();

@@ -1,4 +1,4 @@
-//! Several services write the same series of one database; and what others do to its tables.
+//! Tests several services that write the same series of one database, and what others do to its tables.
 
 use crate::server::{sum, sums, Server};
 use crate::{open, refused, request, taken};
@@ -8,10 +8,10 @@ use totxegun::sinks::Fate;
 
 const ROUNDS: u64 = 100;
 const SERVICES: u64 = 3;
-/// Of a request. A third of them is new in each round, and of every second one the others come with it.
+/// The numbers of series in a round. A third of them is new in each round, and each service leaves out a third.
 const SERIES: u64 = 60;
 
-/// The series of a service in a round. Each round has some of the round before, which are there or are just being made.
+/// The series of a service in a round. Some are of the round before, and exist or are just being made.
 fn series(round: u64, service: u64) -> BTreeSet<u64> {
     let first = round * SERIES / 3;
     (first..first + SERIES).filter(|one| !(one + service).is_multiple_of(3)).collect()
@@ -30,12 +30,12 @@ fn body(round: u64, service: u64) -> String {
     sums(&points)
 }
 
-/// None waits for another that waits for it: each request has its answer the first time.
+/// No two wait for each other: each request is answered at the first try.
 #[tokio::test(flavor = "multi_thread")]
 async fn services_that_make_the_same_series_never_deadlock() {
     let Some(server) = Server::start() else { return };
     let address = server.by_socket("postgres");
-    // The schema is there before all come at once.
+    // The schema exists before all of them start.
     drop(open(&address));
     let services = (0..SERVICES).map(|service| {
         let sink = open(&address);
@@ -45,7 +45,7 @@ async fn services_that_make_the_same_series_never_deadlock() {
                 let mut request = request(round, body(round, service));
                 request.slot = service as u16;
                 let all = series(round, service).len() as u64;
-                // Another one may have come first with what is later.
+                // Another service may have sent later points first.
                 taken += match sink.deliver(&request).await {
                     Fate::Taken => all,
                     Fate::TakenPartly { rejected, .. } => all - rejected,
@@ -68,7 +68,7 @@ async fn services_that_make_the_same_series_never_deadlock() {
     assert_eq!(server.ask("select count(distinct series), count(*) from totxegun.intervals"), counted);
 }
 
-/// Names of series of `sums`, in the order of their digests, which are beside them.
+/// Names of series of `sums`, with their digests, in the order of the digests.
 fn in_order(server: &Server) -> Vec<(String, String)> {
     let query = r#"select name, digest from (select 'n' || i as name, sha256(convert_to(
             '[[],"s","1",[],"n' || i || '","1","sum",[{"key":"k","value":{"stringValue":"v"}}]]', 'UTF8')) as digest
@@ -83,7 +83,8 @@ async fn wait_until(server: &Server, query: &str, answer: &str) {
     }
 }
 
-/// Who waits for a series that another makes has locked no total that the other wants then.
+/// A request that waits for a series which another transaction makes must not hold the lock of a total that the other
+/// wants next.
 #[tokio::test(flavor = "multi_thread")]
 async fn totals_are_locked_behind_new_series() {
     let Some(server) = Server::start() else { return };
@@ -95,9 +96,10 @@ async fn totals_are_locked_behind_new_series() {
         "select count(*) from pg_locks where not granted",
         "from pg_stat_activity where query = 'select pg_sleep(60)'",
     );
-    // The first request of an epoch makes its life, for which others wait.
+    // The first request of an epoch makes its life, and others wait for that.
     taken(&*one, 0, sum("first", 1, 2, 1)).await;
-    // Somebody makes the second series: the other waits for that with the first one made, and has not come to the third.
+    // Somebody makes the second series. The other request waits for it after it has made the first, and has not come to
+    // the third.
     let _held = server.hold(&format!(
         "begin; insert into totxegun.series (digest, identity, is_exact, name, unit, kind, is_monotonic,
             attributes, resource, scope_name, scope_version, scope_attributes)
@@ -119,7 +121,7 @@ async fn totals_are_locked_behind_new_series() {
     assert_eq!(counted, "7|7");
 }
 
-/// However many series are there and come at once, each is looked up by an index.
+/// However many series exist and come at once, each is looked up by an index.
 #[tokio::test(flavor = "multi_thread")]
 async fn no_table_is_read_whole() {
     let Some(server) = Server::start() else { return };
@@ -131,21 +133,21 @@ async fn no_table_is_read_whole() {
         let points: Vec<(&str, u64, u64, i64)> =
             part.iter().map(|name| (&name[..], turn + 1, turn + 2, 1)).collect();
         taken(&*sink, number, sums(&points)).await;
-        // It comes again, and once more under a key of its own.
+        // It comes again, and once more under another key.
         taken(&*sink, number, sums(&points)).await;
         refused(&*sink, 100 + number, sums(&points), "is not added").await;
     }
-    // A session tells what it has read when it ends.
+    // A session reports what it has read when it ends.
     drop(sink);
     wait_until(&server, "select count(*) from pg_stat_activity where application_name = 'totxegun'", "0")
         .await;
-    // These have a row each.
+    // These tables have one row each.
     let read = "select relname, seq_tup_read from pg_stat_user_tables \
                 where relname not in ('sink', 'version', 'horizon') and seq_tup_read > 0";
     assert_eq!(server.ask(read), "");
 }
 
-/// A service goes on where somebody has emptied the tables.
+/// If somebody has emptied the tables, the service goes on.
 #[tokio::test(flavor = "multi_thread")]
 async fn series_that_are_gone_are_made_anew() {
     let Some(server) = Server::start() else { return };

@@ -1,4 +1,4 @@
-//! A server in a folder of its own, a proxy that cuts, and bodies.
+//! A server in a folder of its own, a proxy that cuts connections, and bodies of requests.
 
 use std::io::Write;
 use std::os::unix::fs::MetadataExt;
@@ -20,7 +20,7 @@ pub struct Server {
     child: Option<Child>,
 }
 
-/// Of Linux on x86-64, in a second of processor time.
+/// The ticks of a second of processor time, on Linux on x86-64.
 const TICKS: f64 = 100.0;
 
 /// PostgreSQL does not run as root.
@@ -97,7 +97,7 @@ impl Server {
         panic!("the server has not started");
     }
 
-    /// Starts anew with a certificate for this name, by a root of its own. `other.pem` is another root.
+    /// Starts again with a certificate for this name, signed by a root of its own. `other.pem` is another root.
     pub fn with_tls(&mut self, name: &str) {
         self.stop();
         let key = "-newkey ec -pkeyopt ec_paramgen_curve:prime256v1 -nodes";
@@ -125,7 +125,7 @@ impl Server {
         assert!(done.status.success(), "{words}: {}", String::from_utf8_lossy(&done.stderr));
     }
 
-    /// What the server has worked, with its processes.
+    /// The processor time of the server's processes.
     pub fn processor_time(&self) -> f64 {
         let parent = self.child.as_ref().map_or(0, Child::id).to_string();
         let of = |entry: std::fs::DirEntry| {
@@ -137,7 +137,7 @@ impl Server {
         std::fs::read_dir("/proc").unwrap().flatten().filter_map(of).sum::<f64>() / TICKS
     }
 
-    /// At once, as a crash does.
+    /// Stops it at once, as a crash does.
     pub fn stop(&mut self) {
         if let Some(mut child) = self.child.take() {
             let id = nix::unistd::Pid::from_raw(child.id() as i32);
@@ -170,7 +170,7 @@ impl Server {
         String::from_utf8(output.stdout).unwrap().trim().into()
     }
 
-    /// Statements as a file has them.
+    /// Runs statements from a file.
     pub fn run_file(&self, database: &str, text: &str) {
         let file = self.folder.path().join("statements");
         std::fs::write(&file, text).unwrap();
@@ -179,7 +179,7 @@ impl Server {
         assert!(output.status.success(), "{error}");
     }
 
-    /// Goes on beside the test until it is dropped.
+    /// Runs a query beside the test until this is dropped.
     pub fn hold(&self, query: &str) -> Held {
         let mut psql = self.psql("postgres", query);
         Held(psql.stdout(Stdio::null()).spawn().unwrap())
@@ -195,7 +195,7 @@ impl Server {
     }
 }
 
-/// Of this process, in seconds.
+/// The processor time of this process, in seconds.
 pub fn own_processor_time() -> f64 {
     use nix::sys::resource::{getrusage, UsageWho};
     use nix::sys::time::TimeValLike;
@@ -219,7 +219,8 @@ impl Drop for Held {
     }
 }
 
-/// Passes bytes on. Told to, it lets the next COMMIT through, waits until the server has answered, and cuts.
+/// Passes bytes on. When it is told to, it lets the next COMMIT through, waits until the server has answered, and cuts
+/// the connection.
 pub struct Proxy {
     pub port: u16,
     cut: Arc<AtomicBool>,
@@ -293,12 +294,12 @@ pub fn sum(name: &str, start: u64, end: u64, counted: i64) -> String {
     sum_named(name, "v", start, end, counted)
 }
 
-/// A sum whose attribute `k` has this value; both texts as they stand in JSON.
+/// A sum whose attribute `k` has this value. Both texts are as they stand in JSON.
 pub fn sum_named(name: &str, value: &str, start: u64, end: u64, counted: i64) -> String {
     sum_of(name, &point(value, start, end, counted))
 }
 
-/// A sum each.
+/// A request with a sum for each of these.
 pub fn sums(all: &[(&str, u64, u64, i64)]) -> String {
     let of = |(name, start, end, counted): &(&str, u64, u64, i64)| {
         sum_metric(name, &point("v", *start, *end, *counted))

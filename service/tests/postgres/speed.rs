@@ -1,4 +1,4 @@
-//! How many series a second the sinks take: run by hand, as the reason of its `ignore` says.
+//! Measures how many series a second the sinks take. It is run by hand, as the reason of its `ignore` says.
 
 use crate::server::{own_processor_time, Server};
 use crate::{open, taken};
@@ -6,18 +6,18 @@ use std::ops::Range;
 use std::time::Instant;
 use totxegun::sinks::Sink;
 
-/// Of each part, and how often they come again.
+/// The series of each part, and how often they come again.
 const SERIES: u64 = 40_000;
 const TURNS: u64 = 2;
 
-/// What stands between the ends of a span.
+/// The length of an interval.
 const SPAN: u64 = 60_000_000_000;
 const FIRST_START: u64 = 1_700_000_000_000_000_000;
 
 #[derive(Clone, Copy)]
 enum Kind {
     Sum,
-    /// Of 11 buckets.
+    /// With 11 buckets.
     Histogram,
 }
 
@@ -29,7 +29,7 @@ impl Kind {
         }
     }
 
-    /// A request of one point each of these series, all in the same span.
+    /// A request with a point for each of these series, all of the same interval.
     fn request(self, series: Range<u64>, turn: u64) -> String {
         let start = FIRST_START + turn * SPAN;
         let time = format!(r#""startTimeUnixNano":"{start}","timeUnixNano":"{}""#, start + SPAN);
@@ -79,7 +79,7 @@ fn list(pairs: &[(&str, &str)]) -> String {
     format!("[{}]", pairs.iter().map(pair).collect::<Vec<String>>().join(","))
 }
 
-/// A PostgreSQL server of its own, and then a SQLite file, on one file system.
+/// First a PostgreSQL server of its own, then a SQLite file, on one file system.
 #[tokio::test(flavor = "multi_thread")]
 #[ignore = "it measures: tools/cargo test --release --test postgres -- --ignored --nocapture"]
 async fn series_a_second() {
@@ -97,14 +97,14 @@ fn load() -> String {
     std::fs::read_to_string("/proc/loadavg").unwrap().trim().into()
 }
 
-/// By the clock; and by the processor time of this process and the server's, which a machine that does other work too
-/// can compare.
+/// Measures the time, and the processor time of this process and of the server, which can be compared even on a machine
+/// that does other work.
 async fn measure(name: &str, sink: &dyn Sink, there: impl Fn() -> f64) {
     let mut number = 0;
     for (size, kind) in
         [1000, 10_000].into_iter().flat_map(|size| [(size, Kind::Sum), (size, Kind::Histogram)])
     {
-        // No series of one size is one of the other's.
+        // The two sizes have no series in common.
         let first = size * SERIES;
         for (part, turns) in [("new", 0..1), ("known", 1..1 + TURNS)] {
             let bodies: Vec<String> = turns

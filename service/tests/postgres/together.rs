@@ -1,4 +1,4 @@
-//! Several requests in one transaction.
+//! Tests several requests in one transaction.
 
 use super::model::{both, Database};
 use super::server::{sum, sums, Server};
@@ -7,7 +7,7 @@ use totxegun::sinks::Forwarded;
 
 const HOUR: u64 = 3_600_000_000_000;
 
-/// Of each hour one of three series, as after a flush over many hours.
+/// A request for each of these hours, of one of three series, as after a flush over many hours.
 fn of_hours(first: u64, count: u64) -> Vec<Forwarded> {
     let body = |hour: u64| {
         let end = (500_000 + hour) * HOUR;
@@ -37,7 +37,7 @@ async fn all_of_them_are_taken_each_under_its_key() {
                 as of on of.request = id and of.count = points where id > 1";
             assert_eq!(database.ask(brought), "40");
         }
-        // As behind a lost answer: each by itself says that it was taken.
+        // As after a lost answer: each by itself is answered as taken.
         assert!(!sink.deliver_together(&all, None).await);
         for one in &all {
             assert_eq!(sink.deliver(one).await, totxegun::sinks::Fate::Taken);
@@ -47,7 +47,7 @@ async fn all_of_them_are_taken_each_under_its_key() {
     }
 }
 
-/// Nothing of the others is there, and nothing is in the way of them.
+/// Nothing of the others is there, and they can still be taken.
 #[tokio::test(flavor = "multi_thread")]
 async fn where_one_can_not_be_taken_whole_nothing_is() {
     let server = Server::start();
@@ -63,7 +63,7 @@ async fn where_one_can_not_be_taken_whole_nothing_is() {
             assert_eq!(database.ask("select name, points from t.totals"), "a|1");
             assert_eq!(database.ask("select count(*) from t.requests"), "1");
         }
-        // Two that overlap each other.
+        // Two requests that overlap.
         let mut all = of_hours(2, 2);
         all.push(request(4, String::from_utf8(all[0].body.clone()).unwrap()));
         assert!(!sink.deliver_together(&all, None).await);

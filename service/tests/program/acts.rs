@@ -1,9 +1,9 @@
-//! What operators do is recorded in the folder and in the log.
+//! Tests that operators' actions are recorded in the folder and in the log.
 
 use crate::support::{points, Place};
 use std::os::unix::fs::MetadataExt;
 
-/// The name of who runs this test, as the machine knows it.
+/// The name of the user who runs this test, as the machine knows it.
 fn own_name() -> String {
     let users = std::fs::read_to_string("/etc/passwd").unwrap();
     let uid = std::fs::metadata("/proc/self").unwrap().uid().to_string();

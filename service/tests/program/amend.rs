@@ -1,4 +1,5 @@
-//! A series that a wrong clock has put ahead is put back, and one that is whose it should not be is forgotten.
+//! Tests that a series is rewound which a wrong clock has put ahead, and that one is forgotten which the wrong sender
+//! has.
 
 use crate::support::{points, signal, until, Place};
 use std::process::Command;
@@ -52,7 +53,7 @@ fn a_series_is_put_back_and_what_the_sink_has_of_it_is_told() {
     assert!(said.contains("done: 1 series ends at 2026-01-01 00:00:00 now"), "{said}");
     assert!(said.contains("; the sink has of it from that hour on 5 in "), "{said}");
     assert_eq!(service.post("A", &right).unwrap().0, 200);
-    // Another that ended ahead is as it was; and so is what was put back, over a kill.
+    // Another series that ended ahead is as it was, and the rewound one is as it is now, even after a kill.
     assert_eq!(service.post("A", &points(&["b"], begun, 1)).unwrap().0, 400);
     service.kill();
     let service = place.serve_with(&["--sink", &sink, "--max-ahead", "off"]);
@@ -66,7 +67,7 @@ fn a_series_is_put_back_and_what_the_sink_has_of_it_is_told() {
     let wanted =
         "done: no series is named b{host=x}: nothing of it is known yet, or it is forgotten already\n";
     assert_eq!((code, said.as_str()), (Some(0), wanted));
-    // It ended ahead, and ends at the sink when it was forgotten.
+    // The series ended ahead. In the sink it ends at the time when it was forgotten.
     assert_eq!(service.post("B", &points(&["b"], now(), 1)).unwrap().0, 200);
     service.drain();
     assert_eq!(place.totals().values().sum::<i64>(), 5 + 1 + 2 + 5 + 1);
@@ -83,7 +84,7 @@ fn a_series_is_put_back_and_what_the_sink_has_of_it_is_told() {
     assert_eq!(service.end(), Some(0));
 }
 
-/// It can't tell a repeat from what it has.
+/// Such a sink can't tell a repeat from what it has.
 #[test]
 fn a_sink_that_can_t_tell_a_repeat_wants_it_said() {
     let place = Place::new();
@@ -113,7 +114,7 @@ fn what_comes_behind_a_repair_is_counted_once_over_kills() {
             assert_eq!(service.post_until_answered("A", &ahead).0, 200);
         }
         service.drain();
-        // It may be killed before, within, or after it.
+        // The service may be killed before, during or after the repair.
         let repair = &["rewind", name, "--to", &to];
         std::thread::scope(|scope| {
             let asked = scope.spawn(|| service.said(repair));
@@ -144,7 +145,7 @@ fn what_comes_behind_a_repair_is_counted_once_over_kills() {
     assert_eq!(service.end(), Some(0));
 }
 
-/// A run that a wrong clock has put ahead goes on behind the repair with what it has more.
+/// After the repair, a run that a wrong clock has put ahead goes on with what it has counted since.
 #[test]
 fn a_cumulative_run_goes_on_behind_a_repair() {
     let place = Place::new();

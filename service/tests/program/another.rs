@@ -1,4 +1,4 @@
-//! A setting of the sink that is lost, as with its file.
+//! Tests a lost setting of the sink, for example because its file was lost.
 
 use crate::support::{points, Place, NO_SINK};
 
@@ -23,7 +23,7 @@ fn a_lost_setting_delivers_nothing_into_another_sink() {
     assert_eq!(place.serve().end(), Some(0));
 }
 
-/// Else the next start, without the option, finds another sink than the folder has.
+/// Otherwise the next start, without the option, would find another sink than the folder has.
 #[test]
 fn a_start_that_fails_for_its_journal_leaves_the_sink_as_it_was() {
     let place = Place::new();

@@ -1,15 +1,15 @@
-//! What is kept back of a quarantined sender costs a checkpoint nothing, and comes out whole.
+//! Tests that the parked posts of a quarantined sender make no checkpoint slower, and come out whole.
 
 use crate::support::{points, Place, Service};
 
 const POSTS: u64 = 24;
-/// Of a post, and what one takes in the journal at least.
+/// The points of a post, and the least bytes that a point takes in the journal.
 const POINTS: u64 = 16_000;
 const LENGTH: u64 = 9;
 const LITTLE: u64 = 1 << 20;
 const ROUNDS: u64 = 10;
 
-/// What a process has written so far, and the most memory that it has had, in bytes.
+/// The bytes that a process has written so far, and the most memory that it has had.
 fn written_and_memory(service: &Service) -> (u64, u64) {
     let of = |file: &str, name: &str| -> u64 {
         let text = std::fs::read_to_string(format!("/proc/{}/{file}", service.pid())).unwrap();
@@ -19,7 +19,7 @@ fn written_and_memory(service: &Service) -> (u64, u64) {
     (of("io", "wchar:"), of("status", "VmHWM:") << 10)
 }
 
-/// Points of one series whose values come to 1.
+/// A post with points of one series whose values add up to 1.
 fn many_points(post: u64) -> String {
     let point = |number: u64| {
         let start = 100 + 10 * (post * POINTS + number);
@@ -49,7 +49,8 @@ fn held(service: &Service) -> (u64, u64, u64) {
     (of("senders"), of("posts"), of("bytes"))
 }
 
-/// The next flush takes what was released, also over a kill: a close before it would have all of that come late.
+/// The next flush takes what was released, also after a kill. If the period were closed before, all of that would come
+/// late.
 #[test]
 fn a_period_is_not_closed_while_what_was_released_waits_for_a_flush() {
     let place = Place::new();
@@ -57,7 +58,7 @@ fn a_period_is_not_closed_while_what_was_released_waits_for_a_flush() {
     let words = ["--flush-interval", "1h", "--sink", &sink];
     let mut service = place.serve_with(&words);
     assert_eq!(service.post("A", &points(&["a"], 100, 5)).unwrap(), (200, "{}".into()));
-    // Of B, which stays quarantined, nothing is held.
+    // Nothing is parked of B, which stays quarantined.
     for order in ["/quarantine/A", "/quarantine/B", "/flush", "/release/A"] {
         assert_eq!(service.order(order).0, 200, "{order}");
     }

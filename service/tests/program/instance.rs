@@ -1,8 +1,8 @@
-//! Two processes of one program that don't say which they are: by their senders' names each has series of its own.
+//! Tests two processes of one program that don't name themselves: by their senders' names, each has series of its own.
 
 use crate::support::{field, fixed, points, Place};
 
-/// As an SDK sends it, without an attribute.
+/// A body as an SDK sends it, without an attribute.
 fn protobuf(end: u64) -> Vec<u8> {
     let point = [fixed(2, end - 10), fixed(3, end), fixed(6, 3)].concat();
     let sum = [&field(1, &point)[..], &[0x10, 1, 0x18, 1]].concat();

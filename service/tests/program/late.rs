@@ -1,4 +1,4 @@
-//! Points that their series refuse are kept, and listed by `totxegun late`.
+//! Tests that points which their series refuse are kept, and listed by `totxegun late`.
 
 use crate::support::{points, until, Place, Service};
 use serde_json::Value;
@@ -14,7 +14,7 @@ fn names(found: &[Value]) -> Vec<&str> {
     found.iter().map(|point| point["name"].as_str().unwrap()).collect()
 }
 
-/// Over a kill too; a repeat is listed once.
+/// Also after a kill. A repeat is listed once.
 #[test]
 fn what_a_series_refuses_is_listed_by_series_sender_reason_and_time() {
     let place = Place::new();
@@ -68,12 +68,12 @@ fn what_a_series_refuses_is_listed_by_series_sender_reason_and_time() {
         .metrics()
         .lines()
         .any(|line| line.starts_with("totxegun_late_bytes ") && !line.ends_with(" 0")));
-    // What is listed has what senders sent: over TCP it is for operators.
+    // The list shows what senders sent, so over TCP it is only for operators.
     assert_eq!(service.asked_for("/late").unwrap().0, 403);
     service.has_no_fault();
 }
 
-/// Neither a folder that can't be written, nor one that is gone, ends the service.
+/// The service goes on if the folder can't be written, and if it is gone.
 #[test]
 fn late_data_that_can_t_be_written_ends_nothing() {
     let place = Place::new();
@@ -90,7 +90,7 @@ fn late_data_that_can_t_be_written_ends_nothing() {
     assert_eq!(service.end(), Some(0));
 }
 
-/// What is booked of late data counts once, in the hour in which it ended, of which the sink may have no row.
+/// Late data that is booked counts once, in the hour in which it ended, even if the sink has no row of that hour.
 #[test]
 fn late_data_is_booked_once() {
     let place = Place::new();
@@ -115,7 +115,7 @@ fn late_data_is_booked_once() {
         let said = service.said(words);
         assert!(said.contains(&format!("late data {key} is booked already, by ")), "{said}");
     }
-    // By hand, by its names, in another hour.
+    // Adjusted by hand, by the series' name, in another hour.
     for (words, wanted) in [
         (&["a", "1970-01-01T03", "-2"][..], "done: series 1 has -2 in 1970-01-01 03:00\n"),
         (&["b{}", "1970-01-01T03", "4"], "done: series 2 has +4 in 1970-01-01 03:00\n"),
@@ -145,7 +145,7 @@ fn late_data_is_booked_once() {
     service.has_no_fault();
 }
 
-/// What of a period is in no bill is said by its close and by an export, until it is booked.
+/// The close of a period, and its export, say which points of it are in no bill until they are booked.
 #[test]
 fn a_close_and_an_export_say_what_is_not_counted() {
     let place = Place::new();

@@ -1,11 +1,11 @@
-//! Letters that are sent again.
+//! Tests dead letters that are sent again.
 
 use crate::support::{points, until, Place, Service};
 use std::io::{BufRead, BufReader, ErrorKind, Read, Write};
 use std::net::{TcpListener, TcpStream};
 use std::time::Duration;
 
-/// A sink of OTLP whose answers the test gives.
+/// An OTLP sink whose answers the test gives.
 struct Sink {
     listener: TcpListener,
     address: String,
@@ -48,7 +48,7 @@ impl Sink {
         }
     }
 
-    /// Answers so many, by these statuses and then by 200: their keys.
+    /// Answers this many requests, with these statuses and then with 200. Returns their keys.
     fn answers(&self, count: usize, statuses: &[&str]) -> Vec<String> {
         let statuses = statuses.iter().copied().chain(std::iter::repeat("200 OK"));
         let asked = statuses.take(count).map(|status| self.next().answer(status));
@@ -93,7 +93,7 @@ fn service(place: &Place, sink: &Sink) -> Service {
     service
 }
 
-/// As where a run was killed before the outbox knew that the request lies in `dead-letters/`.
+/// As if a run was killed before the outbox noted that the request is a dead letter.
 #[test]
 fn a_letter_that_is_being_delivered_is_not_sent_meanwhile() {
     let (place, sink) = (Place::new(), Sink::new());
@@ -149,7 +149,7 @@ fn all_letters_are_sent_until_the_sink_fails() {
     assert!(service.said(&["dead-letters", "list"]).contains("0-a-4-partial"));
 }
 
-/// It shows none, so that nobody takes some for all.
+/// The page shows none of them, so that nobody takes some for all.
 #[test]
 fn the_page_says_how_many_letters_there_are() {
     let (place, sink) = (Place::new(), Sink::new());
@@ -164,7 +164,7 @@ fn the_page_says_how_many_letters_there_are() {
     );
 }
 
-/// Else nothing behind it comes to the sink.
+/// Otherwise no later one would reach the sink.
 #[test]
 fn of_all_letters_those_that_can_t_be_sent_are_named_and_the_others_are_sent() {
     let (place, sink) = (Place::new(), Sink::new());

@@ -6,7 +6,7 @@ use std::sync::atomic::{AtomicBool, Ordering::Relaxed};
 use std::sync::{Arc, RwLock};
 use std::time::{Duration, Instant};
 
-/// Senders that repeat each post until it is answered, at whatever address the service has meanwhile.
+/// Senders that repeat each post until it is answered, at whatever address the service currently has.
 pub struct Load {
     pub address: Arc<RwLock<String>>,
     ends: Arc<AtomicBool>,
@@ -28,7 +28,7 @@ impl Load {
         *self.address.write().unwrap() = service.listen.clone();
     }
 
-    /// By series, what was answered as taken.
+    /// Ends the senders. Returns, by series, what was answered as taken.
     pub fn end(self) -> BTreeMap<String, i64> {
         self.ends.store(true, Relaxed);
         self.threads.into_iter().map(|thread| thread.join().unwrap()).collect()

@@ -1,4 +1,4 @@
-//! A log that nobody can write, or that nobody reads; and what its lines have as JSON.
+//! Tests a log that can't be written, one that nobody reads, and the fields of its lines in JSON.
 
 use crate::stuck::change_request;
 use crate::support::{points, signal, until, Place, Service, NO_SINK, PROGRAM};
@@ -12,17 +12,17 @@ use std::path::PathBuf;
 use std::process::Command;
 use std::time::{Duration, Instant};
 
-/// In which a service that waits for nobody has done what it was told.
+/// How long a service that waits for nobody may take for what it was told to do.
 const SOON: Duration = Duration::from_secs(20);
 
-/// The program with its standard error elsewhere, as a shell writes it.
+/// The program with its standard error redirected as a shell writes it.
 fn into(log: &str) -> Command {
     let mut command = Command::new("bash");
     command.args(["-c", &format!("exec \"$@\" {log}"), "bash", PROGRAM]);
     command
 }
 
-/// A log's disk is full as a rule when the folder's is; a program that reads the log may have ended.
+/// The log's disk is usually full when the folder's is, and a program that reads the log may have ended.
 #[test]
 fn a_log_that_nobody_can_write_ends_nothing() {
     for log in ["2>/dev/full", "2>&-", "2> >(true)"] {
@@ -37,7 +37,7 @@ fn a_log_that_nobody_can_write_ends_nothing() {
     }
 }
 
-/// A pipe whose reader stands still, as journald where it hangs, or a pager.
+/// A pipe whose reader hangs, as journald or a pager may.
 struct Pipe {
     end: File,
     log: String,
@@ -61,7 +61,7 @@ impl Pipe {
         while self.end.write(b"\n").is_ok() {}
     }
 
-    /// What comes until a line has this in it.
+    /// Reads the log until a line contains this.
     fn read_until(&mut self, last: &str) -> String {
         let mut text = String::new();
         until(&format!("`{last}` in the log"), || {
@@ -102,7 +102,7 @@ fn a_log_that_nobody_reads_holds_up_nothing() {
     assert!(begun.elapsed() < 2 * SOON, "it took {:?}", begun.elapsed());
 }
 
-/// Each post of B to a series of A is a line, which names the series.
+/// Each post of B to a series of A gives a line, which names the series.
 #[test]
 fn lines_that_find_no_room_are_counted_where_they_are_missing() {
     let place = Place::new();
@@ -132,7 +132,7 @@ fn lines_that_find_no_room_are_counted_where_they_are_missing() {
     assert_eq!(service.end(), Some(0));
 }
 
-/// The folder's place has a copy of it.
+/// Replaces the folder by a copy of it.
 fn copy_folder(place: &Place) {
     let (data, copy) = (place.data(), place.folder.path().join("copy"));
     let copied = Command::new("cp").arg("-a").args([&data, &copy]).status().unwrap();
@@ -141,7 +141,8 @@ fn copy_folder(place: &Place) {
     std::fs::rename(copy, data).unwrap();
 }
 
-/// What is told of a folder that was copied, and of a request that was changed: its file, and the lines.
+/// Makes a service log that its folder was copied and that a request was changed. Returns the request's file, and the
+/// lines.
 fn told_in_json(place: &Place) -> (PathBuf, Vec<Value>) {
     let service = place.serve_with(&["--sink", NO_SINK]);
     assert_eq!(service.post("A", &points(&["a"], 100, 5)).unwrap().0, 200);

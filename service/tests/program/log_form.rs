@@ -1,10 +1,10 @@
-//! Lines of the log that programs read.
+//! Tests log lines in the forms that programs read.
 
 use crate::support::{points, until, Place, Service, NO_SINK, PROGRAM};
 use std::os::unix::fs::MetadataExt;
 use std::process::Command;
 
-/// What a service writes that has a request which its sink does not take.
+/// The log of a service with a request that its sink does not take.
 fn log_of(place: &Place, service: Service) -> String {
     until("it is ready", || service.is_ready());
     let posted = service.post_until_answered("A", &points(&["a"], 100, 5));
@@ -46,7 +46,7 @@ fn the_last_line_of_a_start_that_fails_is_an_object_too() {
     assert_eq!(last["level"], "ERROR", "{log}");
 }
 
-/// As where systemd starts it: standard error is named by JOURNAL_STREAM.
+/// As when systemd starts it: JOURNAL_STREAM names standard error.
 #[test]
 fn journald_gets_a_priority_for_each_line() {
     let place = Place::new();

@@ -1,4 +1,4 @@
-//! The program itself: who has a series, kills, how many series fit, what an operator is told.
+//! Tests the program itself: owners of series, kills, how many series fit, and what an operator is told.
 
 mod acts;
 mod amend;
@@ -31,7 +31,7 @@ fn refused(why: &str) -> (u16, String) {
     (400, format!("{{\"code\":3,\"message\":\"{why}\"}}"))
 }
 
-/// With one book and with many: nothing on disk depends on their number.
+/// With one book and with many, since nothing on disk depends on their number.
 #[test]
 fn owners_and_frontiers_outlive_kills_and_other_numbers_of_books() {
     let place = Place::new();
@@ -67,7 +67,7 @@ fn owners_and_frontiers_outlive_kills_and_other_numbers_of_books() {
         let line = format!("totxegun_series_limit {max_series}");
         assert!(page.lines().any(|it| it == line), "{line} in\n{page}");
         service.has_no_fault();
-        // Every other one leaves its posts in the journal alone.
+        // Every other run leaves its posts in the journal alone.
         match run % 2 {
             1 => service.kill(),
             _ => assert_eq!(service.end(), Some(0)),
@@ -122,7 +122,7 @@ fn two_senders_at_once_never_share_a_series() {
     assert_eq!(place.totals(), wanted);
 }
 
-/// A book of the library has room for 10,000.
+/// A single book of the library has room for 10,000.
 #[test]
 fn there_are_no_more_series_than_may_be() {
     let place = Place::new();
@@ -144,7 +144,8 @@ fn there_are_no_more_series_than_may_be() {
     assert_eq!(service.end(), Some(0));
 }
 
-/// What ran starts: else all its senders are refused until an operator comes, and nothing is delivered.
+/// What ran before must start. Otherwise all its senders would be refused until an operator comes, and nothing
+/// delivered.
 #[test]
 fn a_service_whose_book_was_full_starts_again_as_it_was() {
     let place = Place::new();
@@ -184,7 +185,7 @@ fn a_service_whose_book_was_full_starts_again_as_it_was() {
     assert!((0..parts).all(|part| totals[&format!("n{part}.0{long}")] == wanted(part)));
 }
 
-/// A smaller number than the folder has series is refused by name, and changes nothing.
+/// A number smaller than the folder's series is refused by name, and changes nothing.
 #[test]
 fn a_folder_with_more_series_than_fit_is_refused_by_name() {
     let place = Place::new();
@@ -208,7 +209,7 @@ fn a_folder_with_more_series_than_fit_is_refused_by_name() {
     assert_eq!((totals.len(), totals["n0"], totals["n1"]), (10_500, 2, 1));
 }
 
-/// Posts get 503 before it is used up, what was taken is forwarded, and a start with more goes on.
+/// Posts get 503 before the memory is used up, what was taken is forwarded, and a start with more memory goes on.
 #[test]
 fn a_book_without_memory_takes_no_posts_and_forwards_all_that_it_took() {
     let place = Place::new();
@@ -235,7 +236,7 @@ fn a_book_without_memory_takes_no_posts_and_forwards_all_that_it_took() {
     let service = place.serve();
     for name in taken.iter().step_by(20) {
         let repeat = service.post("A", &points(&[name], 100, 1)).unwrap();
-        // Those that had no room for numbers are late.
+        // Points that had no room for numbers are late.
         assert!(repeat == (200, "{}".into()) || repeat.0 == 400, "{repeat:?}");
     }
     assert_eq!(service.end(), Some(0));

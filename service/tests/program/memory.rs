@@ -1,12 +1,12 @@
-//! What the service takes of memory for the series of a post.
+//! Tests how much memory the service takes for the series of a post.
 
 use crate::support::{field, fixed, Place, NO_SINK};
 
-/// More than one book has, so that none is kept. A key of each of them takes 170 MB together.
+/// More than one book has, so that none is kept. Their keys together take 170 MB.
 const SERIES: usize = 10_500;
 const MOST: u64 = 100 << 20;
 
-/// Points of one metric, each of a series of its own, which share a resource that is as long as it may be.
+/// Points of one metric, each of its own series, which share a resource of the greatest length.
 fn many_series() -> String {
     let text = "r".repeat(4000);
     let attribute = |key: &str| format!("{{\"key\":\"{key}\",\"value\":{{\"stringValue\":\"{text}\"}}}}");

@@ -1,8 +1,8 @@
-//! Posts of both encodings, whose points go by the numbers of their series.
+//! Tests posts of both encodings, whose points go by the numbers of their series.
 
 use crate::support::{field, fixed, points, Place};
 
-/// As `points` writes it in JSON.
+/// The same as `points`, in protobuf.
 fn in_protobuf(names: &[&str], end: u64, value: i64) -> Vec<u8> {
     let point = [fixed(2, end - 10), fixed(3, end), fixed(6, value as u64)].concat();
     let sum = field(7, &[&field(1, &point)[..], &[0x10, 1]].concat());
@@ -11,13 +11,13 @@ fn in_protobuf(names: &[&str], end: u64, value: i64) -> Vec<u8> {
     field(1, &field(2, &metrics))
 }
 
-/// Over kills, beside the same series in JSON; and a point takes a few bytes of the journal.
+/// Over kills, with the same series in JSON. A point takes a few bytes of the journal.
 #[test]
 fn points_by_number_are_counted_once_over_kills() {
     let place = Place::new();
     let (names, mut total) = (["a", "b", "c"], 0);
     for run in 0..4 {
-        // The first takes no checkpoint: all of its points are in the journal when that is looked at.
+        // The first run makes no checkpoint, so that the journal has all of its points when it is looked at.
         let every = if run == 0 { "1h" } else { "200ms" };
         let mut service = place.serve_with(&["--sink", &place.sink(), "--flush-interval", every]);
         for number in 0..50 {
@@ -40,7 +40,7 @@ fn points_by_number_are_counted_once_over_kills() {
         service.has_no_fault();
         if run == 0 {
             let bytes = service.status()["slots"][0]["journal"]["bytes"].as_u64().unwrap();
-            // As a text each of 150 points takes 170 bytes.
+            // As text, each of the 150 points would take 170 bytes.
             assert!((1_500..4_000).contains(&bytes), "{bytes} bytes in the journal");
         }
         service.kill();

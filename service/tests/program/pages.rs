@@ -1,9 +1,9 @@
-//! What programs may ask of the admin address, and a web page may not.
+//! Tests what programs may ask of the admin address, and a web page may not.
 
 use crate::support::{points, Place, Service, NO_SINK};
 use std::process::Command;
 
-/// All that changes something, or has something of the senders.
+/// All routes that change something, or show what senders have sent.
 const GUARDED: [(&str, &str); 10] = [
     ("POST", "/flush"),
     ("POST", "/quarantine/A"),
@@ -86,7 +86,7 @@ fn programs_ask_as_before() {
     for path in ["/metrics", "/totals"] {
         assert_eq!(curl(&service, "GET", path, &prometheus).0, 200, "{path}");
     }
-    // A probe by another name.
+    // A probe may use another name.
     for path in ["/healthz", "/readyz", "/startupz"] {
         assert_eq!(curl(&service, "GET", path, &["Host: totxegun:4319"]).0, 200, "{path}");
     }
@@ -94,7 +94,7 @@ fn programs_ask_as_before() {
     assert_eq!(said, "done: there was nothing to put into the outbox\n");
 }
 
-/// Else who flushes while the sink is away thinks that all is delivered, or lost.
+/// Otherwise an operator who flushes while the sink is down would think that all is delivered, or lost.
 #[test]
 fn who_flushes_is_told_what_waits() {
     let place = Place::new();

@@ -1,4 +1,4 @@
-//! SIGHUP: what can change does, what can't is named, and no post is lost or counted twice meanwhile.
+//! Tests SIGHUP: what can change does, what can't is named, and meanwhile no post is lost or counted twice.
 
 use super::support::*;
 use std::path::Path;
@@ -8,7 +8,7 @@ use std::time::Duration;
 
 const TIMES: usize = 20;
 
-/// A sender that posts until it is told to stop: how often it was answered 200.
+/// A sender that posts until it is told to stop. Returns how often it was answered 200.
 fn sender(service: &Service, name: &'static str, stop: &'static AtomicBool) -> JoinHandle<i64> {
     let listen = service.listen.clone();
     std::thread::spawn(move || {
@@ -70,13 +70,13 @@ fn what_needs_a_restart_is_named_and_a_fault_changes_nothing() {
     };
     said("threads = 3\nkeep-hours = \"7d\"\n", "systemctl restart totxegun settings=\"keep-hours, threads\"");
     said("threads = 2\nsender-points = 1\n", "count from now on settings=\"sender-points\"");
-    // A minute's at once.
+    // A minute's points at once.
     let many = |time: u64| {
         asked(&service.listen, "POST", "/v1/metrics", "a", &points(&["a"], 20 + 10 * time, 1)).unwrap().0
     };
     let answers: Vec<u16> = (0..80).map(many).collect();
     assert!(answers.contains(&429), "{answers:?}");
-    // What a start would refuse: a setting, a file, or what settings are together.
+    // What a start would refuse: a setting, a file, or settings that don't go together.
     for (fault, wanted) in [
         ("thread = 2\n", "no setting `thread`"),
         (
@@ -96,7 +96,7 @@ fn what_needs_a_restart_is_named_and_a_fault_changes_nothing() {
     assert!(!place.log().contains("ended\n"), "{}", place.log());
 }
 
-/// As a file on a disk that stalls.
+/// Like a file on a disk that stalls.
 #[test]
 fn settings_that_are_never_read_hold_no_end_up() {
     let place = Place::new();
@@ -106,14 +106,14 @@ fn settings_that_are_never_read_hold_no_end_up() {
     std::fs::remove_file(&path).unwrap();
     nix::unistd::mkfifo(&path, nix::sys::stat::Mode::from_bits_truncate(0o600)).unwrap();
     signal(service.pid(), "HUP");
-    std::thread::sleep(Duration::from_millis(500)); // so it is being read
+    std::thread::sleep(Duration::from_millis(500)); // until it is being read
     assert_eq!(service.post("a", &points(&["a"], 20, 1)).unwrap().0, 200);
     signal(service.pid(), "TERM");
     until("it has ended", || place.log().contains("ended\n"));
     assert_eq!(service.end(), Some(0));
 }
 
-/// It would have ended the service.
+/// Without a handler, the signal would have ended the service.
 #[test]
 fn a_service_without_a_file_goes_on() {
     let place = Place::new();

@@ -1,10 +1,11 @@
-//! What is repeated, as by a Collector whose answer was lost: it is answered as the first time, and counts once.
+//! Tests repeats, as from a Collector whose answer was lost: each gets the answer of the first time, and counts once.
 
 use crate::support::{points, until, Place, Service};
 
 const SERIES: [&str; 3] = ["a", "b", "c"];
 
-/// A batch with points of these series that end then: of several exports, as a Collector makes of what has waited.
+/// A batch with a point of each of these series for each of these ends, as a Collector makes of several exports that
+/// waited.
 fn batch(series: &[&str], ends: &[u64]) -> String {
     let metrics = series.iter().flat_map(|name| {
         ends.iter().map(move |end| {
@@ -24,7 +25,8 @@ fn posted(service: &Service, body: &str, when: &str) {
     assert_eq!(answer, (200, "{}".into()), "{when}: {body}");
 }
 
-/// Also behind the next one, in other batches, after a flush, kills and a start with other books.
+/// Even after the next batch, in other batches, after a flush, after kills, and after a start with another number of
+/// books.
 #[test]
 fn a_batch_is_answered_as_the_first_time_after_the_next_one() {
     let place = Place::new();
@@ -48,11 +50,11 @@ fn a_batch_is_answered_as_the_first_time_after_the_next_one() {
         posted(&service, &batch(&SERIES[1..2], several), when);
         posted(&service, &batch(&SERIES, &ends[..4]), when);
     }
-    // With new points behind what was taken, of which one series is new.
+    // With new points after those that were taken; one series is new.
     posted(&service, &batch(&["a", "d", "b", "c"], next), "the next one");
     posted(&service, &batch(&SERIES, &ends[1..]), "behind the next one");
     posted(&service, &batch(&SERIES, several), "behind the next one");
-    // What came before these is not known any more.
+    // Points from before these are not known any more.
     let (status, text) = service.post("collector", &batch(&["a"], first)).unwrap();
     assert!(
         status == 400 && text.contains("duplicate or late: point 0, frontier 140: `a` {} begins before "),
@@ -72,7 +74,7 @@ fn a_batch_is_answered_as_the_first_time_after_the_next_one() {
     assert_eq!(place.totals(), wanted.into_iter().chain([("d".into(), sum(next))]).collect());
 }
 
-/// One wrong clock, or a name that is another's, costs no other its points.
+/// A wrong clock, or a name that another sender has, costs only that series its points.
 #[test]
 fn one_series_that_is_refused_costs_no_other_its_points() {
     let place = Place::new();
@@ -102,7 +104,7 @@ fn one_series_that_is_refused_costs_no_other_its_points() {
     ] {
         assert!(page.lines().any(|found| found == line), "{line} in\n{page}");
     }
-    // Of its repeat all is known but the same two.
+    // In its repeat, all points but the same two are known.
     assert_eq!(service.post("collector", &body).unwrap(), (status, text));
     until("the log has both", || {
         let log = place.log();

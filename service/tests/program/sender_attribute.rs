@@ -1,4 +1,5 @@
-//! `--sender-attribute`: whatever a body says of who posts it, its series are those of who has proved it.
+//! Tests `--sender-attribute`: whoever a body says has posted it, its series belong to the sender who has proved its
+//! name.
 
 use crate::support::{field, fixed, Place, Service, PROGRAM};
 use std::io::Write;
@@ -7,7 +8,7 @@ use std::process::{Command, Stdio};
 const BY: &str = "posted.by";
 const METHOD: &str = "opentelemetry.proto.collector.metrics.v1.MetricsService/Export";
 
-/// How a body is written, and what its points are.
+/// The encoding of a body, and the temporality of its points.
 #[derive(Clone, Copy, Debug, PartialEq)]
 enum Form {
     Json,
@@ -25,10 +26,10 @@ impl Form {
         matches!(self, Form::CumulativeJson | Form::CumulativeProtobuf)
     }
 
-    /// A point of a series that has this form's name, of a resource that says that it is `claimed`.
+    /// A body with a point of the series with this form's name. Its resource says that its sender is `claimed`.
     fn body(self, claimed: &str, end: u64, value: u64) -> Vec<u8> {
         let name = format!("{self:?}");
-        // A cumulative run has one start.
+        // A cumulative run keeps its start.
         let (start, temporality) = if self.is_cumulative() { (10, 2) } else { (end - 10, 1) };
         match self {
             Form::Json | Form::CumulativeJson => format!(
@@ -54,7 +55,7 @@ struct Senders {
 }
 
 impl Senders {
-    /// Three senders, of which one may post under another name too.
+    /// Three senders, one of which may also post under another name.
     fn new() -> Senders {
         let place = Place::new();
         let path = place.folder.path().join("tokens");
@@ -89,7 +90,7 @@ impl Senders {
         self.place.serve_with(&[&words, more].concat())
     }
 
-    /// The status of a post by who has this name's token; of gRPC 200 where its call ended well.
+    /// Posts with this sender's token. Returns the status; for gRPC, 200 if the call succeeded.
     fn post(&self, service: &Service, sender: &str, more: &[&str], form: Form, body: &[u8]) -> String {
         let token = std::fs::read_to_string(self.place.folder.path().join(sender)).unwrap();
         let kind = match form {
@@ -120,7 +121,7 @@ impl Senders {
         }
     }
 
-    /// What each sender has counted, over all forms: by what its series say of who has posted them.
+    /// What each sender has counted, over all forms, by the sender that the series name.
     fn counted(&self) -> Vec<(String, i64)> {
         let output = Command::new(PROGRAM).args(["totals", "--json", "--sink", &self.place.sink()]).output();
         let rows = String::from_utf8(output.unwrap().stdout).unwrap();
@@ -137,7 +138,7 @@ impl Senders {
     }
 }
 
-/// Without it the thief has the series, and its owner is refused.
+/// Without the option the thief has the series, and its owner is refused.
 #[test]
 fn another_s_series_can_t_be_taken() {
     let senders = Senders::new();
@@ -159,7 +160,7 @@ fn another_s_series_can_t_be_taken() {
     let mut service = senders.serve(&["--sender-attribute", BY]);
     for (number, end) in (1..).zip([100, 200, 300]) {
         for form in FORMS {
-            // What a cumulative sum has come to.
+            // The value of a cumulative sum so far.
             let value = |each: u64| if form.is_cumulative() { number * each } else { each };
             for (sender, each) in [("shop-2", 10), ("shop-1", 1)] {
                 let body = form.body("shop-1", end, value(each));
@@ -185,7 +186,7 @@ fn another_s_series_can_t_be_taken() {
     assert_eq!(service.end(), Some(0));
 }
 
-/// Nobody has proved anything then.
+/// Without tokens or certificates nobody has proved anything.
 #[test]
 fn it_is_refused_where_nobody_proves_who_it_is() {
     let place = Place::new();

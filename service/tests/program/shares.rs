@@ -1,9 +1,9 @@
-//! What each sender may have of what all share.
+//! Tests the quota of each sender.
 
 use crate::support::{points, until, Place, Service};
 use std::process::Command;
 
-/// What a post is answered, with its head.
+/// The answer to a post, with its head.
 fn posted(service: &Service, header: &str, body: &str) -> String {
     let output = Command::new("curl")
         .args(["-sS", "-i", "-H", "Content-Type: application/json", "-H", header, "-d", body])
@@ -44,7 +44,7 @@ fn a_sender_that_posts_too_much_has_to_wait_and_loses_nothing() {
     service.drain();
     let totals = place.totals();
     assert_eq!((totals.len(), totals.values().sum::<i64>()), (121, 121));
-    // Each was in one request, the first one after its owner was found.
+    // Each series was in one request, the first one after its owner was known.
     let senders = "select sender, count(*) from series group by 1";
     let file = place.folder.path().join("sink.db");
     let senders = Command::new("sqlite3").arg(file).arg(senders).output().unwrap();
@@ -52,7 +52,7 @@ fn a_sender_that_posts_too_much_has_to_wait_and_loses_nothing() {
     assert_eq!(service.end(), Some(0));
 }
 
-/// Also over a restart: what it has is in the folder.
+/// Also after a restart, since the folder has the sender's series.
 #[test]
 fn a_sender_with_all_of_its_series_gets_no_new_ones() {
     let place = Place::new();
@@ -79,7 +79,7 @@ fn a_sender_with_all_of_its_series_gets_no_new_ones() {
     service.has_no_fault();
 }
 
-/// As where there is no room for any: else a share that is used up would stay so.
+/// As when there is no room for any: otherwise a quota that is used up would stay so.
 #[test]
 fn series_that_nobody_posts_to_make_room_in_a_share() {
     let place = Place::new();
@@ -94,12 +94,12 @@ fn series_that_nobody_posts_to_make_room_in_a_share() {
     service.has_no_fault();
 }
 
-/// By its line, which is read anew.
+/// The quota is on the token's line, which is read anew.
 #[test]
 fn a_token_s_line_says_how_much_its_sender_may_have() {
     let place = Place::new();
     let file = place.folder.path().join("tokens");
-    // Of the token `abc`, by `printf abc | sha256sum`.
+    // The digest of the token `abc`, by `printf abc | sha256sum`.
     let line = "A sha256:ba7816bf8f01cfea414140de5dae2223b00361a396177a9cb410ff61f20015ad";
     std::fs::write(&file, format!("{line} points=1\n")).unwrap();
     let service = place.serve_with(&["--sink", &place.sink(), "--tokens", &file.display().to_string()]);

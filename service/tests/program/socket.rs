@@ -1,11 +1,12 @@
-//! Orders at a socket of this machine, beside an address of TCP that is read, and takes orders by token.
+//! Tests orders at a socket of this machine, beside an address of TCP that everybody may read and that takes orders by
+//! token.
 
 use crate::support::{points, until, Place, Service, PROGRAM};
 use std::os::unix::fs::MetadataExt;
 use std::path::Path;
 use std::process::{Command, Output};
 
-/// A command as it is given, with a setting as the service may have it.
+/// Runs a command, with a setting of the service in its environment.
 fn told(words: &[&str], operate: &str) -> Output {
     let command = Command::new(PROGRAM).args(words).env("TOTXEGUN_ADMIN", operate).output();
     command.unwrap()
@@ -15,7 +16,7 @@ fn text(output: &Output) -> String {
     String::from_utf8([&output.stdout[..], &output.stderr].concat()).unwrap()
 }
 
-/// What is asked over TCP, with a header; a POST where it is an order.
+/// Asks over TCP, with a header. An order is a POST.
 fn over_tcp(service: &Service, path: &str, header: &str) -> String {
     let method = match path.starts_with("/dead-letters") && path.matches('/').count() < 3 {
         true => "GET",
@@ -27,7 +28,7 @@ fn over_tcp(service: &Service, path: &str, header: &str) -> String {
     text(&output.unwrap())
 }
 
-/// What changes something, or shows bodies.
+/// Routes that change something, or show bodies.
 const ORDERS: [&str; 7] = [
     "/flush",
     "/quarantine/A",
@@ -68,7 +69,7 @@ fn orders_are_taken_at_the_socket_alone() {
     assert_eq!(service.end(), Some(0));
 }
 
-/// It is made under the lock that posts wait for: whoever may only read could stop them.
+/// The report is made under a lock that posts wait for, so somebody who may only read could stop them.
 #[test]
 fn the_report_is_at_the_socket_alone() {
     let place = Place::new();
@@ -91,7 +92,7 @@ fn the_report_is_at_the_socket_alone() {
     assert_eq!(service.end(), Some(0));
 }
 
-/// By the folder, by the service's own setting, or as it is told.
+/// By the folder, by the service's own setting, or by an option.
 #[test]
 fn a_command_finds_the_socket() {
     let place = Place::new();
@@ -144,7 +145,7 @@ fn a_token_is_taken_over_tcp() {
     assert!(by_token(&["quarantine", "A"]).starts_with("done: nothing of A is known yet"));
     let acts = || std::fs::read_to_string(place.data().join("acts.jsonl")).unwrap();
     assert!(acts().contains("\"who\":\"ann\",\"action\":\"quarantine\""), "{}", acts());
-    // A page that has it is one of somebody else all the same.
+    // Even with a token, a web page is a page of somebody else.
     let mut command = Command::new("curl");
     command.args([
         "-sS",
@@ -164,7 +165,7 @@ fn a_token_is_taken_over_tcp() {
     assert_eq!(service.end(), Some(0));
 }
 
-/// Nothing is encrypted there.
+/// There is no encryption there.
 #[test]
 fn tokens_of_operators_stay_on_this_machine() {
     let place = Place::new();
@@ -186,7 +187,7 @@ fn tokens_of_operators_stay_on_this_machine() {
     assert!(text(&output).contains("--behind-proxy"), "{}", text(&output));
 }
 
-/// The list of them is taken by an operator.
+/// The list of them needs an operator.
 #[test]
 fn a_page_says_of_dead_letters_how_many_they_are() {
     let place = Place::new();
@@ -203,7 +204,7 @@ fn a_page_says_of_dead_letters_how_many_they_are() {
     assert!(list.contains("0-a-1") && list.contains("400 of host h1"), "{list}");
 }
 
-/// Its file stays, and the next run takes its place.
+/// The socket's file stays, and the next run replaces it.
 #[test]
 fn a_socket_of_a_killed_service_is_taken_over() {
     let place = Place::new();
@@ -215,7 +216,7 @@ fn a_socket_of_a_killed_service_is_taken_over() {
     assert_eq!(service.end(), Some(0));
 }
 
-/// Another service on the folder leaves it where it is.
+/// Another service on the folder leaves the socket where it is.
 #[test]
 fn a_second_service_takes_nobody_s_socket() {
     let place = Place::new();
@@ -245,7 +246,7 @@ fn a_socket_may_be_the_only_address() {
     service.wait().unwrap();
 }
 
-/// As the package has it: the folder is root's own, and the message says so.
+/// As in the package: the folder belongs to root, and the message says so.
 #[test]
 fn who_has_no_rights_is_told_what_to_do() {
     let place = Place::new();

@@ -1,12 +1,12 @@
-//! A request that waits and was changed on disk: its delivery stops, by name, until the file is put back.
+//! Tests a waiting request that was changed on disk: its delivery stops, with a message, until the file is restored.
 
 use crate::support::{points, until, Place, NO_SINK};
 use std::path::PathBuf;
 
-/// A record is its length, a checksum over the rest, its kind, and bytes.
+/// The kind of a request's record. A record is its length, a checksum of the rest, its kind, and bytes.
 const ITEM: u8 = 18;
 
-/// Where the first request of a segment ends.
+/// The position at which the first request of a segment ends.
 fn end_of_request(bytes: &[u8]) -> Option<usize> {
     let mut at = 0;
     loop {
@@ -30,7 +30,7 @@ fn file_of_request(place: &Place) -> (PathBuf, Vec<u8>, usize) {
     found.next().unwrap()
 }
 
-/// Changes a byte of the first request that waits: its file, and what it had.
+/// Changes a byte of the first request that waits. Returns its file, and what the file had before.
 pub fn change_request(place: &Place) -> (PathBuf, Vec<u8>) {
     let (path, sound, end) = file_of_request(place);
     let mut changed = sound.clone();

@@ -10,10 +10,10 @@ use std::time::{Duration, Instant};
 
 pub const PROGRAM: &str = env!("CARGO_BIN_EXE_totxegun");
 pub const PATIENCE: Duration = Duration::from_secs(120);
-/// Nobody listens there.
+/// Nobody listens at this address.
 pub const NO_SINK: &str = "http://127.0.0.1:9/v1/metrics";
 
-/// A folder for all.
+/// A folder for everything that a test needs.
 pub struct Place {
     pub folder: tempfile::TempDir,
 }
@@ -32,12 +32,12 @@ impl Place {
         format!("sqlite:{}", self.folder.path().join("sink.db").display())
     }
 
-    /// A service that may not be ready yet.
+    /// Starts a service, which may not be ready yet.
     pub fn begin(&self, words: &[&str]) -> Service {
         self.begin_by(Command::new(PROGRAM), words)
     }
 
-    /// By a command that starts the program in its own place.
+    /// By a command that replaces itself by the program.
     pub fn begin_by(&self, mut command: Command, words: &[&str]) -> Service {
         let (listen, operate) = (free_address(), free_address());
         let log = std::fs::File::options()
@@ -68,12 +68,12 @@ impl Place {
         Service { child, listen, operate, data: self.data() }
     }
 
-    /// One that is ready, with a SQLite file as its sink.
+    /// Starts a service with a SQLite file as its sink, and waits until it is ready.
     pub fn serve(&self) -> Service {
         self.serve_with(&["--sink", &self.sink()])
     }
 
-    /// The same, of a folder that had another sink.
+    /// The same, on a folder that had another sink.
     pub fn serve_into_another(&self) -> Service {
         self.serve_with(&["--new-sink", "--sink", &self.sink()])
     }
@@ -84,7 +84,7 @@ impl Place {
         service
     }
 
-    /// The totals, none before the sink's file is made.
+    /// The totals. Empty before the sink's file is made.
     pub fn totals_if_any(&self) -> BTreeMap<String, i64> {
         match self.folder.path().join("sink.db").exists() {
             true => self.totals(),
@@ -92,7 +92,7 @@ impl Place {
         }
     }
 
-    /// By the metric's name, its total, as the program's own command shows it.
+    /// The total of each metric by name, as the program's own command shows it.
     pub fn totals(&self) -> BTreeMap<String, i64> {
         let output =
             Command::new(PROGRAM).args(["totals", "--json", "--sink", &self.sink()]).output().unwrap();
@@ -137,13 +137,13 @@ impl Drop for Service {
 }
 
 impl Service {
-    /// As `kill -9`.
+    /// Like `kill -9`.
     pub fn kill(&mut self) {
         let _ = self.child.kill();
         let _ = self.child.wait();
     }
 
-    /// By SIGTERM; the status.
+    /// Ends it by SIGTERM. Returns the status.
     pub fn end(mut self) -> Option<i32> {
         signal(self.child.id(), "TERM");
         self.child.wait().unwrap().code()
@@ -165,18 +165,18 @@ impl Service {
         asked(&self.operate, "GET", path, "-", "")
     }
 
-    /// What a command of the program says, on either stream.
+    /// What a command of the program prints, on either stream.
     pub fn said(&self, words: &[&str]) -> String {
         self.ended_by(words).1
     }
 
-    /// The same behind its exit status.
+    /// The same, with the exit status.
     pub fn ended_by(&self, words: &[&str]) -> (Option<i32>, String) {
         let output = Command::new(PROGRAM).args(words).arg("--data").arg(&self.data).output().unwrap();
         (output.status.code(), String::from_utf8([output.stdout, output.stderr].concat()).unwrap())
     }
 
-    /// The root of its files.
+    /// The root of the service's file system.
     pub fn root(&self) -> PathBuf {
         format!("/proc/{}/root", self.child.id()).into()
     }
@@ -187,7 +187,7 @@ impl Service {
         serde_json::from_str(&body).unwrap()
     }
 
-    /// How many series are known.
+    /// How many series the service knows.
     pub fn series(&self) -> u64 {
         self.status()["slots"][0]["series"].as_u64().unwrap()
     }
@@ -200,7 +200,7 @@ impl Service {
         self.data.join("admin.sock")
     }
 
-    /// The socket, from outside of where the service runs.
+    /// The path of the socket from outside of the service's file system.
     pub fn reached(&self) -> PathBuf {
         let path = self.socket();
         self.root().join(path.strip_prefix("/").unwrap_or(&path))
@@ -220,7 +220,7 @@ impl Service {
         asked(&self.listen, "POST", "/v1/metrics", sender, body)
     }
 
-    /// The status that a body of protobuf is answered.
+    /// Posts a body of protobuf. Returns the status.
     pub fn post_protobuf(&self, sender: &str, body: &[u8]) -> u16 {
         let mut stream = TcpStream::connect(&self.listen).unwrap();
         let length = body.len();
@@ -234,7 +234,7 @@ impl Service {
         std::str::from_utf8(&answer[9..12]).unwrap().parse().unwrap()
     }
 
-    /// Repeats what is answered 503.
+    /// Posts again as long as the answer is 503.
     pub fn post_until_answered(&self, sender: &str, body: &str) -> (u16, String) {
         let mut answer = (0, String::new());
         until("an answer", || {
@@ -292,7 +292,7 @@ fn answered(
     Some((head.get(9..12)?.parse().ok()?, body.to_string()))
 }
 
-/// A field of protobuf that has a length.
+/// A field of protobuf with a length.
 pub fn field(number: u8, inner: &[u8]) -> Vec<u8> {
     let mut out = vec![number << 3 | 2];
     let mut length = inner.len();

@@ -1,4 +1,4 @@
-//! What an operator is told.
+//! Tests what an operator is told.
 
 use crate::support::{points, until, Place, NO_SINK, PROGRAM};
 use nix::fcntl::{flock, FlockArg};
@@ -48,7 +48,7 @@ fn an_operator_sees_the_limits() {
     assert_eq!(service.end(), Some(0));
 }
 
-/// Of requests that are taken; of others no point is either.
+/// This holds for requests that are taken. Of others no point is accepted or rejected.
 #[test]
 fn each_point_of_what_is_taken_is_accepted_or_rejected() {
     let place = Place::new();
@@ -56,7 +56,7 @@ fn each_point_of_what_is_taken_is_accepted_or_rejected() {
     assert_eq!(service.post("A", &points(&["a", "b"], 100, 5)).unwrap().0, 200);
     assert_eq!(service.post("A", &points(&["a"], 100, 5)).unwrap().0, 200, "a repeat");
     assert_eq!(service.post("A", &points(&["a"], 100, 6)).unwrap().0, 400);
-    // The first one is noted, the last one is there already.
+    // The first point is noted, and the last one is a duplicate.
     for end in [20, 30, 30] {
         let point = format!(r#"{{"asInt":"7","startTimeUnixNano":"10","timeUnixNano":"{end}"}}"#);
         let sum = format!(r#"{{"aggregationTemporality":2,"isMonotonic":true,"dataPoints":[{point}]}}"#);
@@ -91,12 +91,12 @@ fn a_wrong_key_is_that_of_no_request() {
     }
 }
 
-/// Else checkpoints and deliveries stand still meanwhile, and a supervisor takes the service for dead.
+/// Otherwise checkpoints and deliveries would stop meanwhile, and a supervisor would think that the service hangs.
 #[test]
 fn letters_that_take_long_hold_up_nothing_else() {
     let place = Place::new();
     let service = place.serve();
-    // It is read once somebody writes to it.
+    // Reading it waits until somebody writes to it.
     let letter = place.data().join("dead-letters/0-a-1.json");
     let made = Command::new("mkfifo").arg(&letter).status();
     assert!(made.unwrap().success());
@@ -109,7 +109,7 @@ fn letters_that_take_long_hold_up_nothing_else() {
         scope.spawn(move || answered.send(asked.asked_for("/healthz")));
         let health = answer.recv_timeout(Duration::from_secs(3));
         let mut write = std::fs::OpenOptions::new();
-        write.write(true).custom_flags(nix::libc::O_NONBLOCK); // it fails where nobody reads
+        write.write(true).custom_flags(nix::libc::O_NONBLOCK); // it fails if nobody reads
         while !lists.iter().all(|list| list.is_finished()) {
             drop(write.open(&letter));
             std::thread::sleep(Duration::from_millis(5));
@@ -118,7 +118,7 @@ fn letters_that_take_long_hold_up_nothing_else() {
     });
 }
 
-/// A supervisor that hears of it only then ends a start that takes long, again and again.
+/// A supervisor that learns it only later would end a long start again and again.
 #[test]
 fn a_start_asks_for_time_before_its_files_are_open() {
     let place = Place::new();
@@ -137,7 +137,7 @@ fn a_start_asks_for_time_before_its_files_are_open() {
     assert!(told[..length].starts_with(b"EXTEND_TIMEOUT_USEC="));
 }
 
-/// A start of the program with a small disk of its own in the place of the folder.
+/// A command that starts the program with a small disk of its own as its folder.
 fn on_a_small_disk(place: &Place) -> Command {
     std::fs::create_dir(place.data()).unwrap();
     let mut command = Command::new("unshare");
@@ -151,7 +151,7 @@ fn may_mount() -> bool {
     tried.is_ok_and(|status| status.success())
 }
 
-/// As a unit with `ProtectSystem=strict` has all folders but its own.
+/// Like all folders but its own for a unit with `ProtectSystem=strict`.
 #[test]
 fn a_sink_in_a_folder_that_is_sealed_is_told_with_what_opens_it() {
     if !may_mount() {

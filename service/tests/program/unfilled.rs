@@ -1,12 +1,13 @@
-//! A start whose book does not take what the journal has, for want of memory: it serves all but posts.
+//! Tests a start whose book has too little memory for the journal: the service does everything but take posts.
 
 use crate::support::{points, until, Place, NO_SINK};
 
-/// A book with these has more than the next one may have.
+/// A book with these series needs more memory than the next one may have.
 const SERIES: usize = 60_000;
 const OF_A_POST: usize = 1_000;
 
-/// Else an operator who gave too little would find no status, and the sink would wait for what is flushed already.
+/// Otherwise an operator who gave too little memory would get no status, and the sink would wait for what is flushed
+/// already.
 #[test]
 fn a_start_without_memory_for_its_journal_delivers_and_shows_and_takes_no_posts() {
     let place = Place::new();
@@ -44,7 +45,7 @@ fn a_start_without_memory_for_its_journal_delivers_and_shows_and_takes_no_posts(
     until("what was flushed is delivered", || place.totals_if_any().get("flushed") == Some(&7));
     assert_eq!(second.end(), Some(0));
 
-    // All of it is there for one with as much memory as before.
+    // With as much memory as before, all of it is there.
     let third = start(&["--sink", &sink], "160MiB");
     let mut seen = Vec::new();
     until("it has started", || {

@@ -1,4 +1,4 @@
-//! A store that goes back: its tables are as they were, and the sink, in another database, is not.
+//! Tests a store that goes back: its tables are as they were before, but the sink, in another database, is not.
 
 use super::server::Server;
 use super::work::{taken, wait};
@@ -14,7 +14,7 @@ const TOTALS: &str =
     "select coalesce(string_agg(name || '=' || total, ' ' order by name), '') from totxegun.totals";
 const EPOCHS: &str = "select count(distinct epoch) || ' ' || count(distinct id) from totxegun.lives";
 
-/// The tables as they are, beside the others.
+/// Copies the tables as they are now.
 fn dump(server: &Server) {
     server.ask("create schema dump");
     for table in TABLES {
@@ -30,7 +30,7 @@ fn put_back(server: &Server) {
     }
 }
 
-/// A slot's owner.
+/// A shard's owner.
 struct Owner {
     journal: Journal,
     outbox: Outbox,
@@ -44,7 +44,7 @@ impl Owner {
         Owner { journal, outbox, _dead }
     }
 
-    /// A request of a point of this series.
+    /// Makes a request with a point of this series.
     fn make(&self, name: &str, start: u64) {
         let body = format!(
             r#"{{"resourceMetrics":[{{"resource":{{"attributes":[]}},"scopeMetrics":[{{"metrics":[{{"name":"{name}","sum":{{"aggregationTemporality":1,"dataPoints":[{{"asInt":"5","attributes":[],"startTimeUnixNano":"{start}","timeUnixNano":"{}"}}],"isMonotonic":false}},"unit":""}}],"scope":{{"attributes":[],"name":"","version":""}}}}]}}]}}"#,
@@ -55,7 +55,7 @@ impl Owner {
         self.outbox.settle().unwrap();
     }
 
-    /// What the sink has beyond.
+    /// What the sink has beyond the outbox.
     fn begin(&self, sink: &Arc<dyn Sink>) -> Beyond {
         wait(sink.goes_on(0, &self.outbox.epochs())).unwrap()
     }
@@ -65,7 +65,7 @@ impl Owner {
         Forwarded { slot: 0, epoch: self.outbox.epoch(), number: waiting.number, body }
     }
 
-    /// What becomes of the first that waits.
+    /// Sends the first request that waits.
     fn send(&self, sink: &Arc<dyn Sink>) -> Fate {
         let request = self.first();
         let tenure = self.outbox.tenure();
@@ -95,7 +95,7 @@ fn what_is_made_after_a_store_was_put_back_has_keys_that_no_sink_has() {
         first.make("a", start);
     }
     assert_eq!(first.send(&sink), Fate::Taken);
-    dump(&server); // it has a request that waits
+    dump(&server); // one request waits in it
     first.make("a", 30);
     first.make("b", 10);
     for _ in 0..3 {
@@ -115,7 +115,7 @@ fn what_is_made_after_a_store_was_put_back_has_keys_that_no_sink_has() {
     let Fate::Refused { reason } = again else { panic!("{again:?}") };
     assert!(reason.contains("its series has points until 40"), "{reason}");
     assert_eq!(totals(), "a=15 b=5 c=5", "nothing is lost, and nothing there twice");
-    // The next one goes on, and another life has begun once.
+    // The next owner continues the epoch, and only one other life has begun.
     let last = Owner::take(&store);
     assert_eq!(last.begin(&sink), Beyond::default());
     last.make("c", 20);
@@ -124,7 +124,7 @@ fn what_is_made_after_a_store_was_put_back_has_keys_that_no_sink_has() {
     assert_eq!(server.ask_in("sink", EPOCHS), "4 2");
 }
 
-/// A letter of an owner before is added where it belongs, as one of a folder that only started again.
+/// A dead letter of an earlier owner is added where it belongs, like one of a folder that only started again.
 #[test]
 fn a_letter_of_an_owner_before_is_of_the_same_life() {
     let Some((server, store, sink)) = started() else { return };
@@ -134,7 +134,7 @@ fn a_letter_of_an_owner_before_is_of_the_same_life() {
     assert_eq!(first.send(&sink), Fate::Taken);
     first.make("a", 20);
     let letter = first.first();
-    first.outbox.acknowledge(letter.number).unwrap(); // it lies in `dead-letters/`
+    first.outbox.acknowledge(letter.number).unwrap(); // it is a dead letter
     first.outbox.settle().unwrap();
     let next = Owner::take(&store);
     assert_eq!(next.begin(&sink), Beyond::default());
@@ -144,7 +144,7 @@ fn a_letter_of_an_owner_before_is_of_the_same_life() {
     assert_eq!(server.ask_in("sink", TOTALS), "a=15");
 }
 
-/// The store has the term and the link again that an owner of before has, and another epoch.
+/// The restored store has the term and the connection epoch of an earlier owner again, and another epoch.
 #[test]
 fn who_had_the_slot_before_the_store_was_put_back_writes_nothing_more() {
     let Some((server, store, _sink)) = started() else { return };

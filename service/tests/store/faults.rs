@@ -1,4 +1,4 @@
-//! Servers that are killed, promoted, alone or in each other's way, while an owner works.
+//! Tests servers that are killed, promoted, left alone or partitioned while an owner works.
 
 use super::server::{wait_until, Server};
 use super::work::{contents, take, wait, Work};
@@ -45,7 +45,7 @@ impl Pair {
         open(&self.address(), Copies::Two)
     }
 
-    /// The standby is the primary from now on, and the old one its standby.
+    /// Makes the standby the primary, and the old primary its standby.
     fn go_over(&mut self) {
         self.standby().promote();
         self.primary = 1 - self.primary;
@@ -57,7 +57,7 @@ impl Pair {
     }
 }
 
-/// What befalls the servers in a round.
+/// The fault of a round.
 fn fault(pair: &mut Pair, round: u64) -> &'static str {
     let backends = "from pg_stat_activity where application_name = 'totxegun'";
     match round % 5 {
@@ -131,7 +131,7 @@ fn what_a_sync_said_yes_to_is_there_whatever_befalls_the_servers() {
     assert_eq!(counts.vanished.load(SeqCst), 0);
 }
 
-/// PostgreSQL says then that it is done, and it is on one server alone.
+/// PostgreSQL then reports success, but the commit is on one server alone.
 #[test]
 fn a_commit_that_was_cancelled_in_the_wait_for_its_standby_is_no_answer() {
     let Some(mut pair) = Pair::start() else { return };
@@ -161,7 +161,8 @@ fn a_commit_that_was_cancelled_in_the_wait_for_its_standby_is_no_answer() {
     }
 }
 
-/// An operator empties the setting, or a manager does, so that a primary goes on alone; then commits that wait end at once.
+/// An operator or a cluster manager empties the setting so that a primary can go on alone. Waiting commits then end at
+/// once.
 #[test]
 fn nothing_is_answered_once_the_server_asks_for_no_standby_any_more() {
     let Some(mut pair) = Pair::start() else { return };
@@ -195,7 +196,7 @@ fn nothing_is_answered_once_the_server_asks_for_no_standby_any_more() {
     assert_eq!(store.counts().vanished.load(SeqCst), 0);
 }
 
-/// Else it would say that the slot was its owner's though the server may be left behind.
+/// Otherwise a sync would say that the shard is still its owner's, although the server may be left behind.
 #[test]
 fn a_sync_of_nothing_waits_for_the_standby_too() {
     let Some(mut pair) = Pair::start() else { return };
@@ -210,7 +211,8 @@ fn a_sync_of_nothing_waits_for_the_standby_too() {
     syncing.join().unwrap();
 }
 
-/// Else the writes of all slots would be broken off every few seconds while one is opened and no standby is there.
+/// Otherwise, while a shard is opened and there is no standby, the writes of all shards would be broken off every few
+/// seconds.
 #[test]
 fn who_asks_how_many_copies_there_are_breaks_no_connection_of_those_that_wait_for_one() {
     let Some(server) = Server::start("") else { return };
@@ -232,7 +234,7 @@ fn who_asks_how_many_copies_there_are_breaks_no_connection_of_those_that_wait_fo
     assert!(opening.join().unwrap());
 }
 
-/// Else a taker would go by what is lost with the server.
+/// Otherwise a new owner would rely on what is lost with the server.
 #[test]
 fn what_a_server_shows_after_a_restart_is_not_believed_without_its_standby() {
     let Some(mut pair) = Pair::start() else { return };
@@ -261,7 +263,7 @@ fn what_a_server_shows_after_a_restart_is_not_believed_without_its_standby() {
     }
 }
 
-/// Else a start would go by what is lost with the server.
+/// Otherwise a start would rely on what is lost with the server.
 #[test]
 fn what_a_start_writes_or_reads_is_not_believed_without_its_standby() {
     let Some(mut pair) = Pair::start() else { return };
@@ -294,7 +296,7 @@ fn what_a_start_writes_or_reads_is_not_believed_without_its_standby() {
     }
 }
 
-/// It takes writes, and ends none: whoever is there is left for the one that was promoted, and not read any more.
+/// It accepts writes and completes none. Its clients leave it for the promoted server, and don't read from it any more.
 #[test]
 fn a_primary_on_the_wrong_side_answers_nobody_and_is_left() {
     let Some(mut pair) = Pair::start() else { return };
@@ -342,7 +344,7 @@ fn a_slot_waits_for_a_database_that_is_gone_and_no_longer_than_it_is_wanted() {
     ending.join().unwrap();
 }
 
-/// As where the process is ending.
+/// As while the process ends.
 #[test]
 fn a_slot_is_read_and_written_though_nobody_has_the_store_any_more() {
     let Some(server) = Server::start("") else { return };

@@ -1,5 +1,6 @@
-//! What a store has lost of a slot is refused by name. No other instance has the slot then: as a loss of it, it would be taken
-//! again and again, and nobody would be told why.
+//! Tests that a store refuses a shard by name if it has lost some of its rows. No other instance owns the shard then,
+//! so this must not count as a loss of ownership: the shard would be taken again and again, and nobody would be told
+//! why.
 
 use super::server::Server;
 use super::work::taken;
@@ -18,14 +19,14 @@ fn made() -> Option<(Server, PostgresStore)> {
     Some((server, store))
 }
 
-/// Why the next owner can't open the slot; empty where it can.
+/// Why the next owner can't open the shard. Empty if it can.
 fn refusal(store: &PostgresStore) -> String {
     let refused = drive::open(taken(store, 0) as _, "e").err();
     assert!(!matches!(refused, Some(Fault::Lost(_))), "the slot is its own");
     refused.map(|fault| fault.to_string()).unwrap_or_default()
 }
 
-/// Requests that wait for the sink.
+/// Commits requests that wait for the sink.
 fn commit(store: &PostgresStore, requests: usize) {
     let (journal, outbox, _dead) = drive::open(taken(store, 0) as _, "e").unwrap();
     let body = br#"{"resourceMetrics":[]}"#.to_vec();
@@ -50,7 +51,7 @@ fn a_piece_that_is_gone_is_named_and_the_slot_stays_its_owners() {
     assert!(matches!(fault, Fault::Io { .. }) && says.iter().all(|part| text.contains(part)), "{text}");
 }
 
-/// Each has an alert of its own.
+/// Each of the two has an alert of its own.
 #[test]
 fn what_the_store_has_lost_is_not_counted_as_the_taking_of_another() {
     let Some((server, store)) = made() else { return };
@@ -66,7 +67,7 @@ fn what_the_store_has_lost_is_not_counted_as_the_taking_of_another() {
     assert_eq!((counts.vanished.load(SeqCst), counts.fenced.load(SeqCst)), (1, 0));
 }
 
-/// Its next requests would have keys that were used: the sink would take them for those that it has.
+/// Its next requests would have keys that were used, so the sink would take them for those that it has.
 #[test]
 fn a_slot_without_the_files_of_which_the_sink_has_requests_is_not_begun_anew() {
     let Some((server, store)) = made() else { return };
@@ -87,7 +88,7 @@ fn a_slot_without_the_files_of_which_the_sink_has_requests_is_not_begun_anew() {
     assert_eq!(store.restored(&[]).unwrap(), [0u16; 0]);
 }
 
-/// Without rows of its own it can't be read, and what is left is deleted.
+/// Without its own rows the shard can't be read, and what is left of it is deleted.
 #[test]
 fn a_slot_begins_with_nothing_where_an_operator_says_so() {
     let Some((server, store)) = made() else { return };

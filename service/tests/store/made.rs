@@ -1,4 +1,4 @@
-//! What a start refuses, and what a store says of itself.
+//! Tests what a start refuses, and what a store says of itself.
 
 use super::server::Server;
 use super::work::wait;
@@ -43,7 +43,7 @@ fn a_start_refuses_what_is_no_store_or_another_or_can_lose() {
         refused(&one, Copies::Two, "a", &told);
     }
     server.ask(&versions(1));
-    // A start would wait: nobody is there, so no commit ends.
+    // A start would wait: there is no standby, so no commit ends.
     let store = PostgresStore::look_into(&address(&one).unwrap(), Copies::Two).unwrap();
     assert_eq!(wait(store.copies()).unwrap(), Some(1));
 }
@@ -85,7 +85,7 @@ fn the_first_says_where_all_deliver_to_and_beats_say_what_is_refused() {
     assert_eq!((again.beat, &again.told), (2, &Told::default()));
 }
 
-/// It was there when the start began, which would end else.
+/// The server was there when the start began. Without the repeat the start would fail.
 #[test]
 fn what_a_start_asks_is_asked_again_where_the_server_has_gone_away() {
     let Some(mut server) = Server::start("") else {

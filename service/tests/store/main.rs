@@ -22,7 +22,7 @@ use totxegun::store::postgres::{address, Copies, PostgresStore, Server as StoreS
 use work::{take, Work};
 
 const SLOTS: u16 = 64;
-/// Pieces of files that are gone.
+/// Pieces of files that don't exist any more.
 const STRAYS: &str = "select count(*) from totxegun_store.piece
     where (slot, file) not in (select slot, file from totxegun_store.file)";
 
@@ -30,7 +30,7 @@ fn open(text: &str, copies: Copies) -> PostgresStore {
     opened(&address(text).unwrap(), copies, "integer-unit=auto").unwrap()
 }
 
-/// As by an instance that reads posts so.
+/// Opens the store like an instance that reads posts in this way.
 fn opened(server: &StoreServer, copies: Copies, reading: &str) -> Result<PostgresStore, StoreFault> {
     let store = PostgresStore::join(server, copies)?;
     store.agree(reading)?;

@@ -1,4 +1,4 @@
-//! What a store says while a folder is moved into it, and once it was.
+//! Tests what a store says while a folder is moved into it, and afterwards.
 
 use super::server::{wait_until, Server};
 use super::work::{take, wait};
@@ -50,7 +50,8 @@ fn nobody_takes_a_slot_or_starts_while_a_store_is_filled_but_who_fills_it() {
     assert!(store.take_to_move(1, "0123456789abcdef").is_err(), "the move has come to its end");
 }
 
-/// It was idle and empty when that was looked at, and an instance takes a post before it is told that it is filled.
+/// The store was idle and empty when that was checked, but an instance takes a post before it learns that the store is
+/// being filled.
 #[test]
 fn what_an_instance_takes_just_before_a_store_is_filled_stays() {
     let Some(server) = Server::start("") else { return };
@@ -60,7 +61,7 @@ fn what_an_instance_takes_just_before_a_store_is_filled_stays() {
     drop(Folder::open(place.path(), Durability::Disk).unwrap().slot().unwrap());
     let moved = || from_folder(place.path(), &of_store, Copies::One).map_err(|why| why.to_string());
     let store = open(&server.address(), Copies::One);
-    // One that is gone: whether its beats go on takes a while to see.
+    // An instance that is gone: it takes a while to see that its heartbeats have stopped.
     wait(store.beat("gone", "h:1", "h:1", Told::default(), 0)).unwrap();
     thread::scope(|scope| {
         let moving = scope.spawn(moved);
@@ -88,7 +89,7 @@ fn what_an_instance_takes_just_before_a_store_is_filled_stays() {
     assert_eq!(take(&store, 0).1[Path::new("journal/1")], b"post");
 }
 
-/// Else a folder whose move was killed at its very end would never be known to have come into the store.
+/// Otherwise, if a move was killed at its very end, nobody would ever know that the folder is in the store.
 #[test]
 fn a_move_that_was_killed_before_its_decision_is_decided_by_the_same_call_and_by_no_other_folder() {
     let Some(server) = Server::start("") else { return };
@@ -104,7 +105,7 @@ fn a_move_that_was_killed_before_its_decision_is_decided_by_the_same_call_and_by
     let store = open(&server.address(), Copies::One);
     let counts = store.standing().unwrap();
     let filling = Standing { is_filling: true, ..counts.clone() };
-    store.change(&counts, &filling).unwrap(); // as it was before the kill
+    store.change(&counts, &filling).unwrap(); // as before the kill
     let why = moved(&other).unwrap_err();
     assert!(why.contains(&format!("folder {} is being moved", one.display())), "{why}");
     for _ in 0..2 {
@@ -123,7 +124,7 @@ fn a_move_that_was_killed_before_its_decision_is_decided_by_the_same_call_and_by
         why.contains("was moved into the store postgres://u@h:1/d"),
         "another store knows nothing of it: {why}"
     );
-    // A move into this store was killed, and the folder went into another one.
+    // A move into this store was killed, and the folder went into another store.
     let third = Folder::open(&place.path().join("third"), Durability::Disk).unwrap();
     let begun = Standing { is_filling: true, id: third.epoch(), ..counts.clone() };
     assert_eq!(store.change(&counts, &begun).unwrap(), begun);

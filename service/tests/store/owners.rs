@@ -1,4 +1,4 @@
-//! Who has a slot: one of several that take it, and nobody else writes from then on.
+//! Tests who owns a shard: one of several instances that take it, and after that nobody else writes.
 
 use super::proxy::Proxy;
 use super::server::{wait_until, Server};
@@ -13,7 +13,7 @@ use totxegun::cluster::terms::Told;
 use totxegun::files::drive::{is_lost, Drive};
 use totxegun::store::postgres::{Copies, PostgresStore};
 
-/// Works until the slot is lost or so many rounds are done, and says what it has said yes to.
+/// Works until the shard is lost or `most` rounds are done, and notes what was confirmed as durable.
 fn works(mut work: Work, most: u64, said: Arc<Mutex<Contents>>) -> thread::JoinHandle<Work> {
     thread::spawn(move || {
         for _ in 0..most {
@@ -61,7 +61,8 @@ fn an_owner_that_is_stopped_in_any_step_writes_no_more_once_another_has_the_slot
     assert_eq!(u64::from(lost), rounds);
 }
 
-/// A statement that is still on its way when its connection breaks may be done at any time, under the owner's own term.
+/// A statement that is still on its way when its connection breaks may be executed at any time, under the owner's own
+/// term.
 #[test]
 fn what_comes_late_of_a_broken_connection_is_not_done() {
     let Some(server) = Server::start("") else { return };
@@ -97,7 +98,8 @@ fn what_comes_late_of_a_broken_connection_is_not_done() {
     println!("{held} connections were cut, and what they held came late");
 }
 
-/// Neither keeps the one before out: what the next owner writes, which may be gone, nor that nobody has the slot between.
+/// What keeps an earlier owner out is neither the next owner's files, which may be gone, nor that nobody had the shard
+/// in between.
 #[test]
 fn who_had_a_slot_writes_no_more_though_nothing_is_left_of_the_next_owner() {
     let Some(server) = Server::start("") else { return };
@@ -115,14 +117,15 @@ fn who_had_a_slot_writes_no_more_though_nothing_is_left_of_the_next_owner() {
         assert!(found == first.synced && !found.is_empty());
         found.keys().for_each(|name| next.remove(name).unwrap());
         next.sync().unwrap();
-        // Two owners' links may be one.
+        // Two owners may have the same connection epoch.
         server.ask(&format!("update totxegun_store.slot set link = {link} where slot = {slot}"));
         assert!(!first.round(), "handed over: {is_handed_over}");
         assert!(take(&store, slot).1.is_empty());
     }
 }
 
-/// Its checkpoints delete files: else one that wakes up would say that the store has lost them.
+/// The next owner's checkpoints delete files. Otherwise an earlier owner that wakes up would report them as lost by the
+/// store.
 #[test]
 fn what_the_next_owner_has_deleted_is_no_loss_for_the_one_before() {
     let Some(server) = Server::start("") else { return };
@@ -140,7 +143,7 @@ fn what_the_next_owner_has_deleted_is_no_loss_for_the_one_before() {
     server.ask(
         "create trigger slow before insert on totxegun_store.piece for each row execute function slow()",
     );
-    // Its repeat has found that the slot is its own, and is silent then.
+    // The retry has found that it still owns the shard, and then the connection goes silent.
     proxy.silence_at("as last (slot");
     drive.write_at(file, b"b", 1).unwrap();
     let writing = thread::spawn(move || drive.sync());
@@ -157,7 +160,7 @@ fn what_the_next_owner_has_deleted_is_no_loss_for_the_one_before() {
     assert_eq!((vanished.load(SeqCst), fenced.load(SeqCst)), (0, 1));
 }
 
-/// One statement has not all of it. The server takes the first, and has no room for the second.
+/// The sync needs two statements. The server takes the first, and has no room for the second.
 #[test]
 fn a_long_sync_is_there_wholly_or_not_at_all() {
     let Some(server) = Server::start("") else { return };
@@ -238,7 +241,7 @@ fn beats_go_up_and_a_slot_is_given_away() {
     assert!(store.drive(1, 0).is_err(), "it has another term");
 }
 
-/// A store that was set back has lost the first take, and then given another the same term.
+/// A store that was restored has lost the first take, and has then given the same term to another owner.
 #[test]
 fn of_two_owners_of_one_term_the_first_neither_opens_the_slot_nor_gives_it_away() {
     let Some(server) = Server::start("") else { return };
@@ -256,7 +259,7 @@ fn of_two_owners_of_one_term_the_first_neither_opens_the_slot_nor_gives_it_away(
     assert!(second.drive(3, 1).is_ok() && first.drive(3, 1).is_err());
 }
 
-/// Whose beats wait for longer is gone for the others, and a page of an operator is not shown meanwhile.
+/// An instance whose heartbeats wait longer counts as gone, and an operator's page is not shown meanwhile.
 #[test]
 fn a_question_to_a_silent_server_ends_soon_and_the_next_one_is_asked_anew() {
     let Some(server) = Server::start("") else { return };

@@ -1,4 +1,5 @@
-//! Passes bytes on, stops after so many parts of them, cuts clients off, and brings what it held back to the server late.
+//! A proxy that passes bytes on, stops after a number of parts, cuts clients off, and delivers held parts to the server
+//! late.
 
 use std::collections::BTreeSet;
 use std::io::{Read, Write};
@@ -19,14 +20,14 @@ struct Gate {
 
 #[derive(Default)]
 struct State {
-    /// So many parts pass yet; none: all.
+    /// How many parts still pass. None: all of them.
     left: Option<u64>,
-    /// The connection on which a part with this text comes next is silent from then on.
+    /// The connection on which the next part with this text comes goes silent.
     text: Option<&'static str>,
-    /// These connections were cut, or are silent, and what they hold waits until it goes on.
+    /// These connections were cut or are silent. What they hold waits until the proxy goes on.
     cut: BTreeSet<usize>,
     clients: Vec<TcpStream>,
-    /// Of each part that is held, on which connection.
+    /// The connection of each part that is held.
     held: Vec<usize>,
 }
 
@@ -97,7 +98,7 @@ impl Proxy {
         self.change(|state| state.text = Some(text));
     }
 
-    /// How many there were.
+    /// How many connections there were.
     pub fn connections(&self) -> usize {
         self.gate.state.lock().unwrap().clients.len()
     }
@@ -107,7 +108,7 @@ impl Proxy {
         !state.held.is_empty() && (state.left == Some(0) || !state.cut.is_empty())
     }
 
-    /// All clients are cut off. Those that come anew are served; what was held back is held on.
+    /// Cuts all clients off. New ones are served; what is held stays held.
     pub fn cut(&self) {
         self.change(|state| {
             let all = 0..state.clients.len();
@@ -115,7 +116,7 @@ impl Proxy {
         });
     }
 
-    /// The same of those of whom something is held alone.
+    /// The same, but only for clients with held parts.
     pub fn cut_held(&self) {
         self.change(|state| {
             let held = state.held.clone();
@@ -123,7 +124,7 @@ impl Proxy {
         });
     }
 
-    /// What was held back goes where it was to go.
+    /// Sends held parts to where they were going.
     pub fn go_on(&self) {
         self.change(|state| {
             state.left = None;

@@ -1,4 +1,4 @@
-//! A server in a folder of its own, with a synchronous standby where one is wanted.
+//! A server in a folder of its own, with a synchronous standby if a test wants one.
 
 use nix::sys::signal::{kill, Signal};
 use nix::unistd::Pid;
@@ -62,7 +62,7 @@ impl Server {
         Some(Server { folder, programs, port: free_port(), child: None })
     }
 
-    /// With these settings beside its own.
+    /// Starts it with these settings in addition to its own.
     pub fn start(settings: &str) -> Option<Server> {
         let mut server = Server::new()?;
         let mut initdb = server.command("initdb");
@@ -73,7 +73,7 @@ impl Server {
         Some(server)
     }
 
-    /// A standby of it, for which its commits wait from now on.
+    /// Makes a standby of it. From now on its commits wait for the standby.
     pub fn standby(&self) -> Server {
         let mut standby = Server::new().unwrap();
         standby.copy_of(self);
@@ -92,7 +92,7 @@ impl Server {
         done(backup.arg(self.data()));
     }
 
-    /// One that was killed is made anew, as the standby of another.
+    /// Makes a killed server again, as the standby of another.
     pub fn be_standby_of(&mut self, primary: &Server) {
         std::fs::remove_dir_all(self.data()).unwrap();
         self.copy_of(primary);
@@ -126,7 +126,7 @@ impl Server {
     }
 
     pub fn run(&mut self) {
-        // Of one that was killed. Its number may be another's now.
+        // The killed server's file. Its process number may be another's now.
         let _ = std::fs::remove_file(self.data().join("postmaster.pid"));
         let mut log = std::fs::OpenOptions::new();
         let log = log.create(true).append(true).open(self.folder.path().join("log")).unwrap();
@@ -137,7 +137,7 @@ impl Server {
         wait_until("the server starts", || self.psql("select 1").output().unwrap().status.success());
     }
 
-    /// It is the primary from now on, and its commits wait for a standby.
+    /// Makes it the primary. Its commits wait for a standby.
     pub fn promote(&self) {
         done(self.command("pg_ctl").args(["promote", "-w", "-D"]).arg(self.data()));
     }
@@ -146,19 +146,19 @@ impl Server {
         Pid::from_raw(self.child.as_ref().expect("it runs").id() as i32)
     }
 
-    /// All its processes at once, as when the machine is gone.
+    /// Kills all its processes at once, as when the machine fails.
     pub fn kill(&mut self) {
         let all = self.processes("");
         kill(self.id(), Signal::SIGKILL).unwrap();
         for process in all {
-            let _ = kill(process, Signal::SIGKILL); // it may be gone
+            let _ = kill(process, Signal::SIGKILL); // it may be gone already
         }
         self.child.take().unwrap().wait().unwrap();
-        // Shared memory is free once they are all gone.
+        // Shared memory is free after all of them have ended.
         std::thread::sleep(Duration::from_millis(100));
     }
 
-    /// Its processes of this kind.
+    /// The server's processes of this kind.
     fn processes(&self, kind: &str) -> Vec<Pid> {
         let parent = self.id().to_string();
         let is_ours = |entry: &std::fs::DirEntry| {
@@ -173,7 +173,7 @@ impl Server {
         ours.filter_map(number).map(Pid::from_raw).collect()
     }
 
-    /// A standby stands still, or goes on: it takes nothing, and says nothing.
+    /// Suspends or resumes a standby: while it is suspended, it takes nothing and confirms nothing.
     pub fn hold(&self, signal: Signal) {
         for process in self.processes("walreceiver") {
             kill(process, signal).unwrap();

@@ -1,4 +1,4 @@
-//! A sink in the database of the store: a request and what says that it was delivered are one transaction.
+//! Tests a sink in the store's database: a request, and the note that it was delivered, are one transaction.
 
 use super::server::Server;
 use super::work::{take, wait};
@@ -9,7 +9,7 @@ use totxegun::files::{Recents, Runs, Tenure};
 use totxegun::sinks::{self, Fate, Forwarded, Memory, Retention, Sink};
 use totxegun::store::postgres::{Copies, PostgresDrive, PostgresStore};
 
-/// It knows the store that the slots are in.
+/// Knows the store that has the shards.
 struct OfStore(Arc<PostgresStore>);
 
 impl Memory for OfStore {
@@ -35,7 +35,7 @@ fn request(slot: u16, number: u64, start: u64) -> Forwarded {
     Forwarded { slot, epoch: "e".into(), number, body: body.into() }
 }
 
-/// Points of two series.
+/// A request with points of two series.
 fn of_two(slot: u16, number: u64, starts: [u64; 2]) -> Forwarded {
     let [one, other] = starts.map(|start| String::from_utf8(request(slot, number, start).body).unwrap());
     let resource = |body: &str| body["{\"resourceMetrics\":[".len()..body.len() - 2].to_string();
@@ -77,7 +77,7 @@ fn a_request_and_what_says_that_it_was_delivered_are_one_transaction_under_the_t
     );
     assert_eq!(deliver(&sink, &request(3, 4, 40), &first), Fate::Taken);
     for _ in 0..2 {
-        // A part that is left is kept first, so the request has to come again.
+        // The part that is left has to be kept first, so the request has to come again.
         let partly = deliver(&sink, &of_two(3, 5, [45, 45]), &first);
         assert!(matches!(partly, Fate::TakenPartly { rejected: 1, .. }), "{partly:?}");
         assert_eq!(server.ask(NOTED), "3:1:4");
@@ -95,7 +95,7 @@ fn a_request_and_what_says_that_it_was_delivered_are_one_transaction_under_the_t
         }
         other => panic!("{other:?}"),
     }
-    // As after a store was put back: the term of an owner of before is greater, and not its epoch.
+    // As after a store was restored: an earlier owner's term is greater, but its epoch differs.
     let other = Tenure { term: second.term + 5, ..first };
     assert!(matches!(deliver(&sink, &request(3, 7, 70), &other), Fate::Again { .. }));
     assert_eq!(
@@ -121,7 +121,7 @@ fn a_sink_elsewhere_has_keys_alone_whatever_its_address() {
     assert_eq!(server.ask(NOTED), "");
 }
 
-/// As a start finds it where the answer of the sink, and with it the acknowledgement, was lost.
+/// As a start finds it after the sink's answer, and so the acknowledgement, was lost.
 #[test]
 fn what_was_noted_is_not_sent_again() {
     let Some(server) = Server::start("") else { return };

@@ -1,5 +1,5 @@
-//! How many syncs a second, beside `fdatasync` of a folder, and what they write. It proves nothing, so it runs when asked:
-//! `cargo test --release --test store speed -- --ignored --nocapture`.
+//! Measures syncs a second, compared with `fdatasync` in a folder, and how much they write. It proves nothing, so it
+//! only runs when asked: `cargo test --release --test store speed -- --ignored --nocapture`.
 
 use super::server::Server;
 use super::work::take;
@@ -15,7 +15,8 @@ use totxegun::files::drive::Drive;
 use totxegun::store::postgres::Copies;
 
 const LONG: Duration = Duration::from_secs(2);
-/// About a post of a point and one of twenty in the journal, by digits that pack as those of a journal do.
+/// About the sizes in the journal of a post with one point and one with twenty, as digits that pack as well as those of
+/// a journal.
 const SIZES: [usize; 2] = [800, 6_600];
 
 fn post(size: usize, number: u64) -> Vec<u8> {
@@ -29,7 +30,8 @@ fn post(size: usize, number: u64) -> Vec<u8> {
     bytes
 }
 
-/// So many writers, each of which waits for its post's sync: posts a second, and the waits in ms, 50 and 99 of 100.
+/// Runs writers, each of which waits for its post's sync. Returns posts a second, and the median and the 99th
+/// percentile of the waits in ms.
 fn run(writers: usize, size: usize, put: impl Fn(&[u8], u64) + Sync) -> (f64, f64, f64) {
     let at = AtomicU64::new(0);
     let begun = Instant::now();

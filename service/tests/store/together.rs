@@ -1,4 +1,4 @@
-//! Writes of several slots, which are one transaction.
+//! Tests writes of several shards that share one transaction.
 
 use super::proxy::Proxy;
 use super::server::{wait_until, Server};
@@ -14,10 +14,10 @@ use totxegun::store::postgres::{Copies, PostgresDrive, PostgresStore};
 
 const SLOTS: [u16; 4] = [0, 2, 4, 6];
 
-/// From a slot's thread to the one that writes.
+/// A wait that is long for what goes from a shard's thread to the writer.
 const LONG: Duration = Duration::from_millis(500);
 
-/// A slot with a file.
+/// The owner of a shard with a file.
 #[derive(Clone)]
 struct Owner {
     drive: Arc<PostgresDrive>,
@@ -40,7 +40,7 @@ impl Owner {
         self.drive.sync().map(drop)
     }
 
-    /// On a thread of its own, which waits for the store once this returns.
+    /// Writes on a thread of its own. When this returns, that thread waits for the store.
     fn writes(&self, text: &'static str) -> JoinHandle<std::io::Result<()>> {
         let owner = self.clone();
         let writing = thread::spawn(move || owner.write(text));
@@ -55,7 +55,7 @@ impl Owner {
     }
 }
 
-/// As the journal's thread and the outbox do it: neither keeps the other waiting, nor other slots.
+/// As the journal's thread and the outbox do: neither keeps the other or other shards waiting.
 #[test]
 fn who_syncs_and_who_syncs_meanwhile_both_go_on() {
     let Some(server) = Server::start("") else { return };
@@ -72,12 +72,12 @@ fn who_syncs_and_who_syncs_meanwhile_both_go_on() {
             }
         })
     };
-    // One of them by the long lane.
+    // One of the three writes goes by the long lane.
     let all: Vec<_> =
         owners.iter().flat_map(|owner| [1, 1, 1 << 20].map(|length| works(owner, length))).collect();
     wait_until("all are done", || all.iter().all(JoinHandle::is_finished));
     all.into_iter().for_each(|one| one.join().unwrap());
-    // One that is lost while it waits is not waited for.
+    // A shard that is lost while its write waits is not waited for.
     let syncs = owners[0].clone();
     let waiting = thread::spawn(move || syncs.write("y"));
     owners[0].drive.lose();
@@ -86,7 +86,7 @@ fn who_syncs_and_who_syncs_meanwhile_both_go_on() {
     assert!(is_lost(&owners[0].write("z").unwrap_err()));
 }
 
-/// Else each of them would wait for it, as for one that waits for its standby.
+/// Otherwise each of them would wait for the lock, as for a write that waits for its standby.
 #[test]
 fn a_slot_whose_row_is_locked_keeps_no_other_slot_waiting() {
     let Some(server) = Server::start("") else { return };
@@ -112,7 +112,7 @@ fn a_slot_whose_row_is_locked_keeps_no_other_slot_waiting() {
     assert_eq!(take(&store, SLOTS[0]).1[Path::new("journal/1")], b"ab");
 }
 
-/// A long one, which takes the server five seconds.
+/// Starts a long write, which takes the server five seconds.
 fn slow_write(server: &Server, owner: &Owner) -> JoinHandle<()> {
     server.ask(
         "create function slow() returns trigger language plpgsql as $$ begin
@@ -146,7 +146,7 @@ fn a_long_write_holds_up_no_short_ones() {
     writing.join().unwrap();
 }
 
-/// Files that go, and what is repeated, are long too.
+/// Deletions of files and retries are long writes too.
 #[test]
 fn a_long_write_holds_up_long_ones_of_few_other_slots() {
     let Some(server) = Server::start("") else { return };
@@ -161,7 +161,8 @@ fn a_long_write_holds_up_long_ones_of_few_other_slots() {
     writing.join().unwrap();
 }
 
-/// Neither of who writes, nor of who takes the slot: each would be one more process of the server.
+/// Neither a writer nor an instance that takes the shard may make more: each connection is one more process of the
+/// server.
 #[test]
 fn who_waits_for_a_locked_row_makes_few_connections() {
     let Some(server) = Server::start("") else { return };
@@ -185,14 +186,14 @@ fn who_waits_for_a_locked_row_makes_few_connections() {
     });
 }
 
-/// The slot's row is locked, and a read waits for it.
+/// The shard's row is locked, and a read waits for it.
 #[test]
 fn who_is_read_meanwhile_keeps_no_other_slot_waiting() {
     let Some(server) = Server::start("") else { return };
     make(&server.address());
     let store = open(&server.address(), Copies::One);
     let [read, other] = [SLOTS[0], SLOTS[1]].map(|slot| Owner::of(&store, slot));
-    // The first piece is not in memory any more, nor there: the server that writes is asked for it.
+    // The first piece is neither in memory nor in the store any more, so the server that writes is asked for it.
     read.drive.write_at(read.file, &vec![7; 6 << 20], 1).unwrap();
     read.drive.sync().unwrap();
     server.ask("delete from totxegun_store.piece where slot = 0 and place = 0");
@@ -209,7 +210,7 @@ fn who_is_read_meanwhile_keeps_no_other_slot_waiting() {
         other.write("c").unwrap();
         assert!(begun.elapsed() < 4 * LONG, "it took {:?}", begun.elapsed());
         assert_eq!(server.ask(&waiting("PgSleep")), "1", "the row was locked all the time");
-        let _ = writing.join().unwrap(); // the slot may be lost before, for what it has lost
+        let _ = writing.join().unwrap(); // the shard may be lost before, because of the missing piece
     });
 }
 
@@ -249,7 +250,7 @@ fn writes_of_several_slots_are_one_transaction_and_each_is_fenced_by_itself() {
     assert_eq!(take(&direct, SLOTS[2]).1, found);
 }
 
-/// As after an opening that failed: an instance may take a slot anew while a write of its earlier owner waits.
+/// As after an opening that failed: an instance may take a shard again while a write of the earlier owner waits.
 #[test]
 fn of_two_owners_of_a_slot_in_one_transaction_the_later_one_alone_has_written() {
     let Some(server) = Server::start("") else { return };
@@ -282,7 +283,8 @@ fn of_two_owners_of_a_slot_in_one_transaction_the_later_one_alone_has_written() 
     }
 }
 
-/// Else who asks by a connection to a server that is silent, and not yet known to be of no use, would wait for half a minute.
+/// Otherwise a query on a connection to a silent server, which is not yet known to be useless, would wait half a
+/// minute.
 #[test]
 fn who_asks_by_a_silent_connection_leaves_it_once_another_one_breaks() {
     let Some(server) = Server::start("") else { return };
@@ -304,7 +306,7 @@ fn who_asks_by_a_silent_connection_leaves_it_once_another_one_breaks() {
         writing
     };
     for question in ["set link = link + 1", "as last (slot"] {
-        // A connection that is made names the question, too: those of both are made before.
+        // A new connection names the query too, so the connections of both are made before.
         for owner in &owners {
             owner.write("a").unwrap();
         }
@@ -334,7 +336,7 @@ fn who_asks_by_a_silent_connection_leaves_it_once_another_one_breaks() {
     assert!(wait(store.beat("a", "h:1", "h:1", Told::default(), 0)).is_ok());
 }
 
-/// Each of its slots does its write again, and changes what it has, before it is done.
+/// Each of the shards repeats its write, and changes its data before that is done.
 #[test]
 fn what_comes_late_of_a_transaction_of_several_slots_is_done_for_none() {
     let Some(server) = Server::start("") else { return };
@@ -356,7 +358,7 @@ fn what_comes_late_of_a_transaction_of_several_slots_is_done_for_none() {
     wait_until("the first is on its way", || proxy.holds());
     let others: Vec<_> = owners[1..].iter().map(|owner| owner.writes("c")).collect();
     thread::sleep(LONG);
-    proxy.stop_after(2); // the first, and its answer
+    proxy.stop_after(2); // the first write, and its answer
     first.join().unwrap().unwrap();
     wait_until("the others are on their way", || proxy.holds());
     proxy.cut_held();

@@ -1,4 +1,4 @@
-//! Random work on a drive, beside a map: what a sync said yes to is what the next owner has to find.
+//! Random work on a shard's files, compared with a map: the next owner has to find what a sync confirmed.
 
 use std::collections::BTreeMap;
 use std::path::{Path, PathBuf};
@@ -17,11 +17,11 @@ impl Chance {
     }
 }
 
-/// An owner of a slot at work.
+/// An owner of a shard at work.
 pub struct Work {
     pub drive: Arc<PostgresDrive>,
     pub now: Contents,
-    /// What there was when the last sync that said yes began, and when one began that has not.
+    /// The content at the beginning of the last confirmed sync, and at the beginning of one that is not confirmed yet.
     pub synced: Contents,
     pub begun: Option<Contents>,
     pub syncs: u64,
@@ -29,7 +29,7 @@ pub struct Work {
 }
 
 impl Work {
-    /// Of the next owner, which finds what is there.
+    /// Work of the next owner, which starts with the content that it finds.
     pub fn take(store: &PostgresStore, slot: u16, seed: u64) -> Work {
         let (drive, found) = take(store, slot);
         Work { drive, now: found.clone(), synced: found, begun: None, syncs: 0, chance: Chance(seed) }
@@ -40,7 +40,7 @@ impl Work {
         Path::new(folder).join(format!("{:012}.seg", self.chance.below(5)))
     }
 
-    /// A call that changes something.
+    /// Makes one call that changes something.
     pub fn step(&mut self) {
         let name = self.name();
         match self.chance.below(10) {
@@ -85,7 +85,7 @@ impl Work {
         assert!(written.is_ok() || was_lost(written.err()));
     }
 
-    /// False where the slot is lost.
+    /// False if the shard is lost.
     pub fn sync(&mut self) -> bool {
         let begun = self.now.clone();
         self.begun = Some(begun);
@@ -102,13 +102,13 @@ impl Work {
         }
     }
 
-    /// Some calls, and a sync.
+    /// Makes some calls, and then a sync.
     pub fn round(&mut self) -> bool {
         (0..1 + self.chance.below(8)).for_each(|_| self.step());
         self.sync()
     }
 
-    /// What a reader of the open files sees.
+    /// Compares what a reader of the open files sees.
     pub fn check(&mut self) {
         let name = self.name();
         let Some(there) = self.now.get(&name) else {
@@ -125,7 +125,7 @@ impl Work {
         );
     }
 
-    /// Whether what the next owner found is what there was at the last sync that said yes, or at one that was under way.
+    /// Whether the next owner found the content at the last confirmed sync, or at one that was under way.
     pub fn is_found(&self, found: &Contents) -> bool {
         *found == self.synced || self.begun.as_ref() == Some(found)
     }
@@ -161,14 +161,14 @@ pub fn contents(drive: &dyn Drive) -> Contents {
     all
 }
 
-/// The next owner, and what it finds.
+/// Takes the shard as the next owner. Returns what it finds.
 pub fn take(store: &PostgresStore, slot: u16) -> (Arc<PostgresDrive>, Contents) {
     let drive = taken(store, slot);
     let found = contents(&*drive);
     (drive, found)
 }
 
-/// The next owner, who has read nothing yet.
+/// Takes the shard as the next owner, which has read nothing yet.
 pub fn taken(store: &PostgresStore, slot: u16) -> Arc<PostgresDrive> {
     loop {
         let term = term_of(store, slot);

@@ -1,4 +1,4 @@
-//! The copy of a folder that a check reads, which is gone however the check ends.
+//! The copy of a folder that `check` reads. It is removed however the check ends.
 
 use crate::service::is_kept;
 use anyhow::Context;
@@ -8,10 +8,10 @@ use std::io::ErrorKind;
 use std::os::unix::fs::DirBuilderExt;
 use std::path::{Path, PathBuf};
 
-/// How often a copy is tried to be removed.
+/// How often the removal of a copy is tried.
 const REMOVALS: usize = 100;
 
-/// What ends a command from outside, from here on for who waits for it alone.
+/// The signals that interrupt a command. From here on only the thread that waits for them gets them.
 pub(super) fn interrupts() -> nix::Result<SigSet> {
     let mut signals = SigSet::empty();
     signals.add(Signal::SIGINT);
@@ -20,7 +20,8 @@ pub(super) fn interrupts() -> nix::Result<SigSet> {
     Ok(signals)
 }
 
-/// Has them remove a copy too: it may be gigabytes of what senders sent. The status is what a shell calls such an end.
+/// Has these signals remove the copy before they end the process, since it may have gigabytes of what senders sent. The
+/// exit status is the one that shells give such an end.
 pub(super) fn remove_at(interrupts: SigSet, copy: PathBuf) -> std::io::Result<()> {
     let ended = move || {
         if let Ok(signal) = interrupts.wait() {
@@ -32,7 +33,7 @@ pub(super) fn remove_at(interrupts: SigSet, copy: PathBuf) -> std::io::Result<()
     Ok(())
 }
 
-/// Also while a file of it is being made.
+/// Removes the copy, even while files in it are still being made: hence several tries.
 fn remove(copy: &Path) {
     let mut fault = None;
     for _ in 0..REMOVALS {
@@ -46,18 +47,18 @@ fn remove(copy: &Path) {
     }
 }
 
-/// A copy of the journal, the outbox and the dead letters; removed when it is dropped.
+/// A copy of the journal, the outbox and the dead letters. It is removed when it is dropped.
 pub(super) struct Copy(pub PathBuf);
 
 impl Copy {
-    /// An empty one.
+    /// An empty copy.
     pub fn made(temporary: &Path) -> anyhow::Result<Copy> {
         let place = temporary.join(format!("totxegun-check-{}", std::process::id()));
         DirBuilder::new()
             .mode(0o700)
             .create(&place)
             .with_context(|| format!("{} can't be made", place.display()))?;
-        Ok(Copy(place)) // and not before: what was there already is not this one's to remove
+        Ok(Copy(place)) // not before: a folder that was there already must not be removed
     }
 
     pub fn fill(&self, data: &Path, temporary: &Path) -> anyhow::Result<()> {
@@ -78,7 +79,7 @@ impl Drop for Copy {
     }
 }
 
-/// A file, or a folder with all in it. What is copied can be written, also where this one can only be read.
+/// Copies a file, or a folder with everything in it. The copies are writable even if the originals are not.
 fn copy_all(from: &Path, to: &Path, why: &str) -> anyhow::Result<()> {
     let unread = || format!("{} can't be read", from.display());
     let uncopied = || format!("{} {why}", from.display());

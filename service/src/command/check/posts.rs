@@ -1,4 +1,5 @@
-//! `totxegun check --posts`: each post that is in no group, a line of JSON, whichever form the journal has it in.
+//! `totxegun check --posts`: prints each post that is in no group as a line of JSON, whichever form it has in the
+//! journal.
 
 use super::Ended;
 use crate::command::show;
@@ -9,13 +10,13 @@ use serde_json::value::RawValue;
 use std::collections::HashMap;
 use std::path::Path;
 
-/// How much is printed at once.
+/// How many bytes are printed at once.
 const PIECE: usize = 64 << 10;
 
 #[derive(Serialize)]
 struct Line<'a> {
     sender: &'a str,
-    /// How many points were not taken.
+    /// How many of the post's points were rejected.
     rejected: u64,
     #[serde(flatten)]
     what: What<'a>,
@@ -24,20 +25,20 @@ struct Line<'a> {
 #[derive(Serialize)]
 #[serde(rename_all = "snake_case")]
 enum What<'a> {
-    /// As the book was given it.
+    /// The body as the book got it.
     Body(Box<RawValue>),
     Points(Vec<Point<'a>>),
 }
 
 #[derive(Serialize)]
 struct Point<'a> {
-    /// Its identity.
+    /// The key of the series.
     series: &'a RawValue,
     start: u64,
     end: u64,
     #[serde(flatten)]
     says: Says,
-    /// Of one that was made of a cumulative one.
+    /// The run, for a point that was made of a cumulative one.
     #[serde(skip_serializing_if = "Option::is_none")]
     run: Option<&'a OfRun>,
 }
@@ -56,18 +57,18 @@ enum Says {
     },
 }
 
-/// What numbers stand for.
+/// The series that the journal's numbers stand for.
 #[derive(Default)]
 struct Series(HashMap<u64, Option<(Box<RawValue>, Kind)>>);
 
-/// Prints those of a folder.
+/// Prints the posts of a folder.
 pub(super) fn print(copy: &Path) -> Result<(), Ended> {
     let folder = Folder::open(copy, Durability::Process)?;
     let (journal, outbox) = folder.slot()?;
     put_lines(&journal, &outbox, show)
 }
 
-/// In the order in which a start puts them into the book, but for those of quarantined senders.
+/// Prints posts in the order in which a start gives them to the book, except for those of quarantined senders.
 pub(super) fn put_lines(
     journal: &Journal,
     outbox: &Outbox,
@@ -91,7 +92,7 @@ impl Series {
             self.0.insert(*number, named(name));
         }
         let what = match &read.post.body {
-            // No text of JSON has an end of a line in it.
+            // In JSON no string has a line break, so these are white space.
             Body::Text(body) => {
                 What::Body(RawValue::from_string(String::from_utf8_lossy(body).replace(['\n', '\r'], " "))?)
             }

@@ -1,4 +1,4 @@
-//! What `totxegun check` refuses, and what it leaves behind.
+//! Tests what `totxegun check` refuses, and what it leaves behind.
 
 use super::*;
 use crate::files::{Body, Names, Points, Post};
@@ -36,7 +36,7 @@ fn what_is_in_a_store_is_shown_by_the_status() -> Result<()> {
     Ok(())
 }
 
-/// What a check of a folder says, and how it ends.
+/// What a check of a folder prints, and how it ends.
 fn checked(data: &Path) -> Result<Vec<u8>, Ended> {
     let temporary = tempdir().unwrap();
     let _kept_still = lock(data)?;
@@ -47,7 +47,7 @@ fn checked(data: &Path) -> Result<Vec<u8>, Ended> {
     show_found(found, &copy.0, data, Form { json: false })
 }
 
-/// A folder with a group of two requests, of a service that was killed.
+/// Makes a folder with a group of two requests, as a killed service leaves it.
 fn killed(data: &Path) -> Result<()> {
     let folder = Folder::open(data, Durability::Disk).unwrap();
     let (journal, outbox) = folder.slot()?;
@@ -61,7 +61,7 @@ fn killed(data: &Path) -> Result<()> {
     Ok(())
 }
 
-/// A file, or a folder and all in it.
+/// Sets the modes of a file, or of a folder and everything in it.
 fn may(path: &Path, folder: u32, file: u32) {
     let is_folder = path.is_dir();
     let mode = if is_folder { folder } else { file };
@@ -70,7 +70,7 @@ fn may(path: &Path, folder: u32, file: u32) {
     below.into_iter().flatten().for_each(|entry| may(&entry.unwrap().path(), folder, file));
 }
 
-/// Run by the next test in a process of its own, by a user who is not root.
+/// The next test runs it in a process of its own, as a user who is not root.
 #[test]
 #[ignore]
 fn says_what_it_finds() {
@@ -80,7 +80,7 @@ fn says_what_it_finds() {
     }
 }
 
-/// As a backup that is mounted so.
+/// As with a backup that is mounted read-only.
 #[test]
 fn a_folder_that_can_only_be_read_is_checked() -> Result<()> {
     const NOBODY: u32 = 65534;
@@ -197,7 +197,7 @@ fn what_is_in_the_place_of_a_copy_stays() -> Result<()> {
     Ok(())
 }
 
-/// Of a sum and a histogram.
+/// The names of a sum and a histogram.
 struct Two;
 
 impl Names for Two {

@@ -1,16 +1,16 @@
-//! Settings of the environment that no option reads: a misspelled one would be left out in silence.
+//! Refuses variables `TOTXEGUN_..` that no option reads. Otherwise a misspelled one would be ignored in silence.
 
 use super::nearest;
 use clap::Command;
 use std::collections::BTreeSet;
 
 const PREFIX: &str = "TOTXEGUN_";
-/// Settings that the build and the tests read.
+/// Variables that the build and the tests read.
 const OTHERS: [&str; 2] = ["TOTXEGUN_BOOK", "TOTXEGUN_TESTS"];
 /// The prefixes of the variables that Kubernetes sets for a service named `totxegun`.
 const OF_KUBERNETES: [&str; 2] = ["TOTXEGUN_SERVICE_", "TOTXEGUN_PORT"];
 
-/// What is wrong with the first of these names that no option of this command line reads, with the nearest setting.
+/// An error about the first of these variables that no option reads, with the nearest known one.
 pub fn unknown_setting(line: &Command, set: impl Iterator<Item = String>) -> Option<String> {
     let known = known(line);
     let set: BTreeSet<String> = set.filter(|name| name.starts_with(PREFIX)).collect();
@@ -22,7 +22,7 @@ pub fn unknown_setting(line: &Command, set: impl Iterator<Item = String>) -> Opt
     set.iter().find(|name| !is_read(name)).map(|name| said(name, &known))
 }
 
-/// The settings of all commands: one file may be for several.
+/// The variables of all commands, since one file of variables may serve several.
 fn known(line: &Command) -> BTreeSet<String> {
     let options = line.get_subcommands().flat_map(Command::get_arguments);
     options.filter_map(|option| option.get_env()).map(|name| name.to_string_lossy().into_owned()).collect()

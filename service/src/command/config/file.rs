@@ -1,5 +1,8 @@
-//! The file of settings: its keys are the options of `serve` that have a variable, and its table `sink` has those of the sink. What
-//! it says is added to the words of the command line, unless these or the environment say it: so each value is read in one way.
+//! The file of settings: its keys are the options of `serve` that have a variable, and its table `sink` has those of
+//! the sink.
+//!
+//! The file's settings are appended to the command line, except for those that the command line or the environment has.
+//! So a value is parsed in one way, wherever it comes from.
 
 use super::nearest;
 use super::secret::{has_password, is_of_otlp};
@@ -12,13 +15,13 @@ use toml::value::{Table, Value};
 /// The option that names the file.
 pub const OPTION: &str = "config";
 const TABLE: &str = "sink";
-/// Everybody may read the file, so no key has a secret.
+/// An option that the file can't have: it is a secret, and everybody may read the file.
 const HEADER: &str = "sink-header";
 
-/// The words that the file gives, by their options.
+/// The words for the command line that the file gives, by option.
 pub type Words = BTreeMap<String, Vec<OsString>>;
 
-/// What a setting is called in the file.
+/// The key of an option in the file.
 pub fn key(option: &str) -> String {
     match option.strip_prefix(TABLE) {
         Some("") => format!("{TABLE}.address"),
@@ -42,7 +45,7 @@ pub fn is_setting(option: &str) -> bool {
     ![OPTION, HEADER].contains(&option)
 }
 
-/// Reads the file. What is wrong with it is said with its name.
+/// Reads the file. An error begins with the file's name.
 pub fn read(path: &Path, serve: &Command) -> Result<Words, String> {
     let shown = path.display();
     let text =
@@ -51,7 +54,7 @@ pub fn read(path: &Path, serve: &Command) -> Result<Words, String> {
 }
 
 fn words(text: &str, serve: &Command) -> Result<Words, String> {
-    // As a value: so a key that is there twice is a fault.
+    // Parsed into a `Value`, so that a repeated key is an error.
     let read: Value = toml::from_str(text).map_err(|why| format!("it is no TOML: {why}"))?;
     let Value::Table(mut table) = read else {
         return Err("it is no table of settings".into());

@@ -1,5 +1,7 @@
-//! The settings of `serve`: the command line comes before the environment, and that before the file of `--config`. And
-//! `totxegun config`, which says whether they can be used, and where each comes from.
+//! The settings of `serve`: the command line wins over the environment, and the environment over the file of
+//! `--config`. Also `totxegun config`, which checks settings and shows where each comes from.
+//!
+//! `parse` reads every command line of the program, so each command with `--config` has the file's settings.
 
 mod environment;
 mod file;
@@ -27,7 +29,7 @@ use std::path::PathBuf;
 /// The variable that names the file.
 pub const VARIABLE: &str = "TOTXEGUN_CONFIG";
 
-/// A command line that was read, with what the file of settings adds to it.
+/// A parsed command line, with what the file of settings added to it.
 pub struct Parsed {
     pub matches: ArgMatches,
     /// The file, if one was named, and the options that it sets.
@@ -40,7 +42,7 @@ pub enum Faulty {
     File(String),
 }
 
-/// Reads a command line, and the file of settings if it names one.
+/// Parses a command line, and reads the file of settings if it names one.
 pub fn parse(mut words: Vec<OsString>) -> Result<Parsed, Faulty> {
     let command = Line::command();
     let file = match file_of(&words, &command) {
@@ -61,8 +63,8 @@ pub fn parse(mut words: Vec<OsString>) -> Result<Parsed, Faulty> {
     }
 }
 
-/// What the file that the words or the environment name says of the options that neither sets. What is faulty or missing there is
-/// said later, with what the file adds.
+/// Reads the file that the words or the environment name, and keeps the options that neither sets. Errors in the words
+/// are left to the parsing that follows, which has the file's words too.
 fn file_of(words: &[OsString], command: &clap::Command) -> Option<(PathBuf, Result<file::Words, String>)> {
     let without_file = command.clone().ignore_errors(true).try_get_matches_from(words).ok()?;
     let (name, matches) = without_file.subcommand()?;
@@ -79,7 +81,7 @@ fn file_of(words: &[OsString], command: &clap::Command) -> Option<(PathBuf, Resu
     Some((path.clone(), read))
 }
 
-/// What is wrong with a value of the file, with its key; none if another one is meant.
+/// The error about a value of the file, with its key. None if the error is about something else.
 fn in_file(error: &clap::Error, path: &std::path::Path, given: &BTreeSet<String>) -> Option<String> {
     let Some(ContextValue::String(shown)) = error.get(ContextKind::InvalidArg) else {
         return None;
@@ -95,22 +97,22 @@ fn in_file(error: &clap::Error, path: &std::path::Path, given: &BTreeSet<String>
     Some(format!("{}: `{}`: {why}", path.display(), key(option)))
 }
 
-/// The known name that is nearest to another.
+/// The known name that is nearest to `name`.
 pub(super) fn nearest<'k>(name: &str, known: impl Iterator<Item = &'k String>) -> &'k str {
     known.min_by_key(|it| strsim::levenshtein(it, name)).map_or("", String::as_str)
 }
 
 #[derive(Subcommand)]
 pub enum Command {
-    /// Says whether a service starts with these options, and what is wrong; listens at none of its addresses
+    /// Checks whether a service starts with these options, and says what is wrong; listens at none of its addresses
     Check(Words),
-    /// Shows each setting, and whether the command line, the environment or the file says it; no secrets
+    /// Shows each setting, and whether the command line, the environment or the file gives it; hides secrets
     Show(Words),
 }
 
 #[derive(clap::Args)]
 pub struct Words {
-    /// The options of `serve`, as --config FILE
+    /// Options of `serve`, such as --config FILE
     #[arg(value_name = "OPTION", trailing_var_arg = true, allow_hyphen_values = true)]
     words: Vec<OsString>,
 }
@@ -133,7 +135,7 @@ impl Words {
     }
 }
 
-/// What `serve` is told by a command line of its own.
+/// Parses the words as a command line of `serve`.
 fn read(words: Vec<OsString>) -> Result<(serve::Options, Parsed), Ended> {
     let parsed = parse(words).map_err(|why| match why {
         Faulty::Line(error) => {
@@ -146,7 +148,7 @@ fn read(words: Vec<OsString>) -> Result<(serve::Options, Parsed), Ended> {
     Ok((options, parsed))
 }
 
-/// Each setting of a service, as it would be in a file.
+/// The values of each setting, by option.
 pub type Values = BTreeMap<String, Vec<OsString>>;
 
 fn values(parsed: &Parsed) -> Values {
@@ -208,7 +210,7 @@ fn source_shown(
     }
 }
 
-/// As the file has it. A password is not shown.
+/// The value as the file would have it. Passwords are hidden.
 fn as_toml(arg: &clap::Arg, values: &[OsString]) -> String {
     let one = |value: &OsString| {
         let text = value.to_string_lossy();

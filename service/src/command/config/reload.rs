@@ -1,4 +1,4 @@
-//! What SIGHUP does: the settings are read anew, what can change does, and what can't is named in the log.
+//! SIGHUP: reads the settings again, uses those that may change, and names the others in the log.
 
 use super::{key, read, values, Values};
 use crate::metrics::Metrics;
@@ -7,11 +7,11 @@ use crate::work::locked;
 use std::sync::Mutex;
 use tracing_subscriber::{filter::Targets, reload::Handle, Registry};
 
-/// The options that SIGHUP may change. Contents of files of certificates and tokens are read anew without it.
+/// The options that SIGHUP may change. Files of certificates and tokens are read again without it.
 const LIVE: [&str; 5] = ["log-level", "log-rejected", "expect-rejected", "sender-series", "sender-points"];
 
-/// Reads the settings anew, and returns those that the service changes by itself. Without settings with which it would start it goes
-/// on with those that it has.
+/// Makes what SIGHUP calls. It reads the settings again, and returns those that the service changes itself. If no
+/// service would start with the new settings, nothing changes.
 pub fn reload(
     level: Handle<Targets, Registry>,
     metrics: &Metrics,
@@ -38,7 +38,8 @@ pub fn reload(
     }))
 }
 
-/// The settings of this process' command line as they are now, if a service starts with them: those that may change, and all.
+/// The settings that this process' command line gives now, if a service starts with them: those that may change, the
+/// log level, and all values.
 fn usable() -> Result<(Live, Targets, Values), Ended> {
     let (options, parsed) = read(std::env::args_os().collect())?;
     let (live, level) = (options.live(), options.level());
@@ -46,7 +47,7 @@ fn usable() -> Result<(Live, Targets, Values), Ended> {
     Ok((live, level, values(&parsed)))
 }
 
-/// The settings that differ, as the file calls them: those that may change, or the others.
+/// The settings that differ, by their keys in the file: those that may change (`is_live`), or the others.
 fn changed(before: &Values, now: &Values, is_live: bool) -> Vec<String> {
     let differ = now.iter().filter(|(option, values)| before.get(*option) != Some(values));
     let those = differ.filter(|(option, _)| LIVE.contains(&option.as_str()) == is_live);

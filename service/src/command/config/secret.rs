@@ -1,6 +1,7 @@
-//! What of an address is a secret.
+//! Finds and hides secrets in addresses.
 
-/// Whether an address has a password, before its host or in its query. What a receiver of OTLP has in its query may be a key.
+/// Whether an address has a password, before its host or in its query. Any query of an OTLP receiver counts, since it
+/// may be a key.
 pub fn has_password(address: &str) -> bool {
     let (place, query) = address.split_once('?').unwrap_or((address, ""));
     let user = place.split_once("//").and_then(|(_, rest)| Some(rest.rsplit_once('@')?.0));
@@ -14,7 +15,7 @@ pub fn is_of_otlp(address: &str) -> bool {
     ["http", "https"].iter().any(|of_otlp| scheme.eq_ignore_ascii_case(of_otlp))
 }
 
-/// An address without its password, and without its query, which may have a token.
+/// The address without its password and without its query, which may have a token.
 pub fn without_password(address: &str) -> String {
     let (place, query) = address.split_once('?').map_or((address, ""), |(place, _)| (place, "?.."));
     let parts = place.split_once("//").and_then(|(scheme, rest)| Some((scheme, rest.rsplit_once('@')?)));

@@ -1,9 +1,9 @@
-//! Where each setting comes from, and what is said of those that can't be used.
+//! Tests where settings come from, and what is said of those that can't be used.
 
 use super::*;
 use clap::Arg;
 
-/// A value that is none of the option's defaults.
+/// A value that is not the option's default.
 fn sample(option: &str, arg: &Arg) -> String {
     let value = arg.get_value_names().and_then(|names| names.first()).map(ToString::to_string);
     let value = value.unwrap_or_default();
@@ -26,7 +26,7 @@ fn sample(option: &str, arg: &Arg) -> String {
     }
 }
 
-/// The file that has each option once, and what each is to be then.
+/// A file that has each option once, and the values that it gives.
 fn each_once() -> (String, Values) {
     let command = Line::command();
     let serve = command.find_subcommand("serve").unwrap();
@@ -69,11 +69,11 @@ fn a_file_may_have_each_option_once() {
     let shown = shown(&parsed).unwrap();
     let of_file = |line: &&str| line.ends_with(path);
     assert_eq!(shown.lines().filter(of_file).count(), wanted.len(), "{shown}");
-    // What is shown is a file of the same settings.
+    // What is shown is again a file with the same settings.
     assert_eq!(shown.parse::<toml::Value>().unwrap(), text.parse::<toml::Value>().unwrap());
 }
 
-/// The environment's turn is tried by the program, whose own it is.
+/// The environment is tested with the program, which has one of its own.
 #[test]
 fn the_command_line_comes_before_the_file() {
     let folder = tempfile::tempdir().unwrap();
@@ -119,7 +119,7 @@ fn a_fault_is_said_with_its_file() {
     assert!(none.starts_with("--config /none can't be read: "), "{none}");
 }
 
-/// What a command does not have of the file is not its own.
+/// Settings that a command does not have are left out.
 #[test]
 fn explain_has_the_settings_of_reading() {
     let folder = tempfile::tempdir().unwrap();

@@ -1,5 +1,9 @@
-//! What is known of series is changed: where one ends is put back, as of one that a wrong clock has put ahead; or it is
-//! forgotten, so that another sender may have it. `sought` finds which ones are meant, in each slot.
+//! Rewinds the end of series, for example of those that a wrong clock put ahead, or forgets series, so that another
+//! sender may have them.
+//!
+//! `Desk::amend` flushes all shards first, so that each knows all of its series; then it has each shard find the series
+//! that are meant (`sought`), and changes those of the shards that are here. Without `--force` nothing is done if the
+//! sink could count a repeat twice.
 
 mod sought;
 
@@ -20,7 +24,7 @@ use std::sync::Arc;
 const SECOND: u64 = 1_000_000_000;
 const HOUR: u64 = 3600 * SECOND;
 
-/// How many series are told of by name, and how many hours of each.
+/// How many series an answer names, and how many hours of each.
 const NAMED: usize = 5;
 const HOURS: usize = 5;
 
@@ -36,7 +40,7 @@ impl Desk {
     }
 
     async fn amended(self: &Arc<Self>, who: String, sought: Sought) -> Result<Answer, Answer> {
-        // What was posted so far is known then.
+        // After a flush each shard knows all that was posted.
         let flushed = self.carry_out(&who, &Command::Flush).await;
         if flushed.status != 200 {
             return Err(flushed);
@@ -107,7 +111,7 @@ impl Desk {
         }
     }
 
-    /// What the sink has of a series beyond a time.
+    /// Says what the sink has of a series from the hour of `to` on.
     async fn beyond(&self, key: &SeriesKey, to: u64) -> String {
         let Some(totals) = &self.totals else {
             return String::new();
@@ -122,7 +126,7 @@ impl Desk {
     }
 }
 
-/// Changes what these slots know, one after the other.
+/// Changes these shards, one after the other. It stops at the first that refuses.
 async fn amended_here(slots: &BTreeMap<u16, Arc<Unit>>, sought: &Sought) -> Result<(), Answer> {
     let mut done = Vec::new();
     for (slot, unit) in slots {
@@ -136,7 +140,7 @@ async fn amended_here(slots: &BTreeMap<u16, Arc<Unit>>, sought: &Sought) -> Resu
     Ok(())
 }
 
-/// What a slot has refused, and which others have done it.
+/// The refusal of a shard, with the shards in which the order is done already.
 fn refused_by(refused: &Answer, done: &[u16]) -> Answer {
     match done {
         [] => refused.clone(),
@@ -160,7 +164,7 @@ fn in_hours(hours: &[Hour]) -> String {
     shown.join(", ")
 }
 
-/// What is asked for.
+/// Reads the order.
 fn read(to: Option<&str>, query: Query<'_>) -> Result<Sought, String> {
     let to = to.map(|to| {
         let seconds = seconds_of(to).filter(|seconds| *seconds > 0);
@@ -174,7 +178,7 @@ fn read(to: Option<&str>, query: Query<'_>) -> Result<Sought, String> {
     Ok(sought)
 }
 
-/// In UTC, to the second.
+/// The time in UTC, to the second.
 fn time(nanoseconds: u64) -> String {
     utc(nanoseconds / SECOND)
 }

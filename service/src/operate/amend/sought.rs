@@ -1,4 +1,7 @@
-//! Which series an operator means, and what is done to them in a slot.
+//! Which series an operator means, and how one shard changes them.
+//!
+//! `InAllSlots` puts together what all shards have found. A shard of another instance gets a `Sought` as JSON, so its
+//! fields are a format between instances.
 
 use super::{time, NAMED};
 use crate::files::Series;
@@ -11,36 +14,36 @@ use crate::work::blocking;
 use serde::{Deserialize, Serialize};
 use std::sync::Arc;
 
-/// What is asked for.
+/// The order.
 #[derive(Clone, Debug, PartialEq, Eq, Serialize, Deserialize)]
 pub struct Sought {
-    /// How they are named.
+    /// The series, as the operator named it.
     pub(super) written: String,
-    /// In nanoseconds since 1970; none where they are to be forgotten.
+    /// The end to which they are rewound, in nanoseconds since 1970. None if they are to be forgotten.
     pub(super) to: Option<u64>,
-    /// All that are named so, where they are several.
+    /// Whether all series of this name are meant if there are several.
     pub(super) all: bool,
-    /// Although the sink may count a repeat twice.
+    /// Whether to go on although the sink may count a repeat twice.
     #[serde(default)]
     pub(super) force: bool,
-    /// When it was asked, by the clock of who was.
+    /// When the order came, by the clock of the instance that got it.
     now: u64,
 }
 
-/// A series, and where it ended.
+/// A series, and the end that it had.
 pub type Was = (SeriesKey, u64);
 
-/// What a slot has of what is meant.
+/// What a shard has of the series that are meant.
 #[derive(Debug, Default, PartialEq, Eq, Serialize, Deserialize)]
 struct InSlot {
     named: Few,
-    /// Where the last of them ends.
+    /// The latest of their ends.
     last: u64,
-    /// Those of them that end after the time that is asked for.
+    /// Those of them that end after the time of the order.
     beyond: Few,
 }
 
-/// How many series, and the first of them by their keys, each with where it ends.
+/// A number of series, and the first of them by their keys, each with its end.
 #[derive(Debug, Default, PartialEq, Eq, Serialize, Deserialize)]
 struct Few {
     count: usize,
@@ -54,19 +57,19 @@ impl Few {
     }
 }
 
-/// The same of all slots.
+/// The answers of all shards.
 #[derive(Debug, Default, PartialEq, Eq)]
 pub struct InAllSlots {
     in_slot: Vec<(u16, InSlot)>,
 }
 
-/// The series that are meant.
+/// The series to change.
 #[derive(Debug, PartialEq, Eq)]
 pub struct Meant {
     pub count: usize,
-    /// The first of them by their keys.
+    /// The first of them, by their keys.
     pub first: Vec<Was>,
-    /// Which slots have some, and how they are asked for them.
+    /// The shards that have some of them, and the order for these shards.
     pub slots: Vec<u16>,
     pub sought: Sought,
 }
@@ -77,7 +80,7 @@ impl Sought {
         Ok(Sought { written, to, all, force: false, now })
     }
 
-    /// What is written down of it.
+    /// What the audit log has of it.
     pub fn act(&self) -> Asked {
         let asked = match self.to {
             Some(to) => Asked::new("rewind", format!("{} to {}", self.written, time(to))),
@@ -86,10 +89,10 @@ impl Sought {
         asked.with("--all", self.all).with("--force", self.force)
     }
 
-    /// Those of a slot that are named so, in the order of their keys.
+    /// The series of a shard that are named so, in the order of their keys.
     fn named(&self, all: impl IntoIterator<Item = (SeriesKey, Series)>) -> Vec<Was> {
         let Ok(of) = self.written.parse::<Named>() else {
-            return Vec::new(); // it was read before
+            return Vec::new(); // `new` has read it
         };
         let found = all.into_iter().filter(|(key, _)| of.has(key));
         let mut found: Vec<Was> = found.map(|(key, series)| (key, series.frontier)).collect();
@@ -109,14 +112,14 @@ impl Sought {
         }
     }
 
-    /// What a slot has of them.
+    /// Answers what this shard has of the series.
     pub async fn found_in(self, unit: &Arc<Unit>) -> Answer {
         let unit = unit.clone();
         let found = blocking(move || self.counted(&self.named(unit.slot.outbox.series()))).await;
         Answer::new(200, serde_json::json!(found).to_string())
     }
 
-    /// Has a slot change what it knows of them; none where it is ending.
+    /// Changes the series of this shard. None if the shard is closing.
     pub async fn amended_in(self, unit: &Arc<Unit>) -> Option<Answer> {
         let (of, sought) = (unit.clone(), self.clone());
         let mut found = blocking(move || sought.named(of.slot.outbox.series())).await;
@@ -124,10 +127,10 @@ impl Sought {
         let is_ahead = found.iter().any(|(_, end)| *end > self.now);
         let series: Vec<SeriesKey> = found.into_iter().map(|(key, _)| key).collect();
         if series.is_empty() {
-            return Some(Answer::new(200, "{}")); // as of one that was asked again
+            return Some(Answer::new(200, "{}")); // an order that is repeated finds nothing to do
         }
-        // What ends ahead of the clock is put back to now before it is forgotten: runs that began before the end of what was
-        // forgotten don't count.
+        // A series that ends ahead of the clock is rewound to now before it is forgotten. Otherwise a run that begins
+        // between now and that end would not count: runs from before the end of a forgotten series don't.
         let put_back = self.to.or(is_ahead.then_some(self.now));
         let forget = self.to.is_none().then(|| Amend::Forget(series.clone()));
         let put_back = put_back.map(|to| Amend::PutBack { series, to });
@@ -140,7 +143,7 @@ impl Sought {
     }
 }
 
-/// Has a slot change what it knows.
+/// Gives the shard's keeper an order.
 async fn ordered(unit: &Unit, amend: Amend) -> Option<Result<(), Answer>> {
     Some(match unit.orders.order(Order::Amend(amend)).await? {
         Done::Amended(Ok(())) => Ok(()),
@@ -149,12 +152,12 @@ async fn ordered(unit: &Unit, amend: Amend) -> Option<Result<(), Answer>> {
             Err(Answer::told(409, &format!("{} {why}", named(&one))))
         }
         Done::Answered(outcome) => Err(outcome.into()),
-        Done::Flushed { .. } => return None, // no keeper says so
+        Done::Flushed { .. } => return None, // the keeper does not answer `Amend` so
     })
 }
 
 impl InAllSlots {
-    /// The error is what a slot has refused.
+    /// The error is the answer of a shard that refused.
     pub fn read(answers: &[(u16, Answer)]) -> Result<InAllSlots, Answer> {
         let mut found = InAllSlots::default();
         for (slot, answer) in answers {
@@ -174,12 +177,12 @@ impl InAllSlots {
         (all().map(|few| few.count).sum(), first)
     }
 
-    /// Whether no slot has one that is named so.
+    /// Whether no shard has a series of this name.
     pub fn has_none(&self) -> bool {
         self.of_all(|of| &of.named).0 == 0
     }
 
-    /// The series that are meant, or why there are none.
+    /// The series to change, or why there are none.
     pub fn meant(&self, sought: &Sought) -> Result<Meant, String> {
         if let Some(to) = sought.to.filter(|to| *to > sought.now) {
             return Err(format!(
@@ -216,7 +219,7 @@ impl InAllSlots {
             count: beyond,
             slots: has_some.map(|(slot, _)| *slot).collect(),
             sought: match (sought.all, first.first()) {
-                // No other that is new since is meant.
+                // By its key: a series of this name that is new meanwhile is not meant.
                 (false, Some((key, _))) => Sought { written: key.0.to_string(), ..sought.clone() },
                 _ => sought.clone(),
             },
@@ -247,7 +250,7 @@ mod tests {
         ends.iter().map(one).collect()
     }
 
-    /// The series of slots 2, 5 and 7.
+    /// The series of shards 2, 5 and 7.
     fn slots() -> [(u16, Vec<(SeriesKey, Series)>); 3] {
         let two = series(&[("a", "s2", NOW - HOUR), ("b", "s1", NOW + HOUR)]);
         [(2, two), (5, series(&[("a", "s1", NOW + HOUR)])), (7, Vec::new())]
@@ -271,7 +274,7 @@ mod tests {
         let one = meant(&sought("a{shop=s1}", to, false)).unwrap();
         assert_eq!((one.count, &one.first[..]), (1, &[(key("a", "s1"), NOW + HOUR)][..]));
         assert_eq!(one.slots, [5]);
-        // By all that identifies it: no other is meant.
+        // The order names the series by its key.
         assert_eq!(*one.sought.written, *key("a", "s1").0);
         let those = meant(&sought("a", to, true)).unwrap();
         assert_eq!((those.count, &those.slots[..], &*those.sought.written), (1, &[5][..], "a"));

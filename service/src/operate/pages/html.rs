@@ -1,4 +1,4 @@
-//! Markup that is put together: what stands in the program goes in as it is, and all else escaped.
+//! HTML that is safe by its types: only texts of the program itself go in as markup, and everything else is escaped.
 
 use crate::command::values::grouped;
 use crate::log::{all_shown, cut};
@@ -7,10 +7,10 @@ use std::fmt::{Display, Write};
 /// How much of a text is shown, in characters.
 const SHOWN: usize = 400;
 
-/// How many rows a table has at most, where there may be any number.
+/// How many rows a table has at most, if there may be any number.
 const ROWS: usize = 50;
 
-/// A page, or a part of one. Only a text of the program itself can be markup.
+/// A page or a part of one.
 #[derive(Default)]
 pub struct Html(String);
 
@@ -25,7 +25,8 @@ impl Html {
         self
     }
 
-    /// A text, also within the quotes of an attribute: one line, and nothing that is markup.
+    /// Escapes a text, also for a quoted attribute. Control characters, line breaks too, are shown as visible
+    /// characters.
     pub fn text(&mut self, text: impl Display) -> &mut Html {
         let text = text.to_string();
         let shown = cut(&text, SHOWN);
@@ -45,20 +46,20 @@ impl Html {
         self
     }
 
-    /// A text of a query, whole.
+    /// A text within a query, percent-encoded and not cut.
     pub fn query(&mut self, text: &str) -> &mut Html {
         let set = percent_encoding::NON_ALPHANUMERIC;
-        let _ = write!(self.0, "{}", percent_encoding::utf8_percent_encode(text, set)); // a text takes all
+        let _ = write!(self.0, "{}", percent_encoding::utf8_percent_encode(text, set)); // writing to a string does not fail
         self
     }
 
-    /// A number that nobody else wrote.
+    /// A number, which needs no escaping.
     pub fn number(&mut self, number: f64) -> &mut Html {
-        let _ = write!(self.0, "{number:.1}"); // a text takes all
+        let _ = write!(self.0, "{number:.1}"); // writing to a string does not fail
         self
     }
 
-    /// The beginning of a section.
+    /// Begins a section.
     pub fn section(&mut self, title: &'static str) -> &mut Html {
         self.markup("<section><h2>").markup(title).markup("</h2>")
     }
@@ -67,7 +68,7 @@ impl Html {
         self.markup("</section>\n")
     }
 
-    /// A table of the first rows, and how many more there are: of these, and besides.
+    /// A table of the first rows, and how many more there are. `besides` are rows that the caller left out.
     pub fn first_rows(
         &mut self,
         caption: &'static str,
@@ -83,8 +84,8 @@ impl Html {
         self
     }
 
-    /// A table that says `none` where it has no row. Its caption is for who hears the page. Columns whose heads end in `#` have
-    /// numbers. The first text of each row leads to the series of its place, if there are any.
+    /// A table, or `none` if it has no rows. Screen readers read its caption. Columns whose heads end in `#` have
+    /// numbers. If there are `series`, the first cell of each row links to the series at the same index.
     pub fn table(
         &mut self,
         caption: &'static str,

@@ -1,8 +1,8 @@
-//! The operator's pages: `/` and `/series`, whole without their script, which loads `/` anew every two seconds. They only
-//! read.
+//! The operators' pages: `/` and `/series`. They only read. They work without their script, which reloads `/` every two
+//! seconds.
 //!
-//! `html` escapes all that the program has not written itself; nothing is loaded from elsewhere, and the policy forbids
-//! it.
+//! What must hold: nothing that others wrote becomes markup (`html` escapes it), and nothing is loaded from elsewhere
+//! (the content security policy forbids it).
 
 mod html;
 mod overview;
@@ -20,7 +20,7 @@ use std::sync::Arc;
 
 const PAGE: &str = "text/html; charset=utf-8";
 
-/// Of every page: nothing is run or loaded but the two files beside it, and no other page shows it within itself.
+/// The headers of every page: a browser runs and loads only the files of these pages, and shows no page within another.
 const HEADERS: [(HeaderName, &str); 4] = [
     (
         CONTENT_SECURITY_POLICY,
@@ -32,7 +32,7 @@ const HEADERS: [(HeaderName, &str); 4] = [
     (CACHE_CONTROL, "no-store"),
 ];
 
-/// What a browser asks for.
+/// What a browser may ask for.
 #[derive(Clone, Copy, Debug, PartialEq, Eq)]
 pub enum Page {
     Overview,
@@ -42,7 +42,7 @@ pub enum Page {
 }
 
 impl Desk {
-    /// `query` is what stands behind the path.
+    /// Answers with a page.
     pub(super) async fn page(self: &Arc<Self>, page: Page, query: Query<'_>) -> Response<Body> {
         let mut response = match page {
             Page::Overview => reply(200, PAGE, overview::page(&self.status_of_all().await)),
@@ -57,7 +57,7 @@ impl Desk {
     }
 }
 
-/// A whole page around what it is of. It leads to the other one.
+/// Puts the body of a page between its head and its foot, with a link to the other page.
 fn frame(page: Page, shown: &Shown, body: Html) -> String {
     let mut html = Html::default();
     html.markup("<!doctype html><html lang=en><head><meta charset=utf-8><title>totxegun</title>");

@@ -1,11 +1,11 @@
-//! `GET /`: a status in words, with its numbers as tiles and what came in the last minutes as a plot.
+//! `GET /`: the status in words, its main numbers as tiles, and the rates of the last minutes as a plot.
 
 use super::html::Html;
 use super::plot::{lines, Line};
 use super::{frame, Page};
 use crate::operate::status::{Rates, Section, Shown, Status, Tile, KEPT};
 
-/// Below the plot of what `KEPT` looks saw.
+/// The time axis of the plot, which has `KEPT` rates.
 const MINUTES: [&str; 6] = ["5 min ago", "4", "3", "2", "1 min ago", "now"];
 
 pub(super) fn page(status: &Status) -> String {

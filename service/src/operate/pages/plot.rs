@@ -1,4 +1,4 @@
-//! Plots of a page, as SVG: lines over time, and a bar an hour.
+//! Plots as SVG: lines over time, and a bar for each hour.
 
 use super::html::Html;
 use crate::command::values::grouped;
@@ -6,17 +6,17 @@ use std::fmt::Display;
 
 const WIDTH: f64 = 720.0;
 const HEIGHT: f64 = 160.0;
-/// Above and below what is drawn.
+/// The space above and below the plot.
 const MARGIN: f64 = 18.0;
 
-/// A line with its class, which is its colour.
+/// A line. Its class is its colour.
 pub struct Line {
     pub class: &'static str,
     pub values: Vec<f64>,
 }
 
-/// Lines over the same times, the last ones at the right, in a place for so many. `label` is for who hears the page; `marks`
-/// are times from its left to its right.
+/// Lines over the same times, at the right of a plot that has room for `places` values. `label` is read by screen
+/// readers, and `marks` are times on the axis, from left to right.
 pub fn lines(html: &mut Html, label: &'static str, lines: &[Line], places: usize, marks: &[&'static str]) {
     let values = lines.iter().flat_map(|line| line.values.iter().copied());
     let top = values.fold(0.0, f64::max).max(1.0);
@@ -33,13 +33,13 @@ pub fn lines(html: &mut Html, label: &'static str, lines: &[Line], places: usize
     end(html, marks);
 }
 
-/// A bar: its height, and what is said of it.
+/// A bar: its height, and its tooltip.
 pub struct Bar {
     pub value: f64,
     pub text: String,
 }
 
-/// Bars side by side over the same ground; those below zero hang from it. The rest as of `lines`.
+/// Bars on a common base line; negative ones hang from it. `label` and `marks` as in `lines`.
 pub fn bars(html: &mut Html, label: &'static str, bars: &[Bar], marks: &[String]) {
     let values = || bars.iter().map(|bar| bar.value);
     let (top, bottom) = (values().fold(0.0, f64::max), values().fold(0.0, f64::min));

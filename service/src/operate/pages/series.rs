@@ -1,4 +1,5 @@
-//! `GET /series`: search by name and attribute, with each total as the sink has it now; and one series by itself.
+//! `GET /series`: finds series by name and attributes, with their current totals in the sink, and shows one series with
+//! its last hours.
 
 use super::html::Html;
 use super::plot::{self, Bar};
@@ -13,21 +14,21 @@ use crate::sinks::sql::totals::Hour;
 use crate::sinks::sql::totals::{text, Histogram, SeriesTotal};
 use serde_json::{Map, Value};
 
-/// How many are shown at most.
+/// How many series are shown at most.
 const ROWS: usize = 100;
 
-/// In seconds; and how many are plotted.
+/// An hour in seconds, and how many hours are plotted.
 const HOUR: u64 = 3600;
 const HOURS: u64 = 48;
-/// Hours from one mark of the axis to the next.
+/// The hours between two marks of the axis.
 const MARK: u64 = 12;
 
-/// What is asked for: parts of a name and of attributes, or one series.
+/// The query: parts of a name and of attributes, or one series.
 #[derive(Debug, Default, PartialEq, Eq)]
 struct Wanted {
     name: String,
     attribute: String,
-    /// By `identity`.
+    /// The series by its `identity`.
     id: String,
 }
 
@@ -59,7 +60,7 @@ impl Desk {
     }
 }
 
-/// What was found: the first rows, and how many there are.
+/// What was found: the first rows, how many there are, and how many series the sink has.
 struct FoundRows {
     rows: Vec<SeriesTotal>,
     count: usize,
@@ -68,7 +69,7 @@ struct FoundRows {
 }
 
 impl Wanted {
-    /// What is no text is part of no name.
+    /// A parameter that is not UTF-8 matches no series.
     fn of(query: Query<'_>) -> Wanted {
         let value = |key: &str| query.value(key).unwrap_or_else(|_| char::REPLACEMENT_CHARACTER.into());
         let trimmed = |key: &str| value(key).trim().to_string();
@@ -113,7 +114,7 @@ fn form(html: &mut Html, wanted: &Wanted) {
 }
 
 impl FoundRows {
-    /// The only one, where one was asked for.
+    /// The series, if one was asked for.
     fn one(&self) -> Option<&SeriesTotal> {
         self.rows.first().filter(|_| self.is_one)
     }
@@ -144,7 +145,7 @@ impl FoundRows {
     }
 }
 
-/// One of several.
+/// The row of a series in the table.
 fn row(series: &SeriesTotal) -> Vec<String> {
     let count = series.histogram.as_ref().map(|histogram| grouped(histogram.count));
     vec![
@@ -158,7 +159,7 @@ fn row(series: &SeriesTotal) -> Vec<String> {
     ]
 }
 
-/// All that is known of one.
+/// The page of one series.
 fn one(html: &mut Html, series: &SeriesTotal) {
     let rows: Vec<_> = facts(series).into_iter().map(|(what, value)| vec![what.to_string(), value]).collect();
     html.markup("<section><h2>").text(&series.name).markup("</h2><p class=total>");
@@ -196,7 +197,7 @@ fn buckets(html: &mut Html, histogram: &Histogram) {
         .end_section();
 }
 
-/// What came in each of the last hours: of a histogram how many values, else their sum. Nothing where the sink has no hours.
+/// Plots the last hours: how many values of a histogram, the sum of other series. Nothing if the sink has no hours yet.
 async fn last_hours(html: &mut Html, totals: &Totals, series: &SeriesTotal) {
     let from = (seconds() / HOUR + 1).saturating_sub(HOURS);
     match totals.hours(series.digest, from).await {
@@ -228,7 +229,7 @@ fn plot_of_hours(html: &mut Html, hours: &[Hour], from: u64) {
     html.table("What came in each hour, the last first", &heads, &rows, &[]).end_section();
 }
 
-/// Nanoseconds since 1970 to the second, in UTC.
+/// The time in UTC, to the second.
 fn time(nanoseconds: u64) -> String {
     utc(nanoseconds / 1_000_000_000)
 }

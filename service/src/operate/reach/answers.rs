@@ -1,4 +1,4 @@
-//! What other instances ask of this one, for operators who came to them.
+//! Answers other instances, which ask this one on behalf of their operators.
 
 use super::{Answer, Command, Desk};
 use crate::cluster::terms::Doing;
@@ -10,9 +10,9 @@ use std::sync::Arc;
 
 #[derive(Serialize, Deserialize)]
 pub enum Question {
-    /// How it is, and the slots that it has.
+    /// The status of this instance and its shards.
     Status,
-    /// Of these slots those that are here do it.
+    /// A command for those of these shards that are open here.
     Do {
         /// Who asked, and at which instance.
         who: String,
@@ -36,7 +36,8 @@ impl Answers for Desk {
 }
 
 impl Desk {
-    /// Does it, and writes it down here too: so the folder of each instance says what was done to its slots.
+    /// Carries the command out and records it here too, so that the audit log of each instance has what was done to its
+    /// shards.
     async fn recorded(
         self: &Arc<Self>,
         who: String,
@@ -50,7 +51,7 @@ impl Desk {
     }
 }
 
-/// Where it is done, and the first slot that has not done it.
+/// The shards that did it, and the first one that did not.
 fn outcome(answers: &[(u16, Answer)]) -> String {
     let done = answers.iter().filter(|(_, answer)| answer.is_done()).map(|(slot, _)| *slot);
     let done: Vec<u16> = done.collect();

@@ -1,4 +1,4 @@
-//! What is done in one slot, where it is.
+//! What a command does in one shard, at the instance that has it.
 
 use super::Desk;
 use crate::keeper::{Done, Order};
@@ -10,27 +10,27 @@ use serde::{Deserialize, Serialize};
 use serde_json::{json, Value};
 use std::sync::Arc;
 
-/// What a slot says of a sender that it knows nothing of.
+/// A field of an answer: false if the shard does not know the sender.
 const KNOWN: &str = "known";
 
-/// What is asked of all slots, wherever they are.
+/// A command to all shards, wherever they are.
 #[derive(Clone, Debug, PartialEq, Eq, Serialize, Deserialize)]
 pub enum Command {
     Flush,
-    /// Of a sender.
+    /// Of this sender.
     Quarantine(String),
     Release(String),
-    /// Which series are meant.
+    /// Finds the series that are meant.
     Find(Sought),
 }
 
-/// What a slot says to it: as it goes to who has asked.
+/// The answer of a shard, in the form in which the operator gets it.
 #[derive(Clone, Debug, PartialEq, Eq, Serialize, Deserialize)]
 pub struct Answer {
     pub status: u16,
-    /// JSON, but for a report.
+    /// JSON, except for a report.
     pub body: String,
-    /// With 307: the admin address at which the same is asked for.
+    /// With status 307: the admin address to ask instead.
     #[serde(default, skip_serializing_if = "Option::is_none")]
     pub location: Option<String>,
 }
@@ -40,7 +40,7 @@ impl Answer {
         Answer { status, body: body.into(), location: None }
     }
 
-    /// Why it was not done, or something that is told of it.
+    /// An answer with a message: why nothing was done, or what there is to say of it.
     pub fn told(status: u16, message: &str) -> Answer {
         Answer::new(status, json!({ "message": message }).to_string())
     }
@@ -49,12 +49,12 @@ impl Answer {
         serde_json::from_str(&self.body).unwrap_or_default()
     }
 
-    /// As it is in the body; all of that where there is none.
+    /// The message in the body, or the whole body if it has none.
     pub fn message(&self) -> String {
         self.says()["message"].as_str().unwrap_or(&self.body).to_string()
     }
 
-    /// The same of an order about a sender, of whom a slot may know nothing.
+    /// The same for an order about a sender: it says if the shard does not know the sender.
     fn of_sender(mut self, is_known: bool) -> Answer {
         if let (false, Value::Object(mut says)) = (is_known, self.says()) {
             says.insert(KNOWN.into(), false.into());
@@ -63,17 +63,17 @@ impl Answer {
         self
     }
 
-    /// Whether a slot knows nothing of the sender that an order is about.
+    /// Whether the shard does not know the sender.
     pub fn knows_nothing(&self) -> bool {
         self.says()[KNOWN] == false
     }
 
-    /// Whether all was done that was asked for: what a sink has not taken of a letter was not.
+    /// Whether all was done. If the sink has not taken a dead letter, it was not.
     pub fn is_done(&self) -> bool {
         self.status == 200 && self.says()["reason"].is_null()
     }
 
-    /// In short what came of an act.
+    /// The outcome in a few words, for the audit log.
     pub fn outcome(&self) -> String {
         let says = self.says();
         let text = |name: &str| says[name].as_str().unwrap_or_default();
@@ -94,12 +94,12 @@ impl From<Outcome> for Answer {
 }
 
 impl Command {
-    /// Whether it changes something.
+    /// Whether the command changes something.
     pub fn changes(&self) -> bool {
         !matches!(self, Command::Find(_))
     }
 
-    /// What is written down of it.
+    /// What the audit log has of it. None if it is no action.
     pub fn act(&self) -> Option<Asked> {
         Some(match self {
             Command::Quarantine(sender) => Asked::new("quarantine", sender),
@@ -110,7 +110,8 @@ impl Command {
 }
 
 impl Desk {
-    /// None where the slot is not here, or not any more: what was done of it then its next owner has, or has not.
+    /// Carries out a command in a shard. None if the shard is not open here, or closes meanwhile: its next owner may have
+    /// the result, or not.
     pub(super) async fn in_slot(self: Arc<Self>, slot: u16, command: Command) -> Option<Answer> {
         let unit = self.units.get(slot)?;
         match command {
@@ -133,7 +134,7 @@ impl Desk {
 }
 
 impl Desk {
-    /// Whether a sender has posted here since the start, or has series in a slot or is quarantined there.
+    /// Whether the sender has posted here since the start, has series in the shard or is quarantined there.
     async fn knows(&self, unit: &Arc<Unit>, sender: &str) -> bool {
         let (outbox, of) = (unit.slot.outbox.clone(), sender.to_string());
         let in_slot =
@@ -146,7 +147,7 @@ async fn ordered(unit: &Unit, order: Order) -> Option<Answer> {
     match unit.orders.order(order).await? {
         Done::Flushed { requests } => Some(Answer::new(200, json!({ "requests": requests }).to_string())),
         Done::Answered(outcome) => Some(outcome.into()),
-        // `amend` gives such orders itself.
+        // Only `amend` gives such orders.
         Done::Amended(_) => None,
     }
 }

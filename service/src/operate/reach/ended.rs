@@ -1,12 +1,14 @@
-//! What came of a command in slots: all of it, or by slot what was done and what was not.
+//! Puts the answers of all shards together: if one is missing, the error says where the command was carried out and
+//! where not.
 
 use super::{Answer, Command, ENDING};
 use std::collections::BTreeMap;
 
-/// What a slot has said, or why it has not done it.
+/// The answer of a shard, or why there is none.
 pub type Done = Result<Answer, String>;
 
-/// The answers of all slots, in their order; the error is that some have not done it. Of a single slot its own answer says that.
+/// All answers in the order of the shards, or the error that some shards failed. If there is a single shard, its own
+/// answer has the failure.
 pub fn of_all(command: &Command, done: BTreeMap<u16, Done>) -> Result<Vec<(u16, Answer)>, Answer> {
     let of = done.len();
     let mut left: BTreeMap<String, Vec<u16>> = BTreeMap::new();
@@ -24,7 +26,7 @@ pub fn of_all(command: &Command, done: BTreeMap<u16, Done>) -> Result<Vec<(u16, 
     }
 }
 
-/// Of so many slots these have not done it, by why.
+/// Says how many of the shards did it and which did not; `left` has these by reason.
 fn told(is_act: bool, of: usize, left: &BTreeMap<String, Vec<u16>>) -> String {
     if of == 1 && left.contains_key(ENDING) {
         return ENDING.into();
@@ -39,7 +41,7 @@ fn told(is_act: bool, of: usize, left: &BTreeMap<String, Vec<u16>>) -> String {
     format!("{done} of {of} slots {did}, and not {each}; `totxegun status` shows who has which slot; {again}")
 }
 
-/// `slot 3`, `slots 3, 4 and 7`.
+/// For example `slot 3`, or `slots 3, 4 and 7`.
 pub fn slots_shown(slots: &[u16]) -> String {
     let numbers: Vec<String> = slots.iter().map(u16::to_string).collect();
     match &numbers[..] {

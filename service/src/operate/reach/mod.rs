@@ -1,9 +1,9 @@
-//! What is asked at any instance of all slots (`Command`) is done where they are. All else is done in the slots that are here;
-//! of another one 307 says where to ask (`elsewhere`).
+//! Operators may ask any instance. A command to all shards (`Command`) is carried out by the instances that have them;
+//! each other request concerns the shards that are open here, or gets a 307 to the instance to ask (`elsewhere`).
 //!
-//! A slot's own instance does it (`command`), and says what came of it; one that is on its way is looked for, for some seconds
-//! (`places`). `answers` is what other instances ask of this one. All that changes something can be asked again: what is done
-//! stays as it is, so whoever is told that a part is missing (`ended`) repeats it.
+//! `places` finds the instances, and waits some seconds for a shard that is moving; `command` is what an instance does
+//! in a shard; `answers` is how it answers the others. A command may arrive twice, so each must do no harm when
+//! repeated: an operator who is told that some shards failed (`ended`) gives it again.
 
 mod answers;
 mod command;
@@ -26,25 +26,25 @@ use std::sync::Arc;
 use std::time::Duration;
 use tokio::time::Instant;
 
-/// A slot that nobody has is looked for so long: a machine that is lost has its slots elsewhere within.
+/// How long to look for a shard without an owner. The shards of a machine that is lost have new owners sooner.
 const LOOKED_FOR: Duration = match cfg!(test) {
     false => Duration::from_secs(8),
     true => Duration::from_millis(500),
 };
-/// An instance does what it is asked within: a flush may be long.
+/// How long another instance may take. A flush may be long.
 const WITHIN: Duration = Duration::from_secs(100);
 
-/// Why a slot that was found did nothing.
+/// Why a shard whose instance was asked did nothing.
 const MOVED: &str = "it is being moved to another instance";
 const NOBODY: &str = "no instance has it";
-/// Where there are no others.
+/// The same if there are no other instances.
 const ENDING: &str = "stopping";
 
-/// What came of it in a slot.
+/// The outcome in one shard.
 type InSlot = (u16, Done);
 
 impl Desk {
-    /// Has each slot do it, wherever it is: the answers of all.
+    /// Has each shard carry out the command, wherever it is, and returns the answers of all.
     pub(super) async fn in_all_slots(
         self: &Arc<Self>,
         who: &str,
@@ -59,7 +59,7 @@ impl Desk {
             let Some(others) = self.others.as_ref().filter(|_| done.values().any(Result::is_err)) else {
                 break;
             };
-            // The first time may have been waited for somebody who stands still.
+            // The deadline is set after the first round, which may have waited long for an instance that hangs.
             if Instant::now() >= *until.get_or_insert(Instant::now() + LOOKED_FOR) {
                 break;
             }
@@ -68,17 +68,17 @@ impl Desk {
         of_all(command, done)
     }
 
-    /// Asks once for each slot, all at the same time.
+    /// Asks each of these shards once, all at the same time.
     async fn round(self: &Arc<Self>, who: &str, command: &Command, slots: &BTreeSet<u16>) -> Vec<InSlot> {
         let at = |(place, slots)| {
             let (desk, who, command) = (self.clone(), who.to_string(), command.clone());
             async move { desk.at(place, who, command, slots).await }
         };
         let asked = side_by_side(self.places(slots).into_iter().map(at)).await;
-        asked.into_iter().flatten().collect() // what has failed stays to be asked
+        asked.into_iter().flatten().collect() // shards that failed are asked again
     }
 
-    /// What slots at a place have said, and why those have not done it that say nothing.
+    /// The answers of the shards at one place. A shard that does not answer gets the reason.
     async fn at(
         self: Arc<Self>,
         place: Place,
@@ -101,7 +101,8 @@ impl Desk {
         slots.into_iter().map(done).collect()
     }
 
-    /// Another instance does it. Where all of these slots leave it, it is waited for no longer: it may stand still.
+    /// Has another instance carry it out. The wait ends when all these shards have left it, since the instance may
+    /// hang.
     async fn there(
         &self,
         address: &str,
@@ -120,7 +121,7 @@ impl Desk {
         }
     }
 
-    /// Has those of these slots that are here do it.
+    /// Has those of these shards that are open here carry it out.
     async fn here(self: &Arc<Self>, command: &Command, slots: &[u16]) -> BTreeMap<u16, Answer> {
         let done = slots.iter().map(|slot| {
             let (desk, slot, command) = (self.clone(), *slot, command.clone());

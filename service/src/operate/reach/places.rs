@@ -1,4 +1,4 @@
-//! Where slots are, and how their instances are asked.
+//! Finds the instance of a shard, and asks it.
 
 use super::{Answer, Desk, Question, ENDING, NOBODY};
 use crate::cluster::{Asks, Cluster, Whose};
@@ -10,21 +10,21 @@ use std::sync::Arc;
 use std::time::Duration;
 use tokio::time::timeout;
 
-/// Between two looks, where nothing changes.
+/// How long to wait for a change of the shards' places.
 const PAUSE: Duration = Duration::from_millis(200);
 
-/// The other instances, and what is shared with them.
+/// The other instances, and what is known of them.
 pub struct Others {
     pub cluster: Arc<Cluster>,
     pub asks: Arc<dyn Asks>,
     pub database: Arc<StoreHealth>,
     pub metrics: OfCluster,
-    /// This instance's name, and where others reach it.
+    /// The name of this instance, and the address at which others reach it.
     pub instance: String,
     pub address: String,
 }
 
-/// Who is asked for a slot.
+/// Where to ask for a shard.
 #[derive(Clone, Debug, PartialEq, Eq, PartialOrd, Ord)]
 pub(super) enum Place {
     Here,
@@ -33,7 +33,7 @@ pub(super) enum Place {
 }
 
 impl Desk {
-    /// What is here is here, whatever the store has.
+    /// Groups shards by place. A shard that is open here is here, whatever the store says.
     pub(super) fn places(&self, slots: &BTreeSet<u16>) -> BTreeMap<Place, Vec<u16>> {
         let mut places: BTreeMap<Place, Vec<u16>> = BTreeMap::new();
         for slot in slots.iter().copied() {
@@ -46,7 +46,7 @@ impl Desk {
         places
     }
 
-    /// A slot that is here; else where it is asked for.
+    /// The shard if it is open here, else the answer where to ask.
     pub(in crate::operate) fn unit_here(&self, slot: u16) -> Result<Arc<Unit>, Answer> {
         self.units.get(slot).ok_or_else(|| match &self.others {
             Some(others) => others.elsewhere(slot),
@@ -56,7 +56,7 @@ impl Desk {
 }
 
 impl Others {
-    /// Where a slot is asked for that is not here.
+    /// The answer for a shard that is not here: where to ask.
     fn elsewhere(&self, slot: u16) -> Answer {
         let Place::At { name, address } = self.place(slot) else {
             let why = "`totxegun status` shows who has which slot; ask again";
@@ -75,12 +75,12 @@ impl Others {
     fn place(&self, slot: u16) -> Place {
         match self.cluster.whose(slot) {
             Whose::There { name, address, .. } => Place::At { name, address },
-            // One that has left meanwhile is looked for again.
+            // The shard has left this instance meanwhile: it is looked for again.
             Whose::Here { .. } | Whose::Nobody => Place::Nobody,
         }
     }
 
-    /// Has it seen where slots are now.
+    /// Reads the shards' rows again.
     pub(super) async fn look_again(&self) {
         let mut places = self.cluster.places();
         places.borrow_and_update();
@@ -88,13 +88,13 @@ impl Others {
         let _ = timeout(PAUSE, places.changed()).await;
     }
 
-    /// Once none of these slots is at this address any more.
+    /// Returns when none of these shards is at this address any more.
     pub(super) async fn have_left(&self, address: &str, slots: &[u16]) {
         let mut places = self.cluster.places();
         let is_there = |slot: &u16| matches!(self.cluster.whose(*slot), Whose::There { address: at, .. } if at == address);
         while slots.iter().any(is_there) {
             if places.changed().await.is_err() {
-                return std::future::pending().await; // the loop that beats has ended, and nothing moves
+                return std::future::pending().await; // the heartbeat loop has ended, so nothing moves
             }
         }
     }

@@ -1,4 +1,4 @@
-//! What an instance says of itself among others, and of the store: in JSON, and in gauges.
+//! What an instance knows of itself as one of several, and of the store's database: as JSON and as gauges.
 
 use crate::cluster;
 use crate::command::values::seconds_shown;
@@ -10,7 +10,7 @@ use serde::{Deserialize, Serialize};
 /// The instances of a store, and its database.
 #[derive(Debug, Default, Serialize, Deserialize)]
 pub struct ClusterStatus {
-    /// Who was asked.
+    /// The instance that was asked.
     pub instance: String,
     pub instances: Vec<InstanceStatus>,
     pub database: DatabaseStatus,
@@ -19,32 +19,32 @@ pub struct ClusterStatus {
 #[derive(Debug, Default, PartialEq, Eq, Serialize, Deserialize)]
 pub struct InstanceStatus {
     pub name: String,
-    /// Where others bring posts.
+    /// The address to which other instances send posts.
     pub address: String,
     pub version: String,
-    /// Since its last beat, as far as it was seen; none where none was.
+    /// The time since its last heartbeat, as far as it was seen. None if none was seen.
     pub heartbeat_seconds: Option<u64>,
-    /// How many slots it has.
+    /// How many shards it owns.
     pub slots: usize,
-    /// What is to be known of it: it leaves, it has not answered.
+    /// What an operator should know: it is leaving, or does not answer.
     pub trouble: Option<String>,
 }
 
 #[derive(Clone, Debug, Default, PartialEq, Eq, Serialize, Deserialize)]
 pub struct DatabaseStatus {
-    /// Its address.
+    /// The address of the database.
     pub database: String,
-    /// On how many servers what is committed is now.
+    /// On how many servers a commit is now.
     pub copies: Option<u64>,
     pub copies_asked: u64,
-    /// Why that is not known.
+    /// Why the number of copies is not known.
     pub why: Option<String>,
-    /// For how long the write that began first has not been known to be there.
+    /// How long the oldest write of unknown outcome has waited.
     pub unknown_outcome_seconds: u64,
 }
 
 impl Others {
-    /// Another instance, whose beats go on, that answers no post of those that are brought there.
+    /// What to say of an instance that still sends heartbeats, but answers no post that is forwarded to it.
     fn unanswering(&self, seen: &cluster::Status) -> Option<String> {
         let unanswering = self.asks.unanswering();
         seen.others.iter().filter(|other| !other.is_gone).find_map(|other| {
@@ -56,7 +56,7 @@ impl Others {
 }
 
 impl Desk {
-    /// Who this is, of the cluster.
+    /// The part of the status that this instance adds for the cluster.
     pub(super) fn own_cluster_status(&self) -> Option<ClusterStatus> {
         let others = self.others.as_ref()?;
         let seen = others.cluster.status();

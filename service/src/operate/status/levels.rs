@@ -1,10 +1,10 @@
-//! Gauges of what is elsewhere, set where somebody asks for them.
+//! Gauges whose values are kept elsewhere. They are set when somebody reads the metrics.
 
 use super::{held, quarantined, SlotStatus, Stock};
 use crate::operate::Desk;
 
 impl Desk {
-    /// By the status of this instance.
+    /// Sets the gauges by the status of this instance.
     pub(in crate::operate) fn read_levels(&self) {
         let status = self.levels();
         let (slots, limits, levels) = (&status.slots, &status.limits, &self.metrics.levels);
@@ -37,7 +37,7 @@ impl Desk {
         ] {
             level.set(value);
         }
-        // What a store has not answered is of its databases.
+        // A call to the store is counted by the store's own metrics, not as one of the disk.
         let call = self.others.is_none().then(|| self.units.disk_call());
         levels.disk_call_seconds.set(call.unwrap_or_default().as_secs_f64());
         if let Some(free) = limits.disk_free_bytes {
@@ -49,7 +49,8 @@ impl Desk {
         }
     }
 
-    /// A sender is quarantined in each slot. Of several instances one counts it: who has the first slot that any has.
+    /// Whether this instance counts quarantined senders. Each is quarantined in all shards, so only the instance that
+    /// has the first open shard counts them.
     fn counts_senders(&self) -> bool {
         let Some(others) = &self.others else { return true };
         let here = self.units.all().first().map(|unit| unit.slot.number());

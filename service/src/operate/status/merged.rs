@@ -1,4 +1,4 @@
-//! What all instances say of themselves, as one status.
+//! Merges the statuses of all instances into one.
 
 use super::{Desk, InstanceStatus, RoundedStatus, SlotStatus, Status};
 use crate::cluster::status::{OtherInstance, OwnedSlot};
@@ -11,16 +11,16 @@ use std::collections::BTreeMap;
 use std::sync::Arc;
 use std::time::Duration;
 
-/// An instance says how it is within.
+/// How long another instance may take to give its status.
 const WITHIN: Duration = Duration::from_secs(3);
-/// How often each beats, in milliseconds.
+/// The heartbeat interval, in milliseconds.
 const BEAT: u64 = crate::cluster::beats::BEAT.as_millis() as u64;
 
-/// What came of asking another instance.
+/// Another instance with its status, or why it gave none.
 type Said = (OtherInstance, Result<Status, String>);
 
 impl Desk {
-    /// With what the other instances say of theirs.
+    /// The status of this instance, with the shards and counts of all others.
     pub(in crate::operate) async fn status_of_all(self: &Arc<Self>) -> Status {
         let mut status = self.status();
         let Some(others) = &self.others else { return status };
@@ -51,7 +51,7 @@ impl Desk {
 }
 
 impl Status {
-    /// What others say, and what the store says of slots of which nobody says more.
+    /// Adds the statuses of other instances, and, from the store, the shards that none of them has.
     fn add(&mut self, said: Vec<Said>, slots: &[OwnedSlot], refused: &[Refusal]) {
         let mut silent = BTreeMap::new();
         for (other, said) in said {
@@ -70,7 +70,7 @@ impl Status {
         self.add_unknown(slots, &silent, refused);
     }
 
-    /// What an instance can't open is its trouble, also where another has it.
+    /// If an instance can't open a shard, that is its trouble, even if another instance has the shard.
     fn add_refused(&mut self, refused: &[Refusal]) {
         for one in self.cluster.iter_mut().flat_map(|cluster| &mut cluster.instances) {
             let mut own = refused.iter().filter(|refusal| refusal.instance == one.name);
@@ -117,7 +117,8 @@ impl Status {
         same.greatest.truncate(SHOWN_OF_RULE);
     }
 
-    /// In the order of the slots. Of two that say they have one the later term counts.
+    /// Adds the shards that no instance reported, in the order of the shards. If two instances report a shard, the
+    /// later term counts.
     fn add_unknown(&mut self, slots: &[OwnedSlot], silent: &BTreeMap<String, String>, refused: &[Refusal]) {
         self.slots.sort_by_key(|slot| (slot.slot, std::cmp::Reverse(slot.term)));
         self.slots.dedup_by_key(|slot| slot.slot);
@@ -208,7 +209,7 @@ mod tests {
             owned(5, "b", 1),
             owned(6, "", 8),
         ];
-        // Slot 1 has just come to b; slot 5 is on its way there.
+        // Slot 1 has just moved to b; slot 5 is on its way there.
         let b = status("b", vec![slot(0, "b", 7, 2), slot(1, "b", 3, 1)]);
         let c = Err("its beats have stopped".to_string());
         let refusal = Refusal { slot: 6, instance: "a".into(), reason: "1.seg was changed".into() };

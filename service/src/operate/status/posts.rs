@@ -1,4 +1,4 @@
-//! Who has posted to this instance since its start, and what was not taken.
+//! Who has posted to this instance since its start, and what was refused or rejected.
 
 use super::Status;
 use crate::log::seconds;
@@ -8,14 +8,14 @@ use crate::post_reports::OfSender;
 use serde::{Deserialize, Serialize};
 use std::collections::HashMap;
 
-/// How many there are of a kind at most.
+/// How many rows of a kind are in the status.
 const MOST: usize = 50;
 
-/// The first of many.
+/// The first of many rows.
 #[derive(Debug, Serialize, Deserialize)]
 pub struct First<T> {
     pub first: Vec<T>,
-    /// How many there are besides.
+    /// How many more there are.
     pub more: usize,
 }
 
@@ -25,19 +25,19 @@ pub struct RefusedStatus {
     pub sender: String,
     pub reason: Reason,
     pub posts: u64,
-    /// Since the last one.
+    /// The time since the last one.
     pub last_seconds: u64,
     /// The text of its answer.
     pub answer: String,
 }
 
-/// The points of a sender that were not taken for one reason.
+/// The points of a sender that were rejected for one reason.
 #[derive(Debug, Serialize, Deserialize)]
 pub struct RejectedStatus {
     pub sender: String,
     pub reason: Reason,
     pub points: u64,
-    /// Of one of these points, if it is known.
+    /// The metric of one of these points, if it is known.
     #[serde(default, skip_serializing_if = "Option::is_none")]
     pub metric: Option<String>,
 }
@@ -45,9 +45,9 @@ pub struct RejectedStatus {
 #[derive(Debug, Serialize, Deserialize)]
 pub struct SenderStatus {
     pub sender: String,
-    /// Since its last post.
+    /// The time since its last post.
     pub last_seconds: u64,
-    /// Posts that were taken, and that were refused.
+    /// How many of its posts were taken, and how many refused.
     pub taken: u64,
     pub refused: u64,
 }
@@ -67,7 +67,7 @@ impl<T> Default for First<T> {
 }
 
 impl Desk {
-    /// With what came to this instance. Posts wait while it is copied, so that levels do without.
+    /// Adds senders and their posts to a status. Posts wait while these are copied, so gauges do without.
     pub(super) fn with_posts(&self, status: Status) -> Status {
         let (now, senders) = (seconds(), self.activity.last(usize::MAX));
         Status {

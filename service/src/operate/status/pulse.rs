@@ -1,4 +1,4 @@
-//! What was posted and delivered a second, for the last minutes.
+//! Rates of posts and deliveries over the last minutes.
 
 use crate::metrics::Metrics;
 use crate::work::locked;
@@ -7,17 +7,17 @@ use std::collections::VecDeque;
 use std::sync::{Arc, Mutex, Weak};
 use std::time::Duration;
 
-/// How often it is looked, and for how long it is kept.
+/// How often the counters are read, and how many rates are kept.
 pub const EVERY: Duration = Duration::from_secs(2);
 pub const KEPT: usize = 150;
 
-/// The counters as they were at each look, the oldest first.
+/// The counters at each reading, the oldest first.
 pub struct Pulse(Mutex<VecDeque<Counters>>);
 
-/// Posts taken and refused, requests delivered: since the start.
+/// Posts taken, posts refused and requests delivered since the start.
 type Counters = [u64; 3];
 
-/// What came of them in a second.
+/// Numbers per second.
 #[derive(Clone, Copy, Debug, Default, PartialEq, Serialize, Deserialize)]
 pub struct Rates {
     pub taken: f64,
@@ -26,7 +26,7 @@ pub struct Rates {
 }
 
 impl Pulse {
-    /// Looks until it is dropped.
+    /// Reads the counters until the `Pulse` is dropped.
     pub fn begin(metrics: Arc<Metrics>) -> Arc<Pulse> {
         let pulse = Arc::new(Pulse(Mutex::default()));
         tokio::spawn(look(Arc::downgrade(&pulse), metrics));
@@ -41,7 +41,7 @@ impl Pulse {
         all.push_back(counters);
     }
 
-    /// The oldest first.
+    /// The rates, the oldest first.
     pub fn rates(&self) -> Vec<Rates> {
         let all = locked(&self.0);
         let pairs = all.iter().zip(all.iter().skip(1));

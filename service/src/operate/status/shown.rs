@@ -1,41 +1,41 @@
-//! A status in words: what `totxegun status` prints, and what the operator's page shows.
+//! The status in words: what `totxegun status` prints and the overview page shows.
 
 use super::{held, quarantined, ClusterStatus, DatabaseStatus, First, Limit};
 use super::{InstanceStatus, LimitsStatus, SlotStatus, Status, Stock};
 use crate::command::values::{bytes_shown, counted, grouped, seconds_shown, sender_shown, senders_shown};
 use crate::otlp::Reason;
 
-/// All that is said, in its order.
+/// The whole text, in its order.
 #[derive(Debug, Default)]
 pub struct Shown {
-    /// How the service is, by the name and version of the program.
+    /// The program's name and version, and the state of the service.
     pub how: [String; 2],
-    /// What senders get where nothing is taken, and why.
+    /// What senders get if nothing is taken, and why.
     pub alarm: Option<[String; 2]>,
-    /// Where it listens, and what it has.
+    /// The addresses and the sink.
     pub places: Vec<[String; 2]>,
     pub tiles: Vec<Tile>,
-    /// Those that have something to say.
+    /// The sections that have something to say.
     pub sections: Vec<Section>,
 }
 
-/// A number that is looked at first.
+/// One of the main numbers.
 #[derive(Debug)]
 pub struct Tile {
     pub what: &'static str,
     pub value: String,
-    /// Its colour on the page.
+    /// Its class on the page, which is its colour.
     pub class: &'static str,
 }
 
-/// A title, what is to be known, and a table, either of which may be empty. Columns whose heads end in `#` have numbers.
+/// A title with notes and a table; either may be empty. Columns whose heads end in `#` have numbers.
 #[derive(Debug)]
 pub struct Section {
     pub title: &'static str,
     pub notes: Vec<String>,
     pub heads: &'static [&'static str],
     pub rows: Vec<Vec<String>>,
-    /// How many rows there are besides.
+    /// How many more rows there are.
     pub more: usize,
 }
 
@@ -97,7 +97,7 @@ fn how(status: &Status) -> [String; 2] {
     [format!("totxegun {}", status.version), format!("{how}, up {up}, process {}", status.pid)]
 }
 
-/// Why posts are answered 503.
+/// Why posts get 503.
 fn alarm(status: &Status) -> Option<[String; 2]> {
     let why = status.unavailable.as_deref()?;
     let why = match why {
@@ -132,7 +132,7 @@ fn tiles(status: &Status) -> Vec<Tile> {
     ]
 }
 
-/// For a flush, or for the sink.
+/// What waits for a flush or for the sink.
 fn waits(status: &Status) -> Section {
     let slots = &status.slots;
     let row = |what: &str, count: u64, stock: Stock| {
@@ -156,7 +156,8 @@ fn waits(status: &Status) -> Section {
     Section::new("What waits", &["what", "how many#", "on disk#", "oldest#"], rows).noting(notes)
 }
 
-/// Why the sink does not take what waits; of several slots that of the first, and how many others have some trouble.
+/// Why the sink does not take what waits. If several shards have trouble, that of the first, and how many others have
+/// some.
 fn of_deliveries(status: &Status) -> Option<String> {
     let mut troubled = status.slots.iter().filter_map(|slot| Some((slot.slot, of_delivery(slot)?)));
     let (slot, trouble) = troubled.next()?;
@@ -219,7 +220,7 @@ fn slots(status: &Status) -> Section {
     let row = |slot: &SlotStatus| {
         let oldest = slot.journal.age_seconds.max(slot.outbox.age_seconds);
         let unknown = slot.unknown.as_ref().map(|why| format!("nothing is known of it: {why}"));
-        // Why all posts get 503 is said once.
+        // If all posts get 503, the alarm has said why already.
         let refuses = slot.unavailable.as_ref().filter(|_| status.unavailable.is_none());
         let wrong = unknown.or(refuses.map(|why| format!("posts get 503: {why}"))).or(of_delivery(slot));
         let count = |count: u64| slot.unknown.as_ref().map_or_else(|| grouped(count), |_| "?".into());

@@ -1,5 +1,7 @@
-//! The labels of a series, and of the resource that it is of. A series keeps its labels, whatever other series there are: to
-//! Prometheus one with a further label is another series.
+//! The labels of a series and of its resource.
+//!
+//! A series keeps its labels, whichever other series there are: to Prometheus, a series with one more label is another
+//! series.
 
 use super::names;
 use crate::sinks::sql::totals::{text, SeriesTotal};
@@ -10,14 +12,14 @@ use std::fmt::Write;
 
 pub type Labels = BTreeMap<String, String>;
 
-/// What the page itself says of a series. An attribute of such a name is shown as `exported_NAME`.
+/// Labels that the page sets itself. An attribute of such a name becomes `exported_NAME`.
 const OURS: [&str; 7] = ["job", "instance", "le", "otel_scope_name", "otel_scope_version", METRIC, SERIES];
 
-/// Which metric it is: names of several may come to one.
+/// The metric's name as it was sent: several names may become the same one.
 const METRIC: &str = "otel_metric_name";
-/// Which series it is: attributes of several may come to the same labels.
+/// The `identity` of the series: attributes of several series may become the same labels.
 const SERIES: &str = "otel_series";
-/// Of the digest, in bytes: nobody finds two series of one such.
+/// How many bytes of the digest are used. They are enough that nobody finds two series with the same ones.
 const IDENTITY: usize = 16;
 
 const NAMESPACE: &str = "service.namespace";
@@ -33,11 +35,11 @@ pub fn of_series(series: &SeriesTotal) -> Labels {
     identify(&mut labels, &series.resource);
     labels.insert(METRIC.into(), series.name.clone());
     labels.insert(SERIES.into(), identity(series));
-    labels.retain(|_, value| !value.is_empty()); // to Prometheus, one without a value is not there
+    labels.retain(|_, value| !value.is_empty()); // to Prometheus, an empty label is a missing one
     labels
 }
 
-/// A digest of all that makes it a series of its own, in hexadecimal.
+/// A digest of all that distinguishes the series, in hexadecimal.
 pub fn identity(series: &SeriesTotal) -> String {
     let all = json!([
         series.name,
@@ -54,7 +56,7 @@ pub fn identity(series: &SeriesTotal) -> String {
     digest[..IDENTITY].iter().map(|byte| format!("{byte:02x}")).collect()
 }
 
-/// Of `target_info`. None where a resource is nothing but a job and an instance.
+/// The labels of `target_info`. None if the resource has only a job and an instance.
 pub fn of_resource(resource: &Map<String, Value>) -> Option<Labels> {
     let mut labels = Labels::new();
     add(&mut labels, "", resource, &[NAMESPACE, NAME, INSTANCE]);
@@ -66,7 +68,7 @@ pub fn of_resource(resource: &Map<String, Value>) -> Option<Labels> {
     Some(labels)
 }
 
-/// Adds attributes. Where several come to one name, their values are joined in the order of their keys.
+/// Adds attributes. If several keys become the same label, their values are joined in the order of the keys.
 fn add(labels: &mut Labels, prefix: &str, attributes: &Map<String, Value>, but: &[&str]) {
     let mut pairs: Vec<(&String, &Value)> = attributes.iter().collect();
     pairs.sort_by_key(|(key, _)| *key);
@@ -98,14 +100,14 @@ fn identify(labels: &mut Labels, resource: &Map<String, Value>) {
     }
 }
 
-/// `{a="b",c="d"}`, or nothing. To Prometheus a zero byte is the end of the page, so it is replaced.
+/// `{a="b",c="d"}`, or nothing. A zero byte is replaced, since Prometheus ends the page there.
 pub fn written(labels: &Labels, bound: Option<&str>) -> String {
     let mut written = String::new();
     let bound = bound.map(|bound| ("le", bound));
     let all = labels.iter().map(|(name, value)| (name.as_str(), value.as_str())).chain(bound);
     for (name, value) in all {
         written.push(if written.is_empty() { '{' } else { ',' });
-        let _ = write!(written, "{name}=\""); // a text takes all
+        let _ = write!(written, "{name}=\""); // writing to a string does not fail
         for sign in value.chars() {
             match sign {
                 '\\' => written.push_str("\\\\"),

@@ -1,5 +1,7 @@
-//! What a SQLite file or a PostgreSQL database has, as a page that Prometheus scrapes: counters since it was made,
-//! exact, and the same after a restart, since the sink is what is read.
+//! `GET /totals`: the totals of a SQLite file or a PostgreSQL database, as a page for Prometheus. The counters are
+//! exact, and unchanged by a restart, since they are read from the sink.
+//!
+//! At most one reader uses the sink at a time, and at most one page is being sent.
 
 mod labels;
 mod names;
@@ -26,21 +28,21 @@ use std::time::Duration;
 use tokio::sync::Semaphore;
 use tokio::time::timeout;
 
-/// How long the page of another reader is waited for.
+/// How long to wait while another reader has the page.
 const PATIENCE: Duration = Duration::from_secs(10);
 
-/// The sink that is read.
+/// Reads the sink.
 pub struct Totals {
     source: Address,
     times: Times,
     /// One reads the sink at a time.
     turn: Arc<Semaphore>,
-    /// One page is on its way at a time.
+    /// One page is sent at a time.
     page: Arc<Semaphore>,
 }
 
 impl Totals {
-    /// None where the sink can't be read.
+    /// None if the sink can't be read.
     pub fn of(sink: &Address, times: Times) -> Option<Totals> {
         if let Address::Otlp { .. } = sink {
             return None;
@@ -50,17 +52,17 @@ impl Totals {
         Some(Totals { source, times, turn, page })
     }
 
-    /// What came of a series in each hour from this one on (since 1970); none where the sink has no hours yet.
+    /// What a series counted in each hour, from hour `from` since 1970 on. None if the sink has no hours yet.
     pub(super) async fn hours(&self, series: Digest, from: u64) -> Result<Option<Vec<Hour>>, String> {
         self.asked(move |sink| reading::hours(sink, &series, from).map_err(said)).await
     }
 
-    /// The keys of late data that the sink has booked.
+    /// The keys of late points that the sink has booked.
     pub(super) async fn booked(&self) -> Result<HashSet<String>, String> {
         self.asked(|sink| reading::booked(sink).map_err(said)).await
     }
 
-    /// What is made of all totals.
+    /// Has `make` turn all totals into something.
     pub(super) async fn read<T: Send + 'static>(
         &self,
         make: impl FnOnce(Vec<SeriesTotal>) -> Result<T, String> + Send + 'static,
@@ -68,7 +70,7 @@ impl Totals {
         self.asked(move |sink| make(reading::totals(sink).map_err(said)?)).await
     }
 
-    /// The turn is given back by who reads, also where who asked has gone.
+    /// The thread that reads gives the turn back, so the turn is kept even after the caller is dropped.
     async fn asked<T: Send + 'static>(
         &self,
         read: impl FnOnce(&Address) -> Result<T, String> + Send + 'static,

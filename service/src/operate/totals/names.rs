@@ -1,4 +1,4 @@
-//! Names by OpenTelemetry's rules for Prometheus: `http.server.duration` in `s` is `http_server_duration_seconds`.
+//! Names by OpenTelemetry's rules for Prometheus: `http.server.duration` in `s` becomes `http_server_duration_seconds`.
 
 use crate::sinks::sql::totals::Kind;
 
@@ -32,7 +32,7 @@ const UNITS: [(&str, &str); 27] = [
     ("1", ""),
 ];
 
-/// Behind a `/`.
+/// Units after a `/`.
 const PER: [(&str, &str); 7] = [
     ("s", "second"),
     ("m", "minute"),
@@ -43,7 +43,7 @@ const PER: [(&str, &str); 7] = [
     ("y", "year"),
 ];
 
-/// A metric's name with its unit, and what it is: `_total` of a counter, `_ratio` of a gauge without a unit.
+/// The metric's name with its unit, and with `_total` for a counter or `_ratio` for a gauge of unit `1`.
 pub fn metric(name: &str, unit: &str, kind: Kind) -> String {
     let mut words = words(name);
     let plain = without_braces(unit);
@@ -67,7 +67,7 @@ pub fn metric(name: &str, unit: &str, kind: Kind) -> String {
     begun(words.join("_"), "_")
 }
 
-/// A name may not be empty, nor begin with a digit.
+/// Makes a name valid: it may not be empty or begin with a digit.
 fn begun(name: String, before_digit: &str) -> String {
     match name.bytes().next() {
         None => "_".into(),
@@ -76,7 +76,8 @@ fn begun(name: String, before_digit: &str) -> String {
     }
 }
 
-/// An attribute's key as the name of a label. Two underscores at the beginning are Prometheus' own.
+/// The label for an attribute's key. Repeated underscores become one, since names with two at the beginning are
+/// reserved.
 pub fn label(key: &str) -> String {
     let mut name = String::new();
     for sign in key.chars() {
@@ -95,7 +96,7 @@ fn words(text: &str) -> Vec<String> {
         .collect()
 }
 
-/// What stands in braces says what is counted, and is no unit.
+/// Leaves out annotations in braces: they say what is counted, and are no unit.
 fn without_braces(unit: &str) -> String {
     let mut plain = String::new();
     let mut depth = 0;
@@ -118,7 +119,7 @@ fn mapped(unit: &str, known: &[(&str, &str)]) -> String {
     }
 }
 
-/// Whether a unit is a part of the name already.
+/// Whether the name has the unit already.
 fn has(words: &[String], unit: &str) -> bool {
     format!("_{}_", words.join("_")).contains(&format!("_{unit}_"))
 }

@@ -1,4 +1,4 @@
-//! The page: families, each under a name of its own, and their samples.
+//! Writes the page: families of series, each under its own name, with their samples.
 
 use super::labels::{self, Labels};
 use super::names;
@@ -9,7 +9,7 @@ use std::io::{self, Write};
 
 const TARGET: &str = "target_info";
 
-/// All series of one kind whose names come to the same.
+/// All series of one kind whose names become the same.
 type Families<'a> = BTreeMap<(Kind, String), Vec<&'a SeriesTotal>>;
 
 fn text(kind: Kind) -> &'static str {
@@ -20,7 +20,7 @@ fn text(kind: Kind) -> &'static str {
     }
 }
 
-/// What a family of this name has as names of families or samples.
+/// All names that a family uses, for itself and for its samples.
 fn all_names(name: &str, kind: Kind) -> Vec<String> {
     let mut names = vec![name.to_string()];
     if kind == Kind::Histogram {
@@ -29,17 +29,17 @@ fn all_names(name: &str, kind: Kind) -> Vec<String> {
     names
 }
 
-/// What time each sample has.
+/// Which time stands at each sample.
 #[derive(Clone, Copy, Debug, PartialEq, Eq)]
 pub enum Times {
-    /// That of the scrape.
+    /// None, so Prometheus uses that of the scrape.
     None,
-    /// When the last interval of its series ended.
+    /// The end of the series' last interval.
     OfIntervals,
 }
 
 impl Times {
-    /// Behind a value, in milliseconds since 1970.
+    /// The text after a value: a time in milliseconds since 1970.
     fn of(self, series: &SeriesTotal) -> String {
         match self {
             Times::None => String::new(),
@@ -48,7 +48,7 @@ impl Times {
     }
 }
 
-/// Writes a sink's totals in Prometheus' text form, series by series: no more than a line of it is held.
+/// Writes totals in Prometheus' text format, one line at a time.
 pub fn write(totals: &[SeriesTotal], times: Times, to: &mut impl Write) -> io::Result<()> {
     let mut families = Families::new();
     for series in totals {
@@ -63,7 +63,7 @@ pub fn write(totals: &[SeriesTotal], times: Times, to: &mut impl Write) -> io::R
     targets(to, totals)
 }
 
-/// The name, or one that also says the kind, where another family has it.
+/// The name, or one with the kind if another family has the name.
 fn free(name: &str, kind: Kind, used: &mut HashSet<String>) -> String {
     let mut name = name.to_string();
     while all_names(&name, kind).iter().any(|name| used.contains(name)) {
@@ -106,7 +106,7 @@ fn head(to: &mut impl Write, name: &str, kind: Kind, sources: &BTreeSet<(&str, &
     writeln!(to, "# HELP {name} OpenTelemetry: {help}\n# TYPE {name} {kind}")
 }
 
-/// A bucket of the page has all that is not over its bound.
+/// Prometheus' buckets are cumulative: each has all values up to its bound.
 fn buckets(
     to: &mut impl Write,
     name: &str,
@@ -122,7 +122,7 @@ fn buckets(
     }
     line(to, &bucket, &labels::written(labels, Some("+Inf")), histogram.count, time)?;
     let labels = labels::written(labels, None);
-    // The sum of a part of the points would give a mean that is none.
+    // If some points have no sum, the sum of the others would give a wrong mean.
     if histogram.points_without_sum == 0 {
         line(to, &format!("{name}_sum"), &labels, series.total, time)?;
     }

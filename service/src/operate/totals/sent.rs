@@ -1,5 +1,5 @@
-//! A page on its way to its reader. What it is made of is held until the reader has it: so there is one at a time, it has so
-//! long, and no more of its text is there than a few parts.
+//! Sends a page to its reader. The totals are in memory until the reader has the page. Therefore one page is sent at a
+//! time, its time is limited, and only a few parts of its text exist at once.
 
 use super::page::{self, Times};
 use crate::sinks::sql::totals::SeriesTotal;
@@ -11,29 +11,29 @@ use std::time::Duration;
 use tokio::sync::{mpsc, OwnedSemaphorePermit};
 use tokio::time::timeout;
 
-/// A page that is not read within is cut off.
+/// How long a reader may take. After that the page is cut off.
 const READ: Duration = match cfg!(test) {
     false => Duration::from_secs(30),
     true => Duration::from_secs(3),
 };
-/// How much is sent at once.
+/// The size of a part, in bytes.
 const PART: usize = 64 << 10;
 
-/// A page of these series, which is made while it is read. The turn ends with it.
+/// A page of these series, written while it is read. `turn` is released with it.
 pub fn sent(series: Vec<SeriesTotal>, times: Times, turn: OwnedSemaphorePermit) -> Body {
     let (parts, made) = mpsc::channel(1);
     let (sender, body) = Body::channel();
     tokio::spawn(send(made, sender));
     tokio::task::spawn_blocking(move || {
         let mut to = BufWriter::with_capacity(PART, Parts(parts));
-        // What fails is that nobody reads any further.
+        // An error means that nobody reads on.
         let _ = page::write(&series, times, &mut to).and_then(|()| to.flush());
         drop((series, turn));
     });
     body
 }
 
-/// The end of what was not read whole is an abrupt one.
+/// Sends the parts. If the page is not read to its end, the response is aborted, so that the reader notices.
 async fn send(mut made: mpsc::Receiver<Bytes>, mut sender: Sender) {
     let sending = async {
         while let Some(part) = made.recv().await {
@@ -69,7 +69,7 @@ mod tests {
     use std::sync::Arc;
     use tokio::sync::Semaphore;
 
-    /// A page of many parts, and the turn of whoever has it.
+    /// A page of many parts, and the semaphore of its turn.
     async fn long() -> (Body, Arc<Semaphore>) {
         let turns = Arc::new(Semaphore::new(1));
         let made = |number: u32| {

@@ -1,4 +1,4 @@
-//! Names, labels and pages; `promtool` looks at one where it is there.
+//! Tests of names, labels and pages. If `promtool` is there, it checks a page.
 
 use super::labels::identity;
 use super::names::{label, metric};
@@ -51,12 +51,12 @@ fn page(totals: &[SeriesTotal]) -> String {
     String::from_utf8(page).unwrap()
 }
 
-/// All lines but the heads.
+/// All lines except the heads.
 fn lines(totals: &[SeriesTotal]) -> Vec<String> {
     page(totals).lines().filter(|line| !line.starts_with('#')).map(String::from).collect()
 }
 
-/// The same without the labels that say which series it is.
+/// The same without the labels that identify the series.
 fn samples(totals: &[SeriesTotal]) -> Vec<String> {
     let both = |line: String| without(without(line, "otel_metric_name"), "otel_series");
     lines(totals).into_iter().map(both).collect()
@@ -215,7 +215,7 @@ fn series_of_the_same_labels_are_told_apart_and_keep_their_names() {
     assert_eq!(again, found);
 }
 
-/// Else a series that others come beside is another one to Prometheus, and its history ends.
+/// Otherwise a series would become another one to Prometheus when others join it, and its history would end.
 #[test]
 fn a_series_has_the_same_labels_whatever_else_is_there() {
     let one = || series("a.b", "", Kind::Monotonic, 1, json!({"code": "5"}));
@@ -231,8 +231,8 @@ fn a_series_has_the_same_labels_whatever_else_is_there() {
     assert!(lines(&others).contains(&alone[0]));
 }
 
-/// Both have one CRC32, forwards and backwards. A sender that could make two series of one identity would have Prometheus refuse
-/// the whole page.
+/// Both resources have the same CRC32, forwards and backwards. If a sender could make two series with one identity,
+/// Prometheus would refuse the whole page.
 #[test]
 fn an_identity_is_a_digest_that_nobody_can_make_meet() {
     let of_resource = |n: &str| {
@@ -246,7 +246,7 @@ fn an_identity_is_a_digest_that_nobody_can_make_meet() {
     .map(of_resource);
     let found = lines(&twins);
     assert_ne!(found[0], found[1]);
-    // As Python's hashlib has it, of `["a","","monotonic",{"code":5},{},"","",{},null]` and so on.
+    // Computed by Python's hashlib over `["a","","monotonic",{"code":5},{},"","",{},null]` and so on.
     for (code, digest) in [
         (json!(5), "0ffa9b65a1bc6f4228d7ec3634e2857b"),
         (json!("5"), "19b69028324f694664dba5f922b87894"),
@@ -287,7 +287,7 @@ fn promtool_finds_nothing() {
     assert!(output.status.success() && said.is_empty(), "{said}\n{page}");
 }
 
-/// Of a histogram all lines have the time. What is no series' has none.
+/// All lines of a histogram have the time. A line that is of no series has none.
 #[test]
 fn a_sample_has_the_time_of_its_series_last_interval() {
     let mut one = series("a", "", Kind::Monotonic, 7, json!({}));
@@ -309,7 +309,7 @@ fn a_sample_has_the_time_of_its_series_last_interval() {
     assert_eq!(ends("target_info{"), ["1"]);
 }
 
-/// Else who asks and goes, while the server is silent, takes one thread after the other from all that is long.
+/// Otherwise readers who ask and leave while the server is silent would take one blocking thread after another.
 #[tokio::test]
 async fn one_reads_the_sink_at_a_time_also_once_who_asked_has_gone() {
     let listener = TcpListener::bind("127.0.0.1:0").await.unwrap();

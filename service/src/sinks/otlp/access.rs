@@ -1,4 +1,4 @@
-//! By what a receiver is told, and told who comes: its own root, a certificate for it, headers in a file.
+//! The files that an operator names for an OTLP receiver: its roots, a certificate for this client, and headers.
 
 use super::{connect, header_of, BadOtlp};
 use crate::sinks::roots::{self, ClientFiles};
@@ -10,12 +10,12 @@ use std::path::{Path, PathBuf};
 #[derive(Clone, Debug, Default, PartialEq, Eq)]
 pub struct Access {
     pub tls: ClientFiles,
-    /// A header a line, `NAME: VALUE`, read for each request: so a token can be renewed.
+    /// One header on a line, `NAME: VALUE`. The file is read for each request, so that a token can be renewed.
     pub headers: Option<PathBuf>,
 }
 
 impl Access {
-    /// The client of a receiver at this URL; an error where a file can't be used now.
+    /// The client for a receiver at this URL, or an error if a file can't be used now.
     pub(crate) fn client(&self, url: &Uri) -> Result<connect::Client, BadOtlp> {
         self.read_headers()?;
         match url.scheme_str() {
@@ -25,7 +25,7 @@ impl Access {
         }
     }
 
-    /// As the file has them now.
+    /// The headers that the file has now.
     pub(crate) fn read_headers(&self) -> Result<HeaderMap, BadOtlp> {
         match &self.headers {
             Some(file) => headers_in(file),

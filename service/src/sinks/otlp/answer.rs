@@ -1,16 +1,15 @@
-//! What a sink's answer means.
+//! What a sink's answer means for the request.
 //!
 //! | answer | the request |
 //! |---|---|
-//! | 2xx | is taken; where a partial success names rejected points, taken in part |
-//! | 408, 425, 429, 502, 503, 504 | is sent again, by `Retry-After` where it is there |
+//! | 2xx | is taken, or taken in part if a partial success names rejected points |
+//! | 408, 425, 429, 502, 503, 504 | is sent again, after `Retry-After` if the answer has it |
 //! | 3xx, 401, 403, 404, 405, any other 5xx | is sent again so for a while, and then refused for good |
 //! | any other | is refused for good |
 //!
-//! OTLP names 429, 502, 503 and 504 as those to repeat. 408 and 425 say the same of themselves: nothing was taken. The
-//! other 5xx are of a sink that failed, which may pass (`delivery`); 401 and 403 are of a token that has expired, as a
-//! rule, and 3xx, 404 and 405 of a proxy whose receiver is being deployed: each request would be refused until somebody sees
-//! it.
+//! OTLP names 429, 502, 503 and 504 as those to repeat. 408 and 425 too say that nothing was taken. With any other 5xx
+//! the sink failed, which may pass (`delivery`). 401 and 403 usually come from an expired token, and 3xx, 404 and 405
+//! from a proxy whose receiver is being deployed: each request would be refused until somebody sees it.
 
 use super::without_query;
 use crate::log;
@@ -23,7 +22,7 @@ use prost::Message;
 use std::time::{Duration, SystemTime};
 use tokio::time::{timeout_at, Instant};
 
-/// The most bytes of an answer that are read. What is longer is cut off with its connection.
+/// The most bytes of an answer that are read. After more, the connection is closed.
 const LONGEST_ANSWER: usize = 64 << 10;
 /// The most characters of a sink's message that are shown.
 const LONGEST_MESSAGE: usize = 300;
@@ -38,11 +37,12 @@ struct Status {
     message: String,
 }
 
-/// Reads an answer until the deadline.
+/// Reads an answer until the deadline, and says what it means.
 pub(super) async fn fate(response: Response<Body>, sent: Encoding, deadline: Instant) -> Fate {
     let (head, body) = response.into_parts();
     let body = timeout_at(deadline, read(body)).await.ok().flatten();
-    // No message of protobuf that is an answer begins so; behind a blank it may.
+    // No protobuf answer begins with a brace. White space before a brace is not skipped: a protobuf answer may begin
+    // so.
     let is_object = body.as_ref().is_some_and(|bytes| bytes.starts_with(b"{"));
     let encoding = match encoding_of(&head.headers) {
         None if is_object => Encoding::Json,
@@ -80,7 +80,7 @@ fn encoding_of(headers: &HeaderMap) -> Option<Encoding> {
     }
 }
 
-/// The body of an answer; none where it is cut, or too long.
+/// The body of an answer. None if it is cut off or too long.
 async fn read(mut body: Body) -> Option<Vec<u8>> {
     let mut bytes = Vec::new();
     while let Some(part) = body.data().await {
@@ -93,7 +93,7 @@ async fn read(mut body: Body) -> Option<Vec<u8>> {
     Some(bytes)
 }
 
-/// The status alone says that the request is taken: sent again because of what is wrong behind it, a sink that does
+/// The status alone says that the request is taken. If it were sent again because its body is wrong, a sink that does
 /// not know keys would count it twice.
 fn taken(body: Option<Vec<u8>>, encoding: Encoding) -> Fate {
     let Some(bytes) = body else {
@@ -123,7 +123,7 @@ fn taken(body: Option<Vec<u8>>, encoding: Encoding) -> Fate {
     }
 }
 
-/// What the sink says is wrong.
+/// The sink's own message.
 fn message(body: Option<Vec<u8>>, encoding: Encoding) -> String {
     let Some(bytes) = body else {
         return String::new();

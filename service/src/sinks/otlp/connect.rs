@@ -1,4 +1,4 @@
-//! The HTTP client: kept connections.
+//! The HTTP client, which keeps connections.
 
 use hyper::client::HttpConnector;
 use hyper::Body;
@@ -9,7 +9,8 @@ use std::time::Duration;
 pub(crate) type Client = hyper::Client<HttpsConnector<HttpConnector>, Body>;
 
 const CONNECT: Duration = Duration::from_secs(10);
-/// Shorter than what servers and proxies commonly allow, so that a connection is rarely closed under a request.
+/// Shorter than servers and proxies commonly keep idle connections, so that a connection is rarely closed under a
+/// request.
 const IDLE: Duration = Duration::from_secs(20);
 
 pub(super) fn client_of(tls: ClientConfig) -> Client {

@@ -1,4 +1,6 @@
-//! A sink that speaks OTLP/HTTP: one POST a request, over a connection that is kept.
+//! A sink that speaks OTLP/HTTP: one POST for each request, over kept connections.
+//!
+//! A repeat has the same bytes and the same key, so that a receiver can recognise it.
 
 mod access;
 mod answer;
@@ -25,11 +27,11 @@ use std::path::PathBuf;
 use std::time::Duration;
 use tokio::time::{timeout_at, Instant};
 
-/// How long a sink may take for an answer, from the connection on.
+/// How long a sink may take to answer, with the time for connecting.
 const PATIENCE: Duration = Duration::from_secs(30);
-/// What the sink tells repeated requests by.
+/// The header by which the sink recognises repeats.
 const KEY: &str = "idempotency-key";
-/// Headers that say what is sent, and how it is answered: they are not an operator's. No packed answer is read.
+/// Headers that an operator can't set, since they say what is sent and how it is answered. A packed answer is not read.
 const OWN: [&str; 8] = [
     KEY,
     "accept-encoding",
@@ -45,7 +47,7 @@ const OWN: [&str; 8] = [
 pub enum BadOtlp {
     #[error("the sink's address is not a URL: {0}")]
     Url(String),
-    /// It is not shown: where the name was forgotten, it is a part of the value.
+    /// The text is not shown: if the name was forgotten, it is a part of the value.
     #[error("the text before the colon is not a header's name")]
     HeaderName,
     #[error("the value of header `{0}` has bytes that a header can't have")]
@@ -90,7 +92,7 @@ impl OtlpSink {
 
     async fn send(&self, request: &Forwarded) -> Fate {
         if Rewind::of(&request.body).is_some() {
-            return Fate::Taken; // a receiver knows no ends of series
+            return Fate::Taken; // a receiver keeps no ends of series
         }
         let access = self.access.clone();
         let more = match blocking(move || access.read_headers()).await {
@@ -110,7 +112,7 @@ impl OtlpSink {
         }
     }
 
-    /// The same bytes for the same request, each time.
+    /// Builds the POST. A request always gives the same bytes.
     async fn post(&self, request: &Forwarded, more: HeaderMap) -> Result<Request<Body>, String> {
         let body = self.encode(&request.body).await?;
         let content = match self.encoding {
@@ -139,7 +141,7 @@ impl OtlpSink {
         if encoding == Encoding::Json && !gzip {
             return Ok(body.into());
         }
-        // Milliseconds of work, too much for the runtime.
+        // Milliseconds of work, which would hold up the runtime.
         blocking(move || {
             let plain = match encoding {
                 Encoding::Json => body,
@@ -169,13 +171,13 @@ impl Sink for OtlpSink {
 }
 
 fn packed(body: &[u8]) -> std::io::Result<Vec<u8>> {
-    // No time stands in it: the same bytes each time.
+    // The gzip header has no time, so the bytes are the same each time.
     let mut encoder = flate2::write::GzEncoder::new(Vec::new(), flate2::Compression::fast());
     encoder.write_all(body)?;
     encoder.finish()
 }
 
-/// A header that an operator may give.
+/// A header that an operator gives, if it may be given.
 pub fn header_of(name: &str, value: &str) -> Result<(HeaderName, HeaderValue), BadOtlp> {
     if OWN.iter().any(|own| own.eq_ignore_ascii_case(name)) {
         return Err(BadOtlp::OwnHeader(name.into()));
@@ -186,7 +188,7 @@ pub fn header_of(name: &str, value: &str) -> Result<(HeaderName, HeaderValue), B
     Ok((key, value))
 }
 
-/// A URL as it is shown: a key may stand behind the question mark.
+/// The URL as it is shown, without its query, which may have a key.
 fn without_query(url: &str) -> String {
     match url.split_once('?') {
         Some((place, _)) => format!("{place}?.."),

@@ -1,10 +1,10 @@
-//! A small HTTP server that answers by a script, for the tests.
+//! A small HTTP server for tests, which answers by a script.
 
 use std::sync::{Arc, Mutex};
 use tokio::io::{AsyncReadExt, AsyncWriteExt};
 use tokio::net::{TcpListener, TcpStream};
 
-/// What it does with a request that it has read.
+/// What the server does after it has read a request.
 #[derive(Clone)]
 pub enum Act {
     /// Writes this, and keeps the connection.
@@ -15,12 +15,12 @@ pub enum Act {
     Late,
 }
 
-/// A request as it came.
+/// A request that the server has read.
 #[derive(Clone, Debug)]
 pub struct Came {
     pub head: String,
     pub body: Vec<u8>,
-    /// Which connection it came on, from 0.
+    /// The number of its connection, from 0.
     pub connection: usize,
 }
 
@@ -50,7 +50,7 @@ pub fn answer(status: &str, headers: &str, body: &str) -> String {
 }
 
 impl Server {
-    /// Does one act a request, the last one again and again.
+    /// Starts a server that does one act for each request, and then the last one again and again.
     pub async fn start(acts: Vec<Act>) -> Server {
         let listener = TcpListener::bind("127.0.0.1:0").await.expect("a port is free");
         let url = format!("http://{}/v1/metrics", listener.local_addr().expect("it is bound"));

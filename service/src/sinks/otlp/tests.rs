@@ -1,4 +1,4 @@
-//! Each answer of a server, by a script.
+//! Tests each answer of a server, which answers by a script.
 
 use super::script::{answer, Act, Server};
 use super::*;
@@ -54,7 +54,7 @@ async fn rejected_points_are_told() {
     }
 }
 
-/// The answer's own kind decides, not that of the request.
+/// The answer's own content type decides, not that of the request.
 #[tokio::test]
 async fn rejected_points_are_told_in_protobuf() {
     let body = b"\x0a\x0b\x08\x03\x12\x07too old";
@@ -64,7 +64,7 @@ async fn rejected_points_are_told_in_protobuf() {
     assert_eq!(fate_of("200 OK", headers, body).await, rejected);
 }
 
-/// Some servers say of JSON that it is text.
+/// Some servers declare JSON as text.
 #[tokio::test]
 async fn an_object_of_no_known_kind_is_json() {
     let json = "{\"partialSuccess\":{\"rejectedDataPoints\":\"3\",\"errorMessage\":\"too old\"}}\n";
@@ -101,7 +101,7 @@ async fn a_sink_that_fails_says_not_whether_it_passes() {
     }
 }
 
-/// As a rule a token has expired: the next one lets it in again.
+/// Usually a token has expired, and the next one is accepted.
 #[tokio::test]
 async fn who_is_not_let_in_is_not_refused_for_good() {
     for status in ["401 Unauthorized", "403 Forbidden"] {
@@ -142,7 +142,7 @@ async fn what_will_not_change_is_refused() {
     }
 }
 
-/// As while the receiver behind an ingress is deployed.
+/// As while the receiver behind an ingress is being deployed.
 #[tokio::test]
 async fn a_proxy_without_its_receiver_says_not_whether_it_passes() {
     for status in ["404 Not Found", "405 Method Not Allowed"] {
@@ -192,7 +192,7 @@ async fn nobody_there_is_tried_again() {
     }
 }
 
-/// The status came, so it is taken: what is behind it is not worth a second delivery.
+/// The status has arrived, so the request is taken. A fault in the body is not worth a second delivery.
 #[tokio::test]
 async fn a_cut_or_late_body_does_not_change_the_status() {
     let cut = "HTTP/1.1 200 OK\r\ncontent-length: 100\r\n\r\n{\"par";
@@ -267,7 +267,7 @@ async fn a_request_that_is_sent_again_has_the_same_bytes_and_key() {
     }
 }
 
-/// A key may be written there.
+/// The query may have a key.
 #[test]
 fn what_an_address_asks_for_is_not_shown() {
     let name = |url: &str| OtlpSink::open(url, false, false, &[], Access::default()).expect("a sink").name();

@@ -1,4 +1,4 @@
-//! A sink behind TLS, with a root that the client knows or does not. The certificates are `openssl`'s.
+//! Tests a sink behind TLS, whose root the client trusts or not. `openssl` makes the certificates.
 
 use super::*;
 use crate::sinks::ClientFiles;
@@ -18,7 +18,7 @@ fn bytes(folder: &Path, name: &str) -> Vec<u8> {
     std::fs::read(folder.join(name)).expect(name)
 }
 
-/// A root, and a server's certificate and key for `localhost`.
+/// Makes a root, and a certificate and key for a server named `localhost`.
 fn certificates(folder: &Path) {
     std::fs::write(folder.join("names"), "subjectAltName=DNS:localhost\n").expect("written");
     let key = "-newkey ec -pkeyopt ec_paramgen_curve:prime256v1 -nodes";
@@ -31,7 +31,7 @@ fn certificates(folder: &Path) {
     openssl(folder, "pkcs8 -topk8 -nocrypt -in key.pem -outform DER -out key.der");
 }
 
-/// Answers one request 200, by this version of TLS alone.
+/// Answers one request with 200, only by this version of TLS.
 fn serve(
     folder: &Path,
     version: &'static rustls::SupportedProtocolVersion,
@@ -108,7 +108,7 @@ async fn a_sink_behind_tls_takes_where_its_root_is_known() {
     assert_eq!(thread.join().expect("it ended"), "", "nothing was sent");
 }
 
-/// As a receiver within a company: a root that no machine has, and nobody without a certificate.
+/// As a receiver within a company: its root is on no machine, and clients need a certificate.
 #[tokio::test]
 async fn a_sink_is_told_by_its_own_root_and_is_shown_a_certificate() {
     let folder = tempfile::tempdir().expect("a folder");

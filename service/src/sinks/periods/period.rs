@@ -1,4 +1,4 @@
-//! How a month, a day and an hour are written.
+//! How a month, a day and an hour are written and read.
 
 use crate::log::{days, utc};
 use std::fmt;
@@ -9,7 +9,7 @@ use std::str::FromStr;
 #[derive(Clone, Debug, PartialEq, Eq)]
 pub struct Period {
     text: String,
-    /// From this hour since 1970 to before that one.
+    /// The first hour since 1970, and the one after the last.
     pub from: i64,
     pub to: i64,
 }
@@ -60,7 +60,7 @@ fn hours_of(text: &str) -> Option<(i64, i64)> {
     }
 }
 
-/// A time of UTC, `2026-11-05T13:30:15`, in seconds since 1970; what is left out at its end is zero.
+/// Reads a time of UTC, `2026-11-05T13:30:15`, in seconds since 1970. What is left out at its end is zero.
 pub fn seconds_of(text: &str) -> Option<u64> {
     let text = text.strip_suffix('Z').unwrap_or(text);
     let (date, time) = text.split_once(['T', ' ']).unwrap_or((text, "00"));

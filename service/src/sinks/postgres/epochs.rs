@@ -1,7 +1,8 @@
-//! From which epochs those of a slot's requests go on, and what is here beyond: so it is known whether the store has gone back.
+//! Notes which epoch each epoch of a shard's keys continues, and finds what the sink has beyond that point: if there is
+//! something, the store went back.
 //!
-//! What an epoch sends is of the life of the one before, unless that has requests beyond where the epoch goes on: then the store
-//! went back, and what it sends may overlap what is here.
+//! An epoch is of the same life as the one that it continues, unless that one has requests beyond this point. Then the
+//! new epoch's requests may overlap these, so it begins a life of its own.
 
 use super::session::Session;
 use super::store::{commit, NotTaken};
@@ -10,7 +11,7 @@ use crate::files::{Epochs, GoesOn};
 use crate::sinks::Beyond;
 use tokio_postgres::{Error, Transaction};
 
-/// Notes each of them once: the most that one of them did not know of.
+/// Notes each epoch once. Returns the largest part that one of them did not know of.
 pub(super) async fn goes_on(session: &mut Session, slot: u16, epochs: &Epochs) -> Result<Beyond, NotTaken> {
     let Session { client, statements, connection, .. } = session;
     let transaction = client.transaction().await?;
@@ -35,7 +36,7 @@ struct Noting<'a> {
 impl Noting<'_> {
     async fn note(&self, GoesOn { epoch, before, number }: GoesOn<'_>) -> Result<Beyond, Error> {
         let (transaction, slot) = (&self.transaction, &self.slot);
-        // Its row is locked from now on.
+        // From here on the row of the epoch before is locked.
         let life: i64 = transaction.query_one(&self.statements.first_life, &[slot, &before]).await?.get(0);
         let known = transaction.query_opt(&self.statements.life_of, &[slot, &epoch]).await?;
         let known: Option<i64> = known.map(|row| row.get(0));

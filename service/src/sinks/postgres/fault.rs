@@ -1,4 +1,4 @@
-//! What can be wrong with the server, and what to do about it.
+//! Faults of the server, and what to do about them.
 
 use super::schema::KNOWN;
 use super::Server;
@@ -14,11 +14,11 @@ pub(super) enum Fault {
     },
     Foreign,
     Encoding(String),
-    /// It says all by itself.
+    /// The text says all.
     Another(String),
-    /// What may mend itself.
+    /// The fault may pass.
     Server(String),
-    /// So may this: there is no connection.
+    /// The fault may pass: there is no connection.
     Away(String),
 }
 
@@ -27,12 +27,12 @@ impl Fault {
         Fault::Server(what.into())
     }
 
-    /// Whether it stays until somebody names another database or starts another version.
+    /// Whether the fault stays until somebody names another database or starts another version.
     pub(super) fn is_lasting(&self) -> bool {
         !matches!(self, Fault::Server(_) | Fault::Away(_))
     }
 
-    /// It says of which server it is.
+    /// The error, with the server's address.
     pub(super) fn at(self, server: &Server) -> anyhow::Error {
         match self {
             Fault::Version { found } => anyhow!("the schema totxegun of {server} was written by another version of totxegun (schema {found}; this one knows {KNOWN}): use that version, or another database"),
@@ -51,7 +51,7 @@ impl From<Error> for Fault {
 }
 
 impl From<NotConnected> for Fault {
-    /// Who is not let in is not asked every two seconds: a server may count that as an attack.
+    /// A server that denies access is not asked every two seconds: it may count that as an attack.
     fn from(error: NotConnected) -> Fault {
         match error.is_denied() {
             true => Fault::Server(error.to_string()),
@@ -73,8 +73,8 @@ impl From<Fault> for NotTaken<Fault> {
 }
 
 impl From<Error> for NotTaken<Fault> {
-    /// Content that no PostgreSQL takes (a data exception) is refused for good. A program's limit is met by content, but
-    /// also by each request where a server has no number left for a transaction. All else may mend itself.
+    /// Content that no PostgreSQL takes (a data exception) is refused for good. A program's limit may be exceeded by
+    /// the content, but also by every request, if the server has no transaction numbers left. All else may pass.
     fn from(error: Error) -> NotTaken<Fault> {
         let code = error.code().map_or("", |code| code.code());
         match code.get(..2) {

@@ -1,8 +1,9 @@
-//! A sink in the database that has the slots' rows: a request and what says that it was delivered are one transaction, and
-//! who had the slot before delivers nothing any more, known by its term, and by the epoch that it has drawn: a store that went back
-//! gives terms again.
+//! Fences earlier owners of a shard, if the sink is in the database that has the shards' rows. A request, and the note
+//! that it was delivered, are one transaction. An earlier owner can't deliver any more, by its term and its epoch;
+//! terms alone don't suffice, since a store that went back gives terms again.
 //!
-//! The row is one beside the slot's: that one is locked by each sync of the journal, which would wait for the delivery.
+//! The note is in a row of its own beside the shard's row: each sync of the journal locks that one, and would wait for
+//! the delivery.
 
 use super::fault::Fault;
 use super::store::{NotTaken, Writing};
@@ -11,7 +12,7 @@ use crate::postgres::identity;
 use crate::sinks::Forwarded;
 use tokio_postgres::{Client, Error, Statement};
 
-/// No row comes where another instance has the slot under a later term, or another epoch.
+/// Returns no row if another instance has the shard, under a later term or another epoch.
 const DELIVERED: &str = "insert into totxegun_store.delivered as d (slot, term, number)
     select slot, $2::int8, $3::int8 from totxegun_store.slot where slot = $1::int4 and epoch = $4::text
     on conflict (slot) do update set term = excluded.term, number = excluded.number
@@ -35,8 +36,8 @@ impl Fence {
 }
 
 impl Writing<'_> {
-    /// Notes that all up to a request is delivered. Where a part of it is left that is not noted, since the part has to be
-    /// kept first: then the request comes again, and its key says the same.
+    /// Notes that all requests up to this one are delivered. If a part of it is left, it is not noted itself, since the
+    /// part has to be kept first: the request then comes again, and its key gives the same answer.
     pub(super) async fn delivered(
         &self,
         request: &Forwarded,

@@ -1,7 +1,8 @@
-//! A sink that is a PostgreSQL database: a row a series, a row an interval, exact totals, each key once.
+//! A sink that is a PostgreSQL database: a row for each series, a row for each interval, exact totals, and each key
+//! once.
 //!
-//! It connects when it is needed and again after a fault, so whatever is wrong with the server is a reason to try
-//! again: no request is lost by it.
+//! It connects when it has to, and again after a fault. Whatever is wrong with the server is a reason to retry, so no
+//! request is lost by it.
 
 mod epochs;
 mod fault;
@@ -36,7 +37,7 @@ use store::NotTaken;
 use tokio::sync::Mutex;
 use upkeep::Upkeep;
 
-/// How long a connection may take, and then a delivery. The server gives a statement up before.
+/// How long a connection may take, and then a delivery. The server gives up a statement earlier.
 const PATIENCE: Duration = Duration::from_secs(30);
 /// How long a start waits for the server.
 const AT_START: Duration = Duration::from_secs(6);
@@ -44,9 +45,9 @@ const AT_START: Duration = Duration::from_secs(6);
 pub struct PostgresSink {
     server: Server,
     memory: Arc<dyn Memory>,
-    /// One delivery at a time. It is taken out while it is used: one that was left half-way is closed.
+    /// One delivery at a time. A delivery takes the session out, so one that is left half-way is closed.
     session: Mutex<Option<Session>>,
-    /// Whether this run has seen the schema: where it is gone then, somebody took it away.
+    /// Whether this run has seen the schema. If it is gone later, somebody took it away.
     was_there: Arc<AtomicBool>,
     patience: Duration,
     keys: Keys,
@@ -55,8 +56,8 @@ pub struct PostgresSink {
 }
 
 impl PostgresSink {
-    /// Makes the schema where there is none. A server that does not answer now is asked again at each delivery; a
-    /// schema that must not be written (of a later version, of another program, another than is remembered) is an error.
+    /// Makes the schema if there is none. A server that does not answer now is asked again at each delivery. A schema
+    /// that must not be written (of a later version, of another program, or another than is remembered) is an error.
     pub fn open(
         server: &Server,
         retention: Retention,
@@ -84,7 +85,7 @@ impl PostgresSink {
         })
     }
 
-    /// By the session that is there, or by a new one, which may have to make the schema first.
+    /// Takes requests by the open session, or by a new one, which may have to make the schema first.
     async fn take(
         &self,
         all: &[Forwarded],
@@ -92,10 +93,10 @@ impl PostgresSink {
         tenure: Option<&Tenure>,
     ) -> Result<LeftOut, NotTaken> {
         let bodies: Vec<Vec<u8>> = all.iter().map(|one| one.body.clone()).collect();
-        // Milliseconds of work, too much for the runtime.
+        // Milliseconds of work, which would hold up the runtime.
         let read = move || bodies.iter().map(|body| Content::read(body)).collect::<Result<_, _>>();
         let contents = blocking(read).await?;
-        // It is not the server that is late where other slots' requests go first.
+        // The time limit begins after this wait: the server is not late if requests of other shards go first.
         let mut place = self.session.lock().await;
         let mut session = self.session(&mut place).await?;
         session.owners = all.first().and_then(|first| self.owners.of(first));
@@ -104,7 +105,7 @@ impl PostgresSink {
         taken
     }
 
-    /// Keeps a session whose state is known by what it said.
+    /// Keeps a session if its answer shows in which state it is.
     fn put_back<T>(mut session: Session, place: &mut Option<Session>, taken: &Result<T, NotTaken>) {
         session.owners = None;
         if matches!(taken, Ok(_) | Err(NotTaken::Refused(_))) {
@@ -112,7 +113,7 @@ impl PostgresSink {
         }
     }
 
-    /// The one that is there, or a new one.
+    /// The open session, or a new one.
     async fn session(&self, place: &mut Option<Session>) -> Result<Session, Fault> {
         let session = match place.take() {
             Some(session) if !session.client.is_closed() => session,
@@ -152,7 +153,7 @@ impl PostgresSink {
     }
 }
 
-/// On a thread with a runtime of its own, since a start is not asynchronous.
+/// Connects on a thread with a runtime of its own, since a start is not asynchronous.
 fn try_once(server: &Server, memory: Arc<dyn Memory>) -> anyhow::Result<Result<(), Fault>> {
     let runtime = tokio::runtime::Builder::new_current_thread().enable_all().build()?;
     let server = server.clone();
@@ -205,7 +206,7 @@ mod tests {
     use super::*;
     use std::sync::atomic::{AtomicUsize, Ordering::SeqCst};
 
-    /// Else requests of many slots would be called late by a server that was never asked, and wait all the longer.
+    /// Otherwise requests of many shards would be late at a server that was never asked, and wait all the longer.
     #[tokio::test]
     async fn who_waits_for_another_delivery_is_not_late() {
         let listener = tokio::net::TcpListener::bind("127.0.0.1:0").await.expect("a port");

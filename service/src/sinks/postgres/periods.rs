@@ -1,4 +1,4 @@
-//! Periods that are closed, and adjustments: by a connection of its own, between two requests of any service.
+//! Closes and reopens periods, and makes adjustments, by a connection of its own, between two requests of any service.
 
 use super::fault::Fault;
 use super::schema;
@@ -13,15 +13,15 @@ use std::time::Duration;
 use tokio_postgres::types::ToSql;
 use tokio_postgres::{Error, Row as DatabaseRow, Transaction};
 
-/// `totxegun` and two more, as the number of an advisory lock.
+/// The number of an advisory lock: `totxegun` plus two.
 pub(super) const LOCK: i64 = schema::LOCK + 2;
 
-/// How long all of it may take: requests that are under way are waited for.
+/// How long all of it may take, with the wait for requests that are being taken.
 const PATIENCE: Duration = Duration::from_secs(30);
 
 const ALONE: &str = "select pg_advisory_xact_lock($1::int8)";
 
-/// Where its hour is later than the last one of the series, that one is over.
+/// If the adjusted hour is later than the last one of the series, the last one is over.
 const LAST_HOUR: &str = "select hour from totxegun.series_totals where series = $1::int8 for no key update";
 const BEGIN_HOUR: &str = "update totxegun.series_totals set hour = $2::int4, before_points = points,
         before_total = total, before_count = count, before_without_sum = without_sum, before_buckets = buckets,
@@ -38,7 +38,7 @@ const TO_METRIC: &str =
     select metric, $2::int4, 0, 0, 0, $3::int8 from totxegun.series where id = $1::int8
     on conflict (metric, hour) do update set adjustments = coalesce(h.adjustments, 0) + excluded.adjustments";
 
-/// Carries a deed out, or leaves all as it was, unless the answer to the commit was lost: the same may be asked again.
+/// Carries a deed out, or leaves all as it was. If the answer to the commit was lost, the operator may ask again.
 pub(super) async fn settle(server: &Server, memory: &dyn Memory, who: &str, deed: &Deed) -> Told {
     let told = session::within(PATIENCE, settled(server, memory, who, deed)).await;
     told.unwrap_or_else(|fault| Told::Later(fault.at(server).to_string()))
@@ -51,7 +51,7 @@ async fn settled(server: &Server, memory: &dyn Memory, who: &str, deed: &Deed) -
     }
     let transaction = client.transaction().await?;
     transaction.query(ALONE, &[&LOCK]).await?;
-    // A row that is locked makes the commit a write, which waits for the standby: also where nothing is done any more.
+    // The locked row makes the commit a write, which waits for the standby even if there is nothing left to do.
     let id = transaction.query_one("select id from totxegun.sink for update", &[]).await?;
     memory.admit(Some(id.get(0)), false).map_err(Fault::Another)?;
     let mut periods = Changing(transaction);
@@ -74,12 +74,12 @@ impl sql::Periods for Changing<'_> {
     }
 }
 
-/// A row of texts.
+/// A row, its values as text.
 pub(super) fn texts(row: &DatabaseRow) -> Row {
     Row((0..row.len()).map(|column| row.get(column)).collect())
 }
 
-/// To an hour of a series and of its metric, made where nothing was counted.
+/// Adds to an hour of a series and of its metric. The rows are made if nothing was counted there.
 async fn add(transaction: &Transaction<'_>, series: i64, hour: i32, value: i64) -> Result<(), Error> {
     let last: Option<i32> = transaction.query_one(LAST_HOUR, &[&series]).await?.get(0);
     if last < Some(hour) {

@@ -1,11 +1,11 @@
-//! The rows of intervals, and of what they come to.
+//! The rows of intervals, and of the sums that they add to.
 
 use super::series::Known;
 use super::values::{row, NewRow, Numeric};
 use crate::otlp::series::{ForwardedPoint, Value};
 use crate::sinks::sql::{by_metric, sums_of, Adding, InHour, Sums};
 
-/// A row of `interval_rows`. Times from 2^63 on, in the year 2262, are less 2^64.
+/// A row of `interval_rows`. Times from 2^63 on, in the year 2262, are stored less 2^64.
 pub(super) fn interval_row(series: i64, point: &ForwardedPoint) -> NewRow<'_> {
     row(move |write| {
         let (value, count, sum, counts) = match &point.value {
@@ -19,14 +19,14 @@ pub(super) fn interval_row(series: i64, point: &ForwardedPoint) -> NewRow<'_> {
     })
 }
 
-/// A count that is not what the buckets come to.
+/// The count, if it is not the sum of the buckets.
 fn beside(count: u64, buckets: &[u64]) -> Option<u64> {
     let all: u128 = buckets.iter().map(|bucket| u128::from(*bucket)).sum();
     (all != u128::from(count)).then_some(count)
 }
 
-/// As `totxegun.bucket_counts` reads it: seven bits a byte, the lowest first; a byte from 128 on is not the last. So a small
-/// count takes a byte.
+/// The form that `totxegun.bucket_counts` reads: seven bits in a byte, the lowest first; a byte from 128 on is not the
+/// last of its number. So a small count takes one byte.
 fn packed(buckets: &[u64]) -> Vec<u8> {
     let mut bytes = Vec::with_capacity(buckets.len());
     for bucket in buckets {
@@ -40,19 +40,19 @@ fn packed(buckets: &[u64]) -> Vec<u8> {
     bytes
 }
 
-/// The last hour of a series, with these points.
+/// The last hour of the series with these points.
 pub(super) fn last_hour(adding: &Adding<'_, Known>) -> i32 {
     let last = adding.hours.last().map(|last| last.hour as i32);
     last.max(adding.stored.row.last_hour).unwrap_or(0)
 }
 
-/// What counts in earlier hours than the last one of its series.
+/// The points that count before the last hour of the series.
 fn earlier<'a>(adding: &'a Adding<'_, Known>) -> &'a [InHour<'a>] {
     let last = i64::from(last_hour(adding));
     &adding.hours[..adding.hours.partition_point(|hour| hour.hour < last)]
 }
 
-/// What a row of `series_totals` gets more, as such a row.
+/// A row of `series_total` with what is to be added to that row.
 pub(super) fn total_row<'a>(adding: &'a Adding<'a, Known>) -> NewRow<'a> {
     row(move |write| {
         let (points, all, before) = (&adding.of.points, adding.sums(), sums_of(earlier(adding)));
@@ -78,7 +78,7 @@ pub(super) fn total_row<'a>(adding: &'a Adding<'a, Known>) -> NewRow<'a> {
     })
 }
 
-/// Rows of `past_hours`, for what counts in earlier hours than the last one.
+/// Rows of `past_hours`, for points that count before the last hour.
 pub(super) fn hour_rows<'a>(adding: &'a Adding<'a, Known>) -> impl Iterator<Item = NewRow<'a>> {
     let hours = earlier(adding).chunk_by(|one, next| one.hour == next.hour);
     hours.map(move |hours| {
@@ -98,7 +98,7 @@ pub(super) fn hour_rows<'a>(adding: &'a Adding<'a, Known>) -> impl Iterator<Item
     })
 }
 
-/// Rows of `late_hours`, for what belongs to closed hours.
+/// Rows of `late_hours`, for points that belong to closed hours.
 pub(super) fn late_rows<'a>(adding: &'a Adding<'a, Known>) -> impl Iterator<Item = NewRow<'a>> {
     adding.late().map(move |late| {
         row(move |write| {

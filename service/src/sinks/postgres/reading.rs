@@ -1,4 +1,5 @@
-//! Reads a database, also while services write it: by a connection of its own, so that a delivery that waits holds nothing up here.
+//! Reads a database, also while services write to it. It has a connection of its own, so that a delivery that waits
+//! holds nothing up here.
 
 use super::fault::Fault;
 use super::{schema, session, Server, PATIENCE};
@@ -14,7 +15,7 @@ pub(in crate::sinks) struct Reader {
     server: Server,
     /// How long the server may take for an answer.
     patience: Duration,
-    /// None once it ends.
+    /// None at the reader's end.
     client: Option<Client>,
     driver: Driver,
     runtime: Runtime,
@@ -23,7 +24,7 @@ pub(in crate::sinks) struct Reader {
 /// How long the end of a reader may take.
 const END: Duration = Duration::from_secs(1);
 
-/// None where no service has written yet.
+/// None if no service has written yet.
 pub(in crate::sinks) fn open(server: &Server, patience: Duration) -> anyhow::Result<Option<Reader>> {
     let runtime = Builder::new_current_thread().enable_all().build()?;
     let connecting = async {
@@ -32,7 +33,7 @@ pub(in crate::sinks) fn open(server: &Server, patience: Duration) -> anyhow::Res
             return Ok(None);
         }
         let wait = patience.as_secs();
-        // A cursor is planned for all of its rows.
+        // All rows are read, so the cursor is planned for all of them.
         let settings = format!(
             "set statement_timeout = '{wait}s'; set idle_in_transaction_session_timeout = '{wait}s';
             set cursor_tuple_fraction = 1; begin isolation level repeatable read, read only"
@@ -63,7 +64,7 @@ impl Reader {
 }
 
 impl Drop for Reader {
-    /// A transaction that its client leaves open is a line in the server's log, as of one that crashed.
+    /// Ends the transaction: one that a client leaves open is logged by the server like a crash of the client.
     fn drop(&mut self) {
         let (client, driver) = (self.client.take(), &mut self.driver);
         let ending = async {
@@ -101,7 +102,7 @@ impl sql::Reader for Reader {
         format!("decode('{digits}', 'hex')")
     }
 
-    /// The views leave a period out once one of its hours may be gone.
+    /// The views leave a period out if one of its hours may be gone.
     fn has(&self, period: &Period, hours_from: i64) -> bool {
         period.from >= hours_from
     }

@@ -1,4 +1,4 @@
-//! The schema `totxegun` of a database: one version of it, which a new one gets.
+//! The schema `totxegun` of a database. There is one version of it.
 
 use super::fault::Fault;
 use super::upkeep::days;
@@ -12,11 +12,11 @@ const SCHEMA: &str = include_str!("schema.sql");
 /// The version that this program reads and writes.
 pub(super) const KNOWN: i32 = 1;
 
-/// `totxegun`, as the number of an advisory lock: one of several services makes the schema, the others wait.
+/// The number of an advisory lock, `totxegun`: one of several services makes the schema, and the others wait.
 pub(super) const LOCK: i64 = 0x746f_7478_6567_756e;
 
-/// Makes the schema where there is none, or says why the one that was found must not be written: also one that is not the one
-/// that is remembered.
+/// Makes the schema if there is none. The error says why a schema must not be written, for example because it is not
+/// the one that is remembered.
 pub(super) async fn make(
     client: &mut Client,
     server: &Server,
@@ -24,7 +24,7 @@ pub(super) async fn make(
     memory: &dyn Memory,
     was_there: bool,
 ) -> Result<(), Fault> {
-    // One that is gone in this run is told of, and made again.
+    // A schema that disappeared in this run is reported, and made again.
     let is_replaced = !is_there && was_there;
     if !is_there {
         memory.admit(None, is_replaced).map_err(Fault::Another)?;
@@ -37,7 +37,7 @@ pub(super) async fn make(
 async fn make_anew(client: &mut Client, server: &Server, was_there: bool) -> Result<(), Fault> {
     let mut transaction = client.transaction().await?;
     transaction.execute("select pg_advisory_xact_lock($1)", &[&LOCK]).await?;
-    // Another service may have done it since: it is looked for anew, under the lock.
+    // Another service may have made it meanwhile, so this is looked for again under the lock.
     if !check(&transaction).await? {
         tell_of_lost(&transaction, server, was_there).await?;
         transaction.batch_execute(SCHEMA).await?;
@@ -48,7 +48,7 @@ async fn make_anew(client: &mut Client, server: &Server, was_there: bool) -> Res
     Ok(transaction.commit().await?)
 }
 
-/// Has tables, views and columns say what they are.
+/// Makes the comments of tables, views and columns.
 async fn explain(transaction: &Transaction<'_>) -> Result<(), Error> {
     let all = "select relname::text, attname::text from pg_attribute join pg_class on pg_class.oid = attrelid
         where relnamespace = 'totxegun'::regnamespace and relkind in ('r', 'p', 'v') and attnum > 0";
@@ -66,7 +66,7 @@ async fn explain(transaction: &Transaction<'_>) -> Result<(), Error> {
     transaction.batch_execute(&comments).await
 }
 
-/// Says so where the tables are made although there were some: these are under another name, or gone.
+/// Logs it if the tables are made although there were some before: these have another name now, or are gone.
 async fn tell_of_lost(client: &impl GenericClient, server: &Server, was_there: bool) -> Result<(), Error> {
     let query = "select nspname::text from pg_namespace where nspname <> 'totxegun' and 5 = (select count(*) from pg_class
         where relnamespace = pg_namespace.oid and relname in ('version', 'requests', 'series', 'series_totals', 'interval_rows'))
@@ -85,7 +85,7 @@ async fn tell_of_lost(client: &impl GenericClient, server: &Server, was_there: b
     Ok(())
 }
 
-/// Whether there is a schema of ours, of the version that is known; false where there is none, or an empty one.
+/// Whether our schema is there, in the known version. False if there is none, or an empty one.
 pub(super) async fn check(client: &impl GenericClient) -> Result<bool, Fault> {
     let query = "select
         exists (select from pg_class join pg_namespace on pg_namespace.oid = relnamespace where nspname = 'totxegun'),

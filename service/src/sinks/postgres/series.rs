@@ -1,4 +1,4 @@
-//! The rows of a request's series: made where they are new, found, and locked.
+//! The rows of a request's series: finds them, makes those that are new, and locks their totals.
 
 use super::fault::Fault;
 use super::series_rows::series_row;
@@ -9,35 +9,35 @@ use tokio_postgres::Row;
 /// How many new series are worth a statement of their own.
 const PIECE: usize = 100;
 
-/// What the server has of a series.
+/// What the database has of a series.
 #[derive(Clone, Debug)]
 pub(super) struct Known {
     pub(super) id: i64,
-    /// Made by this transaction: nobody else sees it, and it has no total yet.
+    /// Whether this transaction made it: nobody else sees it, and it has no total yet.
     pub(super) is_new: bool,
     /// The number of its metric.
     pub(super) metric: Vec<u8>,
-    /// In which its last interval ends, or a correction counts, in hours since 1970.
+    /// The hour in which its last interval ends, or a correction counts, in hours since 1970.
     pub(super) last_hour: Option<i32>,
 }
 
 impl Known {
-    /// As it is found, before it is locked.
+    /// As it was found, before its total is locked.
     fn of(row: &Row, is_new: bool) -> Known {
         Known { id: row.get(1), is_new, metric: row.get(2), last_hour: None }
     }
 }
 
-/// By the places of the series in a request.
+/// By the index of the series in a request.
 type FoundSeries = Vec<Option<Known>>;
 
 impl Writing<'_> {
-    /// What is known of each series, made where it is new. Nobody else adds to them until the transaction ends.
+    /// What is known of each series; new ones are made. Nobody else adds to these series until the transaction ends.
     pub(super) async fn stored(&self, all: &[OfSeries]) -> Result<Vec<Stored<Known>>, NotTaken> {
         let mut found = vec![None; all.len()];
         let mut sent = self.find(all, &mut found).await?;
         self.make(all, &mut found).await?;
-        // Those that another transaction has made meanwhile.
+        // Another transaction may have made the rest meanwhile.
         sent.extend(self.find(all, &mut found).await?);
         self.set_senders(sent).await?;
         let known: Option<Vec<Known>> = found.into_iter().collect();
@@ -46,7 +46,7 @@ impl Writing<'_> {
         self.lock(stored.collect()).await
     }
 
-    /// Makes those that were not found, unless they are there by now, and the metrics of those that it makes.
+    /// Makes the series that were not found, unless they are there by now, and their metrics.
     async fn make(&self, all: &[OfSeries], found: &mut FoundSeries) -> Result<(), NotTaken> {
         let both = all.iter().zip(&*found);
         let new: Vec<&OfSeries> =
@@ -54,12 +54,12 @@ impl Writing<'_> {
         if new.is_empty() {
             return Ok(());
         }
-        // While the server has one piece, the next one is written down here.
+        // While the server has one piece, the next one is encoded here.
         let mut pieces = new.chunks(new.len().div_ceil(4).max(PIECE));
         let mut next = || self.make_piece(pieces.next().unwrap_or_default());
         let (one, two, three, four) = tokio::try_join!(next(), next(), next(), next())?;
         let mut made = [one, two, three, four].into_iter().flatten().peekable();
-        // They came back in the order in which they went.
+        // The rows come back in the order in which they were sent.
         let mut ids: Vec<i64> = Vec::new();
         for (series, found) in all.iter().zip(&mut *found).filter(|(_, found)| found.is_none()) {
             let is_of = |row: &Row| row.get::<_, &[u8]>(0) == series.digest;
@@ -81,7 +81,7 @@ impl Writing<'_> {
         self.rows(&self.statements.make, &[&rows]).await
     }
 
-    /// Finds those of which nothing is known yet. Which of them have no sender so far, though theirs is known.
+    /// Finds series that are not found yet. Returns those that have no sender so far, though it is known now.
     async fn find(&self, all: &[OfSeries], found: &mut FoundSeries) -> Result<Vec<(i64, String)>, NotTaken> {
         let mut sent = Vec::new();
         let places: Vec<usize> = (0..all.len()).filter(|place| found[*place].is_none()).collect();
@@ -91,7 +91,7 @@ impl Writing<'_> {
         let digests: Vec<&[u8]> = places.iter().map(|place| &all[*place].digest[..]).collect();
         for row in self.rows(&self.statements.find, &[&digests]).await? {
             let (place, known) = (places[row.get::<_, i64>(0) as usize - 1], Known::of(&row, false));
-            // Of an operator's letter, say, whose slot was not delivered here.
+            // For example, it came with a dead letter while its shard was not delivered here.
             if let (true, Some(sender)) = (row.get(3), self.owner(&all[place])) {
                 sent.push((known.id, sender));
             }
@@ -100,7 +100,7 @@ impl Writing<'_> {
         Ok(sent)
     }
 
-    /// Writes down who sends these. All at once, and behind new series, since it locks their rows.
+    /// Notes senders, all at once and after new series are made, since it locks the series' rows.
     async fn set_senders(&self, sent: Vec<(i64, String)>) -> Result<(), NotTaken> {
         if sent.is_empty() {
             return Ok(());
@@ -109,7 +109,7 @@ impl Writing<'_> {
         self.rows(&self.statements.set_senders, &[&ids, &senders]).await.map(drop)
     }
 
-    /// Locks the totals of those that were there, and reads where they end.
+    /// Locks the totals of series that were there, and reads their ends.
     async fn lock(&self, mut stored: Vec<Stored<Known>>) -> Result<Vec<Stored<Known>>, NotTaken> {
         let places: Vec<usize> = (0..stored.len()).filter(|place| !stored[*place].row.is_new).collect();
         if places.is_empty() {

@@ -8,10 +8,10 @@ use crate::sinks::sql::totals::Kind;
 use crate::sinks::sql::OfSeries;
 use serde_json::Value;
 
-/// PostgreSQL's texts and jsonb hold each character but U+0000.
+/// Stands for U+0000, the one character that PostgreSQL's text and jsonb can't hold.
 const SHOWN_FOR_ZERO: &str = "\u{fffd}";
 
-/// A row of `series`, without what the server makes of it.
+/// A row of `series`, without the columns that the server makes.
 pub(super) fn series_row(series: &OfSeries, sender: Option<String>) -> Result<NewRow<'_>, NotTaken> {
     let parts = series.key.parts()?;
     let (kind, bounds) = Kind::identified(parts.kind);
@@ -61,7 +61,7 @@ fn held_value(value: Value, is_exact: &mut bool) -> Value {
     }
 }
 
-/// A text as PostgreSQL holds it.
+/// A text in the form that PostgreSQL can hold.
 fn held(text: String, is_exact: &mut bool) -> String {
     if !text.contains('\0') {
         return text;

@@ -1,16 +1,17 @@
 //! The statements of a request. Each carries all of its rows as one array, of values or of rows.
 //!
-//! None is a COPY: for the rest of a COPY's data a server waits without end, so a client that stalled would keep its
-//! locks. At a thousand rows it is hardly faster.
+//! None is a COPY: a server waits without end for the rest of a COPY's data, so a client that stalls would keep its
+//! locks. With a thousand rows COPY is hardly faster.
 //!
-//! Locks are taken in one order, so that no two transactions wait for each other: the periods; the key; the life of its slot and
-//! epoch, where it is new; the rows of new series, by their digests; those of their metrics; the rows of series whose sender is
-//! written down now, by their numbers; the totals of series that were there, by their numbers; the hours of metrics.
+//! Locks are taken in one order, so that no two transactions wait for each other: the periods; the key; the life of its
+//! shard and epoch, if it is new; the rows of new series, by their digests; those of their metrics; the rows of series
+//! whose sender is noted now, by their numbers; the totals of series that were there, by their numbers; the hours of
+//! metrics.
 
 use crate::sinks::sql::CLOSED;
 use tokio_postgres::{Client, Error, Statement};
 
-/// What an hour `h` that is there gets more.
+/// What is added to an hour `h` that is there.
 macro_rules! added {
     () => {
         "points = h.points + excluded.points,
@@ -24,7 +25,7 @@ macro_rules! added {
     };
 }
 
-/// The last hours of these series are over: it is written down what they come to.
+/// The last hours of these series are over: writes down what they counted.
 pub(super) const HOURS_OVER: &str =
     "insert into totxegun.past_hours (series, hour, points, total, count, without_sum, buckets, adjustments)
     select series, hour, points, total, count, without_sum, buckets, coalesce(adjustments, 0)
@@ -46,10 +47,11 @@ macro_rules! statements {
 }
 
 statements! {
-    /// Shared by all requests; who closes a period has it alone.
+    /// All requests share this lock; a change of periods has it alone.
     hold_periods: "select pg_advisory_xact_lock_shared($1::int8)",
-    /// Makes the rows of requests of one slot, in order; fewer come where one was there. It waits for another transaction that has
-    /// the same key. None comes for a schema of another version either. With each comes the life of their slot and epoch.
+    /// Makes the rows of requests of one shard, in order. Fewer are returned if one was there; if another transaction
+    /// has the same key, this waits for it. None is returned if the schema has another version. Each has the life of
+    /// its shard and epoch.
     make_requests: "with made as (
             insert into totxegun.requests (slot, epoch, number, points, digest)
             select $1::int4, $2::text, new.number, new.points, new.digest
@@ -61,19 +63,19 @@ statements! {
         from made order by made.id",
     first_life: "insert into totxegun.lives (slot, epoch) values ($1::int4, $2::text)
         on conflict (slot, epoch) do update set epoch = excluded.epoch returning id",
-    /// Of an epoch that was seen before.
+    /// The life of an epoch that was seen before.
     life_of: "select id from totxegun.lives where slot = $1::int4 and epoch = $2::text",
-    /// What a life has beyond a request, but for those of an epoch: how many, and when the first and the last came.
+    /// What a life has beyond a request, without those of one epoch: how many, and when the first and the last came.
     beyond: "select count(*),
             coalesce(to_char(min(taken_at), 'YYYY-MM-DD HH24:MI:SS'), ''), coalesce(to_char(max(taken_at), 'YYYY-MM-DD HH24:MI:SS'), '')
         from totxegun.lives join totxegun.requests on requests.slot = lives.slot and requests.epoch = lives.epoch
         where lives.slot = $1::int4 and lives.id = $2::int8 and requests.number > $3::numeric and lives.epoch <> $4::text",
-    /// An epoch that goes on with a life.
+    /// Notes that an epoch continues a life.
     go_on: "insert into totxegun.lives (slot, epoch, id) values ($1::int4, $2::text, $3::int8)",
     begin_life: "insert into totxegun.lives (slot, epoch) values ($1::int4, $2::text)
         on conflict (slot, epoch) do update set id = default",
-    /// Whether a later request of its life was there, and the places of series that a later one has put back. Of series that are
-    /// locked: else what was added to them meanwhile would not be known here.
+    /// Whether a later request of the same life was there, and the indexes of series that a later one has rewound. The
+    /// series must be locked: otherwise what is added to them meanwhile would not be seen.
     late: "with same as materialized (
             select epoch from totxegun.lives where slot = $1::int4
                 and id = (select id from totxegun.lives where slot = $1::int4 and epoch = $2::text)
@@ -83,13 +85,13 @@ statements! {
             array(select place from unnest($4::bytea[]) with ordinality as wanted(digest, place)
                 join totxegun.rewinds on rewinds.slot = $1::int4 and rewinds.epoch in (select epoch from same)
                     and rewinds.digest = wanted.digest and number > $3::numeric)",
-    /// A row that is locked makes the commit behind it a write, which waits for the standby.
+    /// The locked row makes the commit a write, which waits for the standby.
     is_taken: "select digest, left_out from totxegun.requests
         where slot = $1::int4 and epoch = $2::text and number = $3::numeric for update",
-    /// Of a request of which not all was added.
+    /// For a request of which not all points were added.
     set_left_out: "update totxegun.requests set points = $2::int8, left_out = $3::text where id = $1::int8",
     /// Makes the rows of new series, in the order of the array, which is that of their digests. One that another
-    /// transaction has made is left, and not returned; one that it is making is waited for.
+    /// transaction has made is left and not returned; if another transaction is making one, this waits for it.
     make: "insert into totxegun.series (digest, identity, is_exact, name, name_json, unit, kind,
             is_monotonic, bounds, attributes, resource, scope_name, scope_version, scope_attributes, sender)
         select digest, identity, is_exact, name, name_json, unit, kind, is_monotonic, bounds, attributes, resource, scope_name,
@@ -101,24 +103,24 @@ statements! {
         select distinct on (metric) metric, name, kind, is_monotonic, unit from totxegun.series
         where id = any($1::int8[]) order by metric
         on conflict (id) do nothing",
-    /// Which series are there. It locks nothing.
+    /// Finds the series that are there. It locks nothing.
     find: "select wanted.place, series.id, series.metric, series.sender is null
         from unnest($1::bytea[]) with ordinality as wanted(digest, place)
         join totxegun.series on series.digest = wanted.digest",
-    /// Of series that were made before it was known who sends them.
+    /// For series that were made before their sender was known.
     set_senders: "with unknown as (
             select series.id, sent.sender from unnest($1::int8[], $2::text[]) as sent(id, sender)
             join totxegun.series on series.id = sent.id where series.sender is null
             order by series.id for no key update of series
         )
         update totxegun.series set sender = unknown.sender from unknown where series.id = unknown.id",
-    /// Locks the totals of these series, so nobody else adds to them until the transaction ends.
+    /// Locks the totals of these series: nobody else adds to them until the transaction ends.
     lock: "select wanted.place, cardinality(t.buckets), t.hour, t.life, t.floor_ns::text, t.last_end_ns::text
         from unnest($1::int8[]) with ordinality as wanted(series, place)
         join totxegun.series_totals as t on t.series = wanted.series
         order by t.series for no key update of t",
     intervals: "insert into totxegun.interval_rows select * from unnest($1::totxegun.interval_rows[])",
-    /// Of series that are new.
+    /// For new series.
     first_totals: "insert into totxegun.series_totals select * from unnest($1::totxegun.series_totals[])",
     /// Adds to hours that are not the last ones of their series.
     past_hours: concat!(
@@ -126,7 +128,7 @@ statements! {
         on conflict (series, to_timestamp(hour * 3600::double precision)) do update set ",
         added!()
     ),
-    /// To which closed hours it belongs, beside the hours in which it counts.
+    /// Notes to which closed hours points belong, beside the hours in which they count.
     late_hours: concat!(
         "insert into totxegun.late_hours as h select * from unnest($1::totxegun.late_hours[])
         on conflict (series, of_hour, hour) do update set ",
@@ -135,7 +137,7 @@ statements! {
     metric_hours: "insert into totxegun.metric_hours as h select * from unnest($1::totxegun.metric_hours[])
         on conflict (metric, hour) do update set
             points = h.points + excluded.points, total = h.total + excluded.total, count = h.count + excluded.count",
-    /// Where a later hour begins, all so far is before it.
+    /// If a later hour begins, all that was counted so far is before it.
     totals: "update totxegun.series_totals as t set
             points = t.points + n.points,
             first_start_ns = least(t.first_start_ns, n.first_start_ns),
@@ -165,7 +167,8 @@ statements! {
             end,
             hour_adjustments = case when n.hour = t.hour then t.hour_adjustments end
         from unnest($1::totxegun.series_totals[]) as n where t.series = n.series",
-    /// Series end there, where they ended later, and what earlier requests have for them is known by the number of this one.
+    /// Moves the ends of these series back, and notes the number of this request: what requests of lower numbers have
+    /// for the series is recognised by it.
     rewind: "with noted as (
             insert into totxegun.rewinds as r (slot, epoch, digest, number)
             select distinct $4::int4, $5::text, digest, $6::numeric from unnest($1::bytea[]) as digest order by digest
@@ -178,7 +181,7 @@ statements! {
         update totxegun.series_totals as t
         set last_end_ns = known.last_end_ns, floor_ns = known.last_end_ns, life = $3::int8
         from known where t.series = known.series",
-    /// The time that it is, and what is closed.
+    /// The current time, and what is closed.
     closed: CLOSED,
     hours_over: HOURS_OVER,
 }

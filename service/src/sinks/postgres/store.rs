@@ -1,4 +1,4 @@
-//! One transaction a request, whole or not at all; or one for several.
+//! Takes one request, whole or not at all, in one transaction; or several.
 
 use super::fault::Fault;
 use super::fence::Fence;
@@ -22,8 +22,8 @@ use tokio_postgres::{Row, Statement, Transaction};
 
 pub(super) type NotTaken = sql::NotTaken<Fault>;
 
-/// Takes one request, but for points that begin too early, which are left; or several whole. On any error nothing of it is there,
-/// unless the answer to the commit was lost; then the key says so the next time.
+/// Takes one request without points that begin too early, which are returned; or several whole. After an error nothing
+/// of it is there, unless the answer to the commit was lost; then the key shows it the next time.
 pub(super) async fn take(
     session: &mut Session,
     requests: &[Forwarded],
@@ -38,8 +38,8 @@ pub(super) async fn take(
     if let (Outcome::New(left), Some(last)) = (&outcome, requests.last()) {
         writing.delivered(last, tenure, left.is_empty()).await?;
     }
-    // No content can be at fault any more. A server shows, after a restart, what its standby does not have: so also what was
-    // there is believed behind a commit.
+    // No content can be at fault any more. After a restart a server may show what its standby does not have, so even a
+    // request that was there is believed only after a commit.
     commit(writing.transaction, writing.warnings).await?;
     outcome.left()
 }
@@ -102,7 +102,7 @@ impl sql::Transaction for Writing<'_> {
     }
 
     async fn add(&mut self, _place: &Place, all: &[Adding<'_, Known>]) -> Result<(), NotTaken> {
-        // The totals are written down here while the server has the intervals.
+        // The totals are encoded here while the server has the intervals.
         tokio::try_join!(self.intervals(all), self.totals(all)).map(drop)
     }
 
@@ -141,7 +141,7 @@ impl Writing<'_> {
         Ok(self.transaction.query(statement, columns).await?)
     }
 
-    /// Each statement must write the rows that it was given: else the tables are not as they were made.
+    /// Each statement must write all rows that it was given. Otherwise somebody has changed the tables.
     async fn write(
         &self,
         statement: &Statement,
@@ -157,7 +157,7 @@ impl Writing<'_> {
         Err(Fault::told(what).into())
     }
 
-    /// The same of all rows of a kind that there are.
+    /// The same for all rows of a kind, if there are any.
     async fn write_rows(&self, statement: &Statement, rows: Vec<NewRow<'_>>) -> Result<(), NotTaken> {
         match rows.is_empty() {
             true => Ok(()),
@@ -181,11 +181,11 @@ impl Writing<'_> {
         }
         let late = all.iter().flat_map(late_rows).collect();
         self.write_rows(&self.statements.late_hours, late).await?;
-        // Behind all else, since other services wait for these rows.
+        // Last of all, since other services wait for these rows.
         self.write_rows(&self.statements.metric_hours, metric_rows(all)).await
     }
 
-    /// Writes hours that are over by this request, and adds to those what comes late.
+    /// Writes down the hours that end with this request, and adds late points to earlier ones.
     async fn past_hours(&self, all: &[Adding<'_, Known>]) -> Result<(), NotTaken> {
         let is_over = |one: &&Adding<Known>| {
             let known = &one.stored.row;
@@ -198,12 +198,12 @@ impl Writing<'_> {
         self.write_rows(&self.statements.past_hours, all.iter().flat_map(hour_rows).collect()).await
     }
 
-    /// No period is closed or opened until the transaction ends.
+    /// Until the transaction ends, no period is closed or reopened.
     async fn hold_periods(&self) -> Result<(), NotTaken> {
         self.rows(&self.statements.hold_periods, &[&periods::LOCK]).await.map(drop)
     }
 
-    /// What is closed, once periods are held.
+    /// What is closed. The periods have to be held.
     async fn closed(&self) -> Result<Closed, NotTaken> {
         let rows: Vec<_> =
             self.rows(&self.statements.closed, &[]).await?.iter().map(periods::texts).collect();
@@ -211,9 +211,10 @@ impl Writing<'_> {
     }
 }
 
-/// A warning is a doubt: as after `pg_cancel_backend` in the wait for a standby, it is on this server alone.
+/// A warning means an unknown outcome: after `pg_cancel_backend` in the wait for a standby, for example, the commit is
+/// on this server alone.
 pub(super) async fn commit(transaction: Transaction<'_>, warnings: &Warnings) -> Result<(), Fault> {
-    warnings.take(); // of before
+    warnings.take(); // those from before
     transaction.commit().await?;
     match warnings.take() {
         None => Ok(()),

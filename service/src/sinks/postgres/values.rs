@@ -1,4 +1,4 @@
-//! Values in PostgreSQL's own form, for types that the driver does not know.
+//! Values in PostgreSQL's binary form, for types that the driver does not know.
 
 use crate::sinks::sql::Cell;
 use bytes::{BufMut, BytesMut};
@@ -12,9 +12,9 @@ pub(super) type Written = Result<IsNull, Box<dyn Error + Sync + Send>>;
 #[derive(Clone, Copy, Debug, PartialEq, Eq)]
 pub(super) struct Numeric(pub(super) i128);
 
-/// What a digit of `numeric` counts up to.
+/// The base of the digits of `numeric`.
 const BASE: u64 = 10_000;
-/// So many digits hold each number of 128 bits.
+/// How many digits any number of 128 bits fits.
 const DIGITS: usize = 10;
 const POSITIVE: u16 = 0;
 const NEGATIVE: u16 = 0x4000;
@@ -26,7 +26,8 @@ impl From<u64> for Numeric {
 }
 
 impl ToSql for Numeric {
-    /// How many digits, the power of the first of them, the sign, no digits behind a point, the digits.
+    /// The number of digits, the power of the first one, the sign, the number of digits after the point (none), the
+    /// digits.
     fn to_sql(&self, _: &Type, out: &mut BytesMut) -> Written {
         let (mut digits, mut count) = ([0; DIGITS], 0);
         let mut rest = self.0.unsigned_abs();
@@ -70,7 +71,7 @@ impl ToSql for Cell<'_> {
 pub(super) struct Jsonb(pub(super) String);
 
 impl ToSql for Jsonb {
-    /// The version of the form, and the text.
+    /// The version of the form, then the text.
     fn to_sql(&self, _: &Type, out: &mut BytesMut) -> Written {
         out.put_u8(1);
         out.put_slice(self.0.as_bytes());
@@ -81,10 +82,10 @@ impl ToSql for Jsonb {
     to_sql_checked!();
 }
 
-/// Who writes the columns of a row.
+/// Takes the columns of a row, and writes them.
 pub(super) type Write<'w> = &'w mut dyn FnMut(&[&dyn ToSql]) -> Written;
 
-/// A row as a value of a composite type, by what hands its columns on.
+/// A row as a value of a composite type: a function that hands its columns on.
 pub(super) struct NewRow<'a>(Box<dyn Fn(Write<'_>) -> Written + Send + Sync + 'a>);
 
 pub(super) fn row<'a>(columns: impl Fn(Write<'_>) -> Written + Send + Sync + 'a) -> NewRow<'a> {
@@ -131,7 +132,7 @@ fn put_row(values: &[&dyn ToSql], of: &Type, out: &mut BytesMut) -> Written {
 mod tests {
     use super::*;
 
-    /// As PostgreSQL's source has it (`numeric_send`).
+    /// The form is that of PostgreSQL's source (`numeric_send`).
     #[test]
     fn numbers_are_digits_of_base_10000() {
         for (number, words) in [

@@ -1,5 +1,5 @@
-//! What a schema's file says of its tables, views and columns: behind `--`, on the line that begins each of them. A column of which
-//! nothing is said means what the last one of its name above means.
+//! What a schema's file says of its tables, views and columns, after `--` on the line that begins each of them. A
+//! column of which nothing is said means what the last column of the same name above it means.
 
 use std::collections::HashMap;
 
@@ -8,12 +8,12 @@ use std::collections::HashMap;
 pub(in crate::sinks) struct About<'s> {
     pub(in crate::sinks) is_view: bool,
     pub(in crate::sinks) of: &'s str,
-    /// Empty if it is said of the table or view.
+    /// Empty if the text is about the table or view itself.
     pub(in crate::sinks) column: &'s str,
     pub(in crate::sinks) what: &'s str,
 }
 
-/// Of all tables and views of a schema, which have these columns.
+/// The texts for all tables and views of a schema. `columns` has the pairs of table and column that exist.
 pub(in crate::sinks) fn about<'s>(schema: &'s str, columns: &'s [(String, String)]) -> Vec<About<'s>> {
     let mut said: Vec<(About, HashMap<&str, &str>)> = Vec::new();
     for (code, what) in schema.lines().filter_map(|line| line.split_once(" -- ")) {

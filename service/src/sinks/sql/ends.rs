@@ -1,4 +1,6 @@
-//! Where series end, and what is not added since it begins before.
+//! Where series end, and which points are not added because they begin too early.
+//!
+//! `tests/sink_model.py` tries these rules.
 
 use super::Late;
 
@@ -7,33 +9,34 @@ use super::Late;
 pub(in crate::sinks) struct Ends {
     /// The life whose request in order was added last.
     pub(in crate::sinks) life: i64,
-    /// Above it there is nothing but what that life has sent, since the series was put back.
+    /// After it there is only what that life has sent since the last rewind of the series.
     pub(in crate::sinks) floor: u64,
-    /// Where it ends.
+    /// The end of the series.
     pub(in crate::sinks) last: u64,
 }
 
-/// What a request brings for a series.
+/// How a request stands to what a series has.
 #[derive(Clone, Copy, Debug)]
 pub(super) struct Coming {
     life: i64,
     is_by_hand: bool,
     is_late: bool,
-    /// Whether a later request has put the series back, or forgotten it.
+    /// Whether a later request has rewound the series, or forgotten it.
     is_before_a_rewind: bool,
 }
 
 impl Coming {
-    /// For the series of this place in the request.
+    /// For the series with this index in the request.
     pub(super) fn new(life: i64, is_by_hand: bool, late: Option<&Late>, series: usize) -> Coming {
         let is_before_a_rewind = late.is_some_and(|late| late.put_back.contains(&series));
         Coming { life, is_by_hand, is_late: late.is_some(), is_before_a_rewind }
     }
 
-    /// Points that begin before this are not added: what they count may be there.
+    /// Points that begin before this are not added, since what they count may be there already.
     ///
-    /// What comes in order begins where its series ends, or later. A request that was put aside comes later than others of its
-    /// life, of which none overlaps it, unless the series was put back between them; all else ends at the floor.
+    /// A request in order begins where its series ends, or later. A dead letter comes after later requests of its life.
+    /// None of these overlaps it, unless the series was rewound in between; and everything else that the series has
+    /// ends at the floor.
     pub(super) fn limit(&self, ends: &Ends) -> u64 {
         match self.is_late && self.is_of_life_of(ends) {
             true => ends.floor,
@@ -45,7 +48,7 @@ impl Coming {
         self.life == ends.life && !self.is_before_a_rewind
     }
 
-    /// Where the series ends with points until then; it has no ends before its first points.
+    /// The ends of the series after points until `end` were added. A new series has no ends before.
     pub(super) fn added(&self, before: Option<Ends>, end: u64) -> Ends {
         let before = before.unwrap_or(Ends { life: self.life, ..Ends::default() });
         let last = before.last.max(end);

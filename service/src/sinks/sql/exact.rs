@@ -1,6 +1,5 @@
-//! Totals: whole numbers of up to 128 bits.
+//! Exact totals: whole numbers of up to 128 bits.
 
-/// An exact total.
 #[derive(Clone, Copy, Debug, Default, PartialEq, Eq, PartialOrd, Ord)]
 pub struct Exact(pub i128);
 

@@ -1,4 +1,5 @@
-//! What a database has in all, or of a month or a day, a line for each series: in one order, so the same rows are the same bytes.
+//! What a database has in all, or of a month or a day: a line for each series, in one order, so that the same rows give
+//! the same bytes.
 
 use super::totals::Kind;
 use crate::sinks::periods::Period;
@@ -22,11 +23,11 @@ pub struct Line {
     pub total: String,
     pub adjustments: String,
     pub total_adjusted: String,
-    /// Of a histogram, as the next two.
+    /// Only for histograms, as the next two.
     pub count: Option<String>,
     pub bounds: Option<Box<RawValue>>,
     pub buckets: Option<Box<RawValue>>,
-    /// Of `totals` alone.
+    /// Only of `totals`.
     pub times: Option<Times>,
 }
 
@@ -37,12 +38,12 @@ pub struct Times {
     pub last_end: String,
 }
 
-/// What is read.
+/// What to read.
 #[derive(Clone, Debug)]
 pub enum What {
     Totals,
     Of(Period),
 }
 
-/// Takes each line, in order.
+/// Gets each line, in order.
 pub type Each<'a> = &'a mut dyn FnMut(Line) -> Result<()>;

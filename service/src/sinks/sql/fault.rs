@@ -4,9 +4,9 @@ use crate::otlp::series::NotForwarded;
 
 #[derive(Debug)]
 pub(in crate::sinks) enum NotTaken<Fault> {
-    /// It never will be.
+    /// It never will be taken.
     Refused(String),
-    /// A limit was met, and nobody says whether it is one of the request or of the server, which may pass.
+    /// A limit was exceeded, and nobody says whether by the request, or by the server, which may pass.
     Failed(Fault),
     Fault(Fault),
 }

@@ -1,8 +1,8 @@
-//! What a database does with requests: one algorithm over a transaction of SQLite or of PostgreSQL.
+//! How a database takes requests: one algorithm over a transaction of SQLite or of PostgreSQL.
 //!
-//! A request is taken once, by its key. Requests of one slot and epoch come from one life of a folder, and its book takes no two
-//! points of a series that overlap. So only what an earlier life has sent, a copy of the folder, or what was taken before a
-//! rewind can overlap what comes: see [`Coming::limit`].
+//! A request is taken once, by its key. Requests of one shard and epoch come from one life of a folder, and its book
+//! takes no two overlapping points of a series. So a request can only overlap what an earlier life or a copy of the
+//! folder has sent, or what was taken before a rewind: see [`Coming::limit`].
 
 mod about;
 mod ends;
@@ -30,29 +30,29 @@ use crate::otlp::series::ForwardedPoint;
 use ends::Coming;
 use std::collections::{BTreeMap, BTreeSet};
 
-/// A transaction of a database while it takes requests. What it has written is there once it is committed.
+/// A transaction of a database that takes requests. What it has written is there after the commit.
 pub(super) trait Transaction {
     /// What a database knows of a series beside [`Stored`].
     type Row;
     type Fault;
 
-    /// Makes the rows of these requests of one slot, of which there is at least one; none where one of them is there.
+    /// Makes the rows of these requests, at least one, of one shard. None if one of them is there already.
     async fn make_requests(&mut self, all: &[Request<'_>]) -> Result<Option<Place>, NotTaken<Self::Fault>>;
 
     /// The row of a request that was taken.
     async fn taken(&mut self, request: &Forwarded) -> Result<Taken, NotTaken<Self::Fault>>;
 
-    /// What comes of a request's slot and epoch from now on is of another life.
+    /// Begins another life for the slot and epoch of a request.
     async fn begin_life(&mut self, of: &Forwarded) -> Result<(), NotTaken<Self::Fault>>;
 
-    /// What is known of each series, which is made where it is new, and what is closed. Nobody else adds to these series, or
+    /// What is known of each series (new ones are made), and what is closed. Nobody else adds to these series, or
     /// closes a period, until the transaction ends.
     async fn series(
         &mut self,
         all: &[OfSeries],
     ) -> Result<(Vec<Stored<Self::Row>>, Closed), NotTaken<Self::Fault>>;
 
-    /// Of series that nobody else adds to, how a request that may have been put aside stands to what was taken.
+    /// How a request that may be a dead letter stands to what was taken. The series have to be locked.
     async fn late(&mut self, of: &Forwarded, all: &[OfSeries])
         -> Result<Option<Late>, NotTaken<Self::Fault>>;
 
@@ -63,7 +63,8 @@ pub(super) trait Transaction {
         all: &[Adding<'_, Self::Row>],
     ) -> Result<(), NotTaken<Self::Fault>>;
 
-    /// Notes which points of a request were not added, in [`LeftOut::noted`], so that a repeat is answered as before.
+    /// Notes which points of a request were not added, in the form of [`LeftOut::noted`], so that a repeat gets the
+    /// same answer.
     async fn leave_out(
         &mut self,
         place: &Place,
@@ -71,8 +72,8 @@ pub(super) trait Transaction {
         noted: &str,
     ) -> Result<(), NotTaken<Self::Fault>>;
 
-    /// These series end at this time, where they ended later; what has points is of this life from there on. What requests of
-    /// earlier numbers have for them begins there for good.
+    /// Moves the ends of these series back. What comes of them after that is of this life. Points that requests of
+    /// lower numbers have for them are added only from the new end on, for good.
     async fn rewind(
         &mut self,
         life: i64,
@@ -81,17 +82,17 @@ pub(super) trait Transaction {
     ) -> Result<(), NotTaken<Self::Fault>>;
 }
 
-/// Where requests stand that are being taken.
+/// Where the rows of requests are.
 #[derive(Clone, Debug)]
 pub(super) struct Place {
-    /// Their rows, by the places of their first points among the points of all.
+    /// The row of each request, by the index of its first point among the points of all requests.
     pub(super) rows: BTreeMap<usize, i64>,
-    /// The life of their slot and epoch.
+    /// The life of their shard and epoch.
     pub(super) life: i64,
 }
 
 impl Place {
-    /// Of these requests, by their rows, in order.
+    /// For these requests, with their rows in order.
     pub(super) fn of(all: &[Request<'_>], rows: impl IntoIterator<Item = i64>, life: i64) -> Place {
         let mut next = 0;
         let first = |request: &Request| {
@@ -108,10 +109,10 @@ impl Place {
     }
 }
 
-/// A request that a later one of its slot and epoch is ahead of.
+/// A request after a later one of its shard and epoch was taken.
 #[derive(Debug)]
 pub(super) struct Late {
-    /// The places of series that were put back, or forgotten, by a later request.
+    /// The indexes of series that a later request has rewound, or forgotten.
     pub(super) put_back: BTreeSet<usize>,
 }
 
@@ -119,28 +120,28 @@ pub(super) struct Late {
 #[derive(Debug)]
 pub(super) struct Stored<Row> {
     pub(super) row: Row,
-    /// How many buckets each of its points has; none of a sum.
+    /// How many buckets each of its points has. None for a sum.
     pub(super) buckets: Option<usize>,
-    /// None of a new one.
+    /// None for a new series.
     pub(super) ends: Option<Ends>,
 }
 
-/// A request that was taken.
+/// A request that was taken before.
 #[derive(Debug)]
 pub(super) struct Taken {
     /// SHA-256 of its body.
     pub(super) digest: Vec<u8>,
-    /// Which points were not added, as it was noted.
+    /// Which points were not added, as noted.
     pub(super) left_out: Option<String>,
 }
 
-/// What became of a request in a transaction that is to be committed.
+/// What became of a request, in a transaction that is to be committed.
 #[derive(Debug)]
 pub(super) enum Outcome {
     New(LeftOut),
     /// It was taken before.
     Repeat(LeftOut),
-    /// Another one was taken under its key.
+    /// Another request was taken under its key.
     OtherRequest,
 }
 
@@ -153,8 +154,9 @@ impl Outcome {
     }
 }
 
-/// Takes requests of one slot: one by itself, but for points that begin too early, which are left, also when it is sent again;
-/// several whole, if none of them is taken yet and nothing of them is left. On an error the transaction must not be committed.
+/// Takes requests of one shard. One by itself is taken without points that begin too early, which are returned, also
+/// for a repeat. Several are taken whole, if none of them was taken before and no point begins too early. After an
+/// error the transaction must not be committed.
 pub(super) async fn take<T: Transaction>(
     transaction: &mut T,
     requests: Vec<Request<'_>>,
@@ -191,7 +193,7 @@ async fn take_together<T: Transaction>(
     transaction: &mut T,
     requests: Vec<Request<'_>>,
 ) -> Result<bool, NotTaken<T::Fault>> {
-    // A rewind has its place between the others.
+    // A rewind has its place in the order.
     if requests.is_empty() || requests.iter().any(|one| Rewind::of(&one.of.body).is_some()) {
         return Ok(requests.is_empty());
     }
@@ -201,7 +203,7 @@ async fn take_together<T: Transaction>(
     }
 }
 
-/// Adds what does not begin too early, and says what is left.
+/// Adds points that don't begin too early, and returns the others.
 async fn add<T: Transaction>(
     transaction: &mut T,
     place: &Place,
@@ -241,8 +243,8 @@ async fn add<T: Transaction>(
     Ok(left)
 }
 
-/// A request whose key is there: what was left of it then is left again, for the same reason. Another one than was taken came
-/// from a copy of the folder, so that its epoch has two lives.
+/// A request whose key is there. What was left out of it then is left out again, for the same reason. If it is not the
+/// same request, it came from a copy of the folder, so its epoch has two lives.
 async fn repeated<T: Transaction>(
     transaction: &mut T,
     request: Request<'_>,

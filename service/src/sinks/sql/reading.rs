@@ -1,4 +1,5 @@
-//! What a database has, for whoever reads it beside a service that writes: by the same queries, as of one moment.
+//! Reads a database while a service may write to it. Both kinds of database are read by the same queries, as of one
+//! moment.
 
 use super::exact::Exact;
 use super::export::{Each, Line, Times, What};
@@ -13,23 +14,23 @@ use std::collections::HashSet;
 use std::str::FromStr;
 use std::time::Duration;
 
-/// How long a page of the service waits for the database, at each step.
+/// How long a page of the service waits for the database, in each step.
 const PATIENCE: Duration = Duration::from_secs(20);
-/// How long an export does.
+/// How long an export waits.
 const LONG: Duration = Duration::from_secs(3600);
 
-/// A database that is read. Each of its queries is as of the moment at which it was opened.
+/// A database to read. All of its queries see the moment at which it was opened.
 pub(in crate::sinks) trait Reader {
-    /// Hands each row of a query on.
+    /// Hands on each row of a query.
     fn each(&mut self, query: &str, each: &mut dyn FnMut(Row) -> Result<()>) -> Result<()>;
 
     /// The query of all totals, by name and attributes.
     fn totals(&self) -> String;
 
-    /// Bytes, as they are written in a query.
+    /// Bytes as a query writes them.
     fn bytes(&self, bytes: &[u8]) -> String;
 
-    /// Whether the views have all of a period still, where hours before this one were deleted.
+    /// Whether the views still have all of a period after hours before `hours_from` were deleted.
     fn has(&self, period: &Period, hours_from: i64) -> bool;
 }
 
@@ -41,7 +42,7 @@ pub(in crate::sinks) enum Cell<'a> {
     Bytes(&'a [u8]),
 }
 
-/// Values as text, by their places; none where they are null.
+/// Values as text, by column. None if a value is null.
 #[derive(Debug)]
 pub(in crate::sinks) struct Row(pub(in crate::sinks) Vec<Option<String>>);
 
@@ -59,7 +60,7 @@ impl Row {
         text.parse().map_err(|_| anyhow!("column {place} of a row of the sink is no whole number: {text}"))
     }
 
-    /// A list of numbers as JSON, which PostgreSQL has in braces.
+    /// A list of numbers as JSON. PostgreSQL has it in braces.
     fn list(&self, place: usize) -> Option<String> {
         self.some(place).map(|list| list.replace('{', "[").replace('}', "]"))
     }
@@ -72,15 +73,15 @@ impl Row {
     }
 }
 
-/// A database that is open.
+/// An open database.
 struct Opened {
-    /// The file, or the server.
+    /// The file or the server.
     place: String,
     reader: Box<dyn Reader>,
 }
 
 impl Opened {
-    /// None where nothing was written yet.
+    /// None if nothing was written yet.
     fn of(sink: &Address, patience: Duration) -> Result<Option<Opened>> {
         let (place, reader): (String, Option<Box<dyn Reader>>) = match sink {
             Address::Sqlite(path) => {
@@ -98,7 +99,7 @@ impl Opened {
         Ok(reader.map(|reader| Opened { place, reader }))
     }
 
-    /// Hands on what is made of each row of a query.
+    /// Makes something of each row of a query, and hands it on.
     fn each<T>(
         &mut self,
         query: &str,
@@ -119,7 +120,7 @@ impl Opened {
     }
 }
 
-/// What is odd in a database says in which.
+/// Adds the name of the database to an error.
 fn of_place<T>(place: &str, made: Result<T>) -> Result<T> {
     made.map_err(|odd| anyhow!("{place}: {odd:#}"))
 }
@@ -147,13 +148,13 @@ fn total(row: &Row) -> Result<SeriesTotal> {
     Ok(series)
 }
 
-/// As its identity says, without what came of it: that is exact where other columns are not.
+/// A series by its identity, without totals. The identity is exact even if other columns are not.
 fn series(row: &Row, place: usize) -> Result<SeriesTotal> {
     let of = SeriesTotal::of_none(&SeriesKey(row.text(place)?.into()));
     of.context("a row of the table `series` is not as it was written")
 }
 
-/// The hours of a series from this one on (since 1970), in order; none where the database has not this series.
+/// The hours of a series from hour `from` since 1970 on, in order. None if the database does not have the series.
 pub fn hours(sink: &Address, series: &Digest, from: u64) -> Result<Option<Vec<Hour>>> {
     let Some(mut opened) = Opened::of(sink, PATIENCE)? else { return Ok(None) };
     let query = format!("select id from series where digest = {}", opened.reader.bytes(series));
@@ -171,7 +172,7 @@ fn hour(row: &Row) -> Result<Hour> {
     Ok(Hour { hour: seconds / 3600, total: Exact(row.number(1)?), count: count.map(Exact) })
 }
 
-/// The keys of late data that is booked; none while there is no file.
+/// The keys of late data that is booked. Empty while there is no file.
 pub fn booked(sink: &Address) -> Result<HashSet<String>> {
     if matches!(sink, Address::Sqlite(path) if !path.exists()) {
         return Ok(HashSet::new());
@@ -181,7 +182,7 @@ pub fn booked(sink: &Address) -> Result<HashSet<String>> {
     Ok(opened.all(query, |row| row.text(0).map(String::from))?.into_iter().collect())
 }
 
-/// Each line, in one order, so that the same rows are the same bytes; and what is closed.
+/// Hands on each line, in one order, so that the same rows give the same bytes. Returns what is closed.
 pub fn read(sink: &Address, what: &What, each: Each<'_>) -> Result<Closed> {
     let Some(mut opened) = Opened::of(sink, LONG)? else { return Ok(Closed::default()) };
     if let What::Of(period) = what {

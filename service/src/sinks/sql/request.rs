@@ -1,4 +1,4 @@
-//! What requests have for each of their series, before a database is asked.
+//! What requests have for each of their series, worked out without a database.
 
 use super::fault::BadContent;
 use super::{Ends, Stored, Sums};
@@ -10,14 +10,14 @@ use sha2::{Digest as _, Sha256};
 use std::collections::btree_map::Entry;
 use std::collections::BTreeMap;
 
-/// A request as it is written down.
+/// A request, as it is to be written.
 #[derive(Debug)]
 pub(in crate::sinks) struct Request<'r> {
     pub(in crate::sinks) of: &'r Forwarded,
     pub(super) sent: Sent,
-    /// SHA-256 of its body: a request that comes again has the same.
+    /// SHA-256 of its body: a repeat has the same.
     pub(in crate::sinks) digest: Vec<u8>,
-    /// In the order of their digests, so that any two writers make rows, and lock them, in one order.
+    /// In the order of their digests, so that all writers make and lock rows in one order.
     pub(super) series: Vec<OfSeries>,
 }
 
@@ -25,7 +25,7 @@ pub(in crate::sinks) struct Request<'r> {
 #[derive(Clone, Copy, Debug, PartialEq, Eq)]
 pub(in crate::sinks) enum Sent {
     InOrder,
-    /// It was put aside before.
+    /// As a dead letter.
     ByHand,
 }
 
@@ -37,7 +37,8 @@ pub(in crate::sinks) struct OfSeries {
     pub(in crate::sinks) points: Vec<ForwardedPoint>,
 }
 
-/// Points of a series that end in one hour, and the hour in which they count: a later one, where theirs is closed.
+/// Points of a series that end in one hour (`of`), and the hour in which they count, which is later if theirs is
+/// closed.
 #[derive(Debug)]
 pub(in crate::sinks) struct InHour<'a> {
     pub(in crate::sinks) of: i64,
@@ -50,14 +51,14 @@ pub(in crate::sinks) struct InHour<'a> {
 pub(in crate::sinks) struct Adding<'a, Row> {
     pub(in crate::sinks) of: &'a OfSeries,
     pub(in crate::sinks) stored: &'a Stored<Row>,
-    /// Where the series ends then.
+    /// The ends of the series afterwards.
     pub(in crate::sinks) ends: Ends,
     /// Its points by the hours in which they count, in order.
     pub(in crate::sinks) hours: Vec<InHour<'a>>,
 }
 
 impl<'r> Request<'r> {
-    /// With what its body has.
+    /// A request with the content of its body.
     pub(in crate::sinks) fn with(of: &'r Forwarded, sent: Sent, content: Content) -> Request<'r> {
         Request { of, sent, digest: content.digest, series: content.series }
     }
@@ -67,7 +68,7 @@ impl<'r> Request<'r> {
     }
 }
 
-/// What a request's body has.
+/// The content of a request's body.
 #[derive(Debug)]
 pub(in crate::sinks) struct Content {
     digest: Vec<u8>,
@@ -89,7 +90,8 @@ impl Content {
     }
 }
 
-/// What several requests have for their series, as one would: each point's place is its place among the points of all.
+/// Puts together what several requests have for their series. The index of a point is then that among the points of
+/// all.
 pub(super) fn together(requests: Vec<Request>) -> Result<Vec<OfSeries>, BadContent> {
     let mut all: BTreeMap<Digest, OfSeries> = BTreeMap::new();
     let mut first = 0;
@@ -124,17 +126,17 @@ impl OfSeries {
         }
     }
 
-    /// When its last point ends.
+    /// The end of its last point.
     pub(super) fn end(&self) -> u64 {
         self.points.last().map_or(0, |point| point.end)
     }
 
-    /// How many buckets its first point has; none of a sum.
+    /// How many buckets its first point has. None for a sum.
     pub(in crate::sinks) fn buckets(&self) -> Option<usize> {
         self.points.first().and_then(|point| buckets_of(&point.value))
     }
 
-    /// Whether each value has so many buckets, or is none of a histogram.
+    /// Checks that each value has this many buckets; a sum has none.
     pub(in crate::sinks) fn fits(&self, buckets: Option<usize>) -> Result<(), BadContent> {
         let odd = self.points.iter().find(|point| buckets_of(&point.value) != buckets);
         match odd {
@@ -143,7 +145,7 @@ impl OfSeries {
         }
     }
 
-    /// By the hours in which they count, in order.
+    /// The points by the hours in which they count, in order.
     pub(super) fn by_hours(&self, closed: &Closed) -> Vec<InHour<'_>> {
         let hour_of = |point: &ForwardedPoint| utc::hour_of(point.end);
         let chunks = self.points.chunk_by(|one, next| hour_of(one) == hour_of(next));
@@ -173,7 +175,7 @@ impl InHour<'_> {
     }
 }
 
-/// What the points of some hours come to.
+/// The sums of the points of some hours.
 pub(in crate::sinks) fn sums_of(hours: &[InHour]) -> Sums {
     let mut all = Sums::default();
     hours.iter().for_each(|hour| all.merge(&hour.sums()));
@@ -185,14 +187,15 @@ impl<Row> Adding<'_, Row> {
         sums_of(&self.hours)
     }
 
-    /// What of it belongs to closed hours.
+    /// The points that belong to closed hours.
     pub(in crate::sinks) fn late(&self) -> impl Iterator<Item = &InHour<'_>> {
         self.hours.iter().filter(|hour| hour.is_late())
     }
 }
 
-/// What it adds to the hours of metrics: of all series of one name, kind and unit, in the order of metrics and hours, in which
-/// any two writers lock them. Without buckets: series of a metric may differ in their bounds.
+/// What is added to the hours of metrics, that is, of all series of one name, kind and unit. They are in the order of
+/// metrics and hours, in which all writers lock them. There are no buckets, since series of a metric may differ in
+/// their bounds.
 pub(in crate::sinks) fn by_metric<'a, Row, Metric: Ord>(
     all: &'a [Adding<'a, Row>],
     metric_of: impl Fn(&'a Row) -> Metric,

@@ -1,21 +1,21 @@
-//! Closes and opens periods of a database, and adjusts what it has.
+//! Closes and reopens periods of a database, and makes adjustments: one algorithm for both kinds of database.
 
 use super::{Cell, Row};
 use crate::sinks::periods::{self, closed, Adjusted, Adjustment, Closed, Deed, Told, Which};
 use anyhow::Context;
 
-/// A transaction while periods are changed: no request is taken meanwhile.
+/// A transaction that changes periods. Meanwhile no request is taken.
 pub(in crate::sinks) trait Periods {
     type Fault: From<anyhow::Error>;
 
-    /// The rows of a statement, each value as text; ?1 and those behind it have these values.
+    /// The rows of a statement, each value as text. ?1 and so on stand for `values`.
     async fn rows(&mut self, statement: &str, values: &[Cell<'_>]) -> Result<Vec<Row>, Self::Fault>;
 
-    /// Adds to what a series and its metric have in an hour, a day, a month.
+    /// Adds to an hour of a series and of its metric, and to its day and month.
     async fn add(&mut self, series: i64, hour: i64, value: i64) -> Result<(), Self::Fault>;
 }
 
-/// The time that it is, in each row, and what is closed.
+/// The current time in each row, and the closed periods.
 pub(in crate::sinks) const CLOSED: &str =
     "select cast(current_timestamp as text), period, cast(from_hour as text), cast(to_hour as text), who, cast(closed_at as text)
     from (select 1) as one left join closed_periods as closed on true order by closed.from_hour, closed.to_hour";
@@ -23,7 +23,7 @@ pub(in crate::sinks) const CLOSED: &str =
 pub(super) const NO_HORIZON: &str =
     "the table `horizon` has no row, so nobody knows how far back its hours go";
 
-/// Of rows of that, of which there is at least one.
+/// Reads the rows of `CLOSED`; there is at least one.
 pub(in crate::sinks) fn closed_of(rows: &[Row]) -> anyhow::Result<Closed> {
     let mut closed = Closed::default();
     for row in rows {
@@ -74,7 +74,7 @@ async fn adjust<P: Periods>(
     adjustment: &Adjustment,
 ) -> Result<Told, P::Fault> {
     let Adjustment { hour, value, reason, late_key, .. } = adjustment;
-    // Only of what has points.
+    // Only a series that has points can be adjusted.
     let rows = match &adjustment.series {
         Which::Number(number) => {
             let query = "select cast(series as text) from series_totals where series = ?1";

@@ -1,16 +1,16 @@
-//! What points come to. Thousands of numbers of 64 bits fit 128.
+//! Sums of points. Thousands of 64-bit numbers fit 128 bits.
 
 use crate::otlp::series::Value;
 
 #[derive(Clone, Debug, Default, PartialEq, Eq)]
 pub(in crate::sinks) struct Sums {
     pub(in crate::sinks) points: i64,
-    /// Of values; of a histogram, of its sums.
+    /// The sum of the values; for a histogram, of its sums.
     pub(in crate::sinks) total: i128,
-    /// Of a histogram.
+    /// Only for histograms.
     pub(in crate::sinks) count: i128,
     pub(in crate::sinks) without_sum: i64,
-    /// Of a histogram.
+    /// Only for histograms.
     pub(in crate::sinks) buckets: Option<Vec<i128>>,
 }
 
@@ -34,7 +34,7 @@ impl Sums {
         }
     }
 
-    /// With all points of another of the same kind.
+    /// Adds another's points, which are of the same kind.
     pub(in crate::sinks) fn merge(&mut self, other: &Sums) {
         self.points += other.points;
         self.total += other.total;

@@ -1,4 +1,4 @@
-//! What series have counted, as whoever reads a database gets it.
+//! What series have counted, for readers of a database.
 
 use super::exact::Exact;
 use crate::otlp::series::{Digest, Kind as Identified, NotForwarded, SeriesKey};
@@ -6,7 +6,7 @@ use crate::sinks::attributes::object;
 use serde::Serialize;
 use serde_json::{Map, Value};
 
-/// Which series are read. The empty filter is all of them.
+/// Which series to read. The empty filter means all.
 #[derive(Clone, Debug, Default, PartialEq, Eq)]
 pub struct Filter {
     /// The metric's name.
@@ -15,7 +15,7 @@ pub struct Filter {
     pub attributes: Vec<(String, String)>,
 }
 
-/// What a series' points come to.
+/// A series with what its points add up to.
 #[derive(Clone, Debug, PartialEq, Eq, Serialize)]
 pub struct SeriesTotal {
     pub name: String,
@@ -27,22 +27,22 @@ pub struct SeriesTotal {
     pub scope_name: String,
     pub scope_version: String,
     pub scope_attributes: Map<String, Value>,
-    /// Of all that identifies it.
+    /// The digest of all that identifies the series.
     #[serde(skip)]
     pub digest: Digest,
-    /// How many points, each of an interval of its own, it has.
+    /// How many points it has, each for an interval of its own.
     pub points: u64,
     /// The first start and the last end, in nanoseconds since 1970.
     pub start_ns: u64,
     pub end_ns: u64,
-    /// What was added up: values of a sum, sums of a histogram.
+    /// The sum of the values; for a histogram, of its sums.
     pub total: Exact,
-    /// Of a histogram alone.
+    /// Only for histograms.
     #[serde(skip_serializing_if = "Option::is_none")]
     pub histogram: Option<Histogram>,
 }
 
-/// Where two kinds come to one name of Prometheus, the first keeps it.
+/// The order matters: if two kinds give one name of Prometheus, the first keeps it.
 #[derive(Clone, Copy, Debug, PartialEq, Eq, PartialOrd, Ord, Serialize)]
 #[serde(rename_all = "lowercase")]
 pub enum Kind {
@@ -52,7 +52,7 @@ pub enum Kind {
 }
 
 impl Kind {
-    /// Of a series' identity, with the bounds of a histogram.
+    /// The kind of an identity, with the bounds of a histogram.
     pub(in crate::sinks) fn identified(kind: Identified) -> (Kind, Option<Vec<i64>>) {
         match kind {
             Identified::Sum => (Kind::Sum, None),
@@ -86,15 +86,15 @@ impl Kind {
 #[derive(Clone, Debug, Default, PartialEq, Eq, Serialize)]
 pub struct Histogram {
     pub count: Exact,
-    /// How many of the points had no sum: the total is without theirs.
+    /// How many points had no sum. The total lacks theirs.
     pub points_without_sum: u64,
     pub bounds: Vec<i64>,
-    /// One more than bounds: the last is over all of them.
+    /// One more than bounds: the last is above all of them.
     pub buckets: Vec<Exact>,
 }
 
 impl SeriesTotal {
-    /// A series as its identity says, without what came of it.
+    /// The series of a key, with nothing counted.
     pub fn of_none(key: &SeriesKey) -> Result<SeriesTotal, NotForwarded> {
         let parts = key.parts()?;
         let (kind, bounds) = Kind::identified(parts.kind);
@@ -128,7 +128,7 @@ impl Filter {
     }
 }
 
-/// An attribute's value as an operator writes it: a text without its quotes.
+/// An attribute's value as an operator writes it: a string has no quotes.
 pub fn text(value: &Value) -> String {
     match value {
         Value::String(text) => text.clone(),
@@ -137,12 +137,12 @@ pub fn text(value: &Value) -> String {
     }
 }
 
-/// What came of a series in an hour (UTC).
+/// What a series counted in an hour of UTC.
 #[derive(Clone, Copy, Debug, PartialEq, Eq)]
 pub struct Hour {
     /// When it begins, in hours since 1970.
     pub hour: u64,
     pub total: Exact,
-    /// Of a histogram.
+    /// Only for histograms.
     pub count: Option<Exact>,
 }

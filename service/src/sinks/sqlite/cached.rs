@@ -1,13 +1,13 @@
-//! Statements that a connection prepares once.
+//! Runs statements that a connection prepares once.
 
 use rusqlite::{Connection, OptionalExtension, Params, Result, Row};
 
-/// How many rows it changed.
+/// Returns how many rows the statement changed.
 pub(super) fn run(connection: &Connection, statement: &str, values: impl Params) -> Result<usize> {
     connection.prepare_cached(statement)?.execute(values)
 }
 
-/// The first row, where there is one.
+/// The first row, if there is one.
 pub(super) fn find<T>(
     connection: &Connection,
     query: &str,
@@ -17,7 +17,7 @@ pub(super) fn find<T>(
     connection.prepare_cached(query)?.query_row(values, of).optional()
 }
 
-/// The row that there is.
+/// The first row. It is an error if there is none.
 pub(super) fn one<T>(
     connection: &Connection,
     query: &str,

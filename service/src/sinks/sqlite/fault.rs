@@ -1,4 +1,4 @@
-//! What can be wrong with the file, and what to do about it.
+//! Faults of the file, and what to do about them.
 
 use super::schema::KNOWN;
 use crate::sinks::sql::NotTaken;
@@ -13,9 +13,9 @@ pub(crate) enum Fault {
         found: i64,
     },
     Foreign,
-    /// It says all by itself.
+    /// The text says all.
     Another(String),
-    /// What may mend itself, as the next.
+    /// The fault may pass, as the next.
     Told(String),
     File(rusqlite::Error),
 }
@@ -25,12 +25,12 @@ impl Fault {
         Fault::Told(what.into())
     }
 
-    /// Whether it stays until somebody names another file or starts another version.
+    /// Whether the fault stays until somebody names another file or starts another version.
     pub(super) fn is_lasting(&self) -> bool {
         !matches!(self, Fault::Told(_) | Fault::File(_))
     }
 
-    /// Whether the connection, and what is cached of its file, may be used on.
+    /// Whether the connection, and what it has cached of the file, may still be used.
     pub(super) fn leaves_the_file_whole(&self) -> bool {
         matches!(self, Fault::File(error) if matches!(
             error.sqlite_error_code(),
@@ -38,7 +38,7 @@ impl Fault {
         ))
     }
 
-    /// It says of which file it is.
+    /// The error, with the file's name.
     pub(crate) fn at(self, path: &Path) -> anyhow::Error {
         let file = path.display();
         match self {
@@ -90,7 +90,7 @@ fn what(code: ErrorCode, path: &Path) -> Option<String> {
     Some(what.to_string())
 }
 
-/// A unit with `ProtectSystem=strict`, as the one that is shipped, may write its own folder alone.
+/// A unit with `ProtectSystem=strict`, such as the shipped one, may write only to its own folder.
 fn is_read_only(folder: &Path) -> bool {
     let found = nix::sys::statvfs::statvfs(folder);
     found.is_ok_and(|found| found.flags().contains(FsFlags::ST_RDONLY))
@@ -117,7 +117,7 @@ impl From<Fault> for NotTaken<Fault> {
 }
 
 impl From<rusqlite::Error> for NotTaken<Fault> {
-    /// Content that no SQLite takes is refused for good; all else may mend itself.
+    /// Content that no SQLite takes is refused for good. All else may pass.
     fn from(error: rusqlite::Error) -> NotTaken<Fault> {
         match error.sqlite_error_code() {
             Some(ErrorCode::TooBig) => NotTaken::Refused(format!("too long for SQLite: {error}")),
@@ -130,7 +130,7 @@ impl From<rusqlite::Error> for NotTaken<Fault> {
 mod tests {
     use super::*;
 
-    /// Where this is read-only, as in most containers.
+    /// Only if this folder is read-only, as in most containers.
     #[test]
     fn a_sealed_folder_is_told_with_what_opens_it() {
         let sealed = Path::new("/sys/fs/cgroup");

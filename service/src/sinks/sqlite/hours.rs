@@ -1,4 +1,4 @@
-//! The rows of hours, days and months: what the points of a request add to them.
+//! Adds the points of a request to the rows of hours, days and months.
 
 use super::cached;
 use super::series_row::SeriesIds;
@@ -10,12 +10,12 @@ use rusqlite::{params, Transaction};
 use std::collections::{BTreeMap, BTreeSet};
 use std::sync::LazyLock;
 
-/// The statements of a table of a row a series and time.
+/// The statements of a table with a row for each series and time.
 struct Table {
     buckets: String,
     add: String,
     adjust: String,
-    /// How a time is written.
+    /// Notes how a time is written.
     name: String,
 }
 
@@ -31,7 +31,7 @@ impl Table {
     }
 }
 
-/// Adds to a row of a table with this key, which has buckets where the key has a third column.
+/// Adds to a row with this key. If the key has a third column, the row has buckets.
 fn add(table: &str, key: &[&str]) -> String {
     let (more, values, set) = match key.get(2) {
         Some(third) => (
@@ -53,7 +53,7 @@ fn add(table: &str, key: &[&str]) -> String {
     )
 }
 
-/// Adds an adjustment (?3) of a series (?2), to a row that is made where nothing was counted.
+/// Adds an adjustment (?3) of a series (?2). The row is made if nothing was counted there.
 fn adjust_in(table: &str, time: &str, more: &str, values: &str) -> String {
     format!(
         "insert into {table} as old ({time}, metric, points, total_high, total_low, count_high, count_low{more}, adjustments)
@@ -72,19 +72,20 @@ static MONTH: LazyLock<Table> =
     LazyLock::new(|| Table::of("month", "date('1970-01-01', '+' || ?1 || ' months')"));
 static METRIC_HOUR: LazyLock<String> = LazyLock::new(|| add("metric_hours", &["hour", "metric"]));
 
-/// Of what came late: by its series, the hour to which it belongs, and that in which it counts.
+/// Late points: by series, the hour to which they belong, and the hour in which they count.
 const LATE_BUCKETS: &str = "select buckets from late_hours where series = ?1 and of_hour = ?2 and hour = ?3";
 static LATE: LazyLock<String> = LazyLock::new(|| add("late_hours", &["series", "of_hour", "hour"]));
 
-/// By time, metric and series; of what came late, by series, the hour to which it belongs and that in which it counts.
+/// By time, metric and series; for late points by series, the hour to which they belong, and the hour in which they
+/// count.
 type Rows = BTreeMap<(i64, i64, i64), Sums>;
 
-/// What points come to, by their hours.
+/// The sums of points, by hours.
 #[derive(Default)]
 pub(super) struct Hours {
     series: Rows,
     metrics: BTreeMap<(i64, i64), Sums>,
-    /// What of it belongs to hours that are closed.
+    /// The part that belongs to closed hours.
     late: Rows,
 }
 
@@ -103,7 +104,7 @@ impl Hours {
         hours
     }
 
-    /// Adds it to the rows that there are, but for times that are deleted: those that ended by this hour.
+    /// Adds it to the rows in the file, except for deleted times: those that ended by `hours_from`.
     pub(super) fn write(self, transaction: &Transaction, hours_from: i64) -> rusqlite::Result<()> {
         let days = grouped(&self.series, day_of);
         let months = grouped(&days, month_of);
@@ -121,7 +122,7 @@ impl Hours {
     }
 }
 
-/// By longer times.
+/// Adds up to longer times.
 fn grouped(rows: &Rows, longer: fn(i64) -> i64) -> Rows {
     let mut all = Rows::new();
     for ((time, metric, series), sums) in rows {
@@ -130,7 +131,7 @@ fn grouped(rows: &Rows, longer: fn(i64) -> i64) -> Rows {
     all
 }
 
-/// Of times from this one on.
+/// Writes the rows of times from `from` on.
 fn write(transaction: &Transaction, table: &Table, mut rows: Rows, from: i64) -> rusqlite::Result<()> {
     rows.retain(|(time, ..), _| *time >= from);
     let times: BTreeSet<i64> = rows.keys().map(|(time, ..)| *time).collect();
@@ -163,7 +164,7 @@ fn write_rows(transaction: &Transaction, found: &str, add: &str, rows: Rows) -> 
     Ok(())
 }
 
-/// Adds the buckets that a row has.
+/// Adds the buckets that the row has so far.
 fn add_found(transaction: &Transaction, found: &str, key: [i64; 3], sums: &mut Sums) -> rusqlite::Result<()> {
     if sums.buckets.is_none() {
         return Ok(());
@@ -174,7 +175,7 @@ fn add_found(transaction: &Transaction, found: &str, key: [i64; 3], sums: &mut S
     Ok(())
 }
 
-/// Adds an adjustment to an hour, its day and its month, whose rows are made where nothing was counted.
+/// Adds an adjustment to an hour, its day and its month. The rows are made if nothing was counted there.
 pub(super) fn adjust(transaction: &Transaction, series: i64, hour: i64, value: i64) -> rusqlite::Result<()> {
     let day = day_of(hour);
     for (table, time) in [(&HOUR, hour), (&DAY, day), (&MONTH, month_of(day))] {
@@ -185,7 +186,7 @@ pub(super) fn adjust(transaction: &Transaction, series: i64, hour: i64, value: i
     transaction.execute(&of_metric, [hour, series, value]).map(drop)
 }
 
-/// A request has too few points for more than two integers.
+/// The parts of total and count. A request has too few points for sums that need more than two integers.
 fn parts(sums: &Sums) -> [(i64, i64); 2] {
     parts_of(sums).unwrap_or_default()
 }

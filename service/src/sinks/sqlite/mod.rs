@@ -1,7 +1,7 @@
-//! A sink that is a SQLite file: a row a series, a row an interval, exact totals, each key once.
+//! A sink that is a SQLite file: a row for each series, a row for each interval, exact totals, and each key once.
 //!
-//! One thread has the connection, since calls of SQLite wait for the disk. It opens the file when it is needed and
-//! again after a fault, so whatever is wrong with the file is a reason to try again: no request is lost by it.
+//! One thread has the connection, since calls of SQLite wait for the disk. It opens the file when it has to, and again
+//! after a fault. Whatever is wrong with the file is a reason to retry, so no request is lost by it.
 
 mod cached;
 mod fault;
@@ -36,14 +36,14 @@ use store::{FileState, Store};
 use tokio::sync::oneshot;
 use upkeep::Upkeep;
 
-/// How often it is looked whether the log still is there, where nothing is written.
+/// How often the thread checks that the log is still there, while nothing is written.
 const LOOK: Duration = Duration::from_secs(1);
 /// How long other processes may have the file between two steps of its upkeep.
 const PAUSE: Duration = Duration::from_millis(10);
 
 pub struct SqliteSink {
     path: PathBuf,
-    /// There until this is dropped. A slot sends one request at a time, so no more wait than there are slots.
+    /// None once this is dropped. A shard sends one request at a time, so no more jobs wait than there are shards.
     jobs: Option<mpsc::Sender<Job>>,
     thread: Option<JoinHandle<()>>,
     keys: Keys,
@@ -53,8 +53,9 @@ pub struct SqliteSink {
 type Job = Box<dyn FnOnce(&mut Writer) + Send>;
 
 impl SqliteSink {
-    /// Opens the file, made where there is none. A file that can't be opened now is opened at a later delivery; one
-    /// that must not be written (of a later version, of another program, another than is remembered) is an error.
+    /// Opens the file, and makes it if there is none. A file that can't be opened now is opened at a later delivery.
+    /// One that must not be written (of a later version, of another program, or another than is remembered) is an
+    /// error.
     pub fn open(path: &Path, retention: Retention, memory: Arc<dyn Memory>) -> anyhow::Result<SqliteSink> {
         let owners = Arc::<Owners>::default();
         let mut writer = Writer {
@@ -89,7 +90,7 @@ impl SqliteSink {
         Box::pin(async { fate.await.unwrap_or_else(Fate::away) })
     }
 
-    /// What the thread answers.
+    /// Has the thread do a job, and returns its answer.
     async fn ask<T: Send + 'static>(
         &self,
         job: impl FnOnce(&mut Writer) -> T + Send + 'static,
@@ -150,18 +151,18 @@ impl Drop for SqliteSink {
     }
 }
 
-/// What the thread has.
+/// The state of the thread.
 struct Writer {
     path: PathBuf,
     store: Option<Store>,
     memory: Arc<dyn Memory>,
     owners: Arc<Owners>,
     upkeep: Upkeep,
-    /// Whether the file that was open was found replaced, and none was opened since.
+    /// Whether the open file was found replaced, and none was opened since.
     was_replaced: bool,
-    /// Whether it was said that a log can't be saved.
+    /// Whether the log says already that the content of a deleted -wal can't be saved.
     is_told: bool,
-    /// Whether the last step of the upkeep was done.
+    /// Whether the last step of the upkeep succeeded.
     is_kept: bool,
 }
 
@@ -179,8 +180,8 @@ impl Writer {
         Ok(self.store.insert(store))
     }
 
-    /// An open file, unless its rows would go where nobody reads them. What is only in a log that was deleted is copied
-    /// into the file first, and stays open until it can be.
+    /// Returns the open file, unless rows that are written to it would be lost. If its -wal was deleted, what only that
+    /// has is copied into the file first; until that succeeds the file stays open.
     fn sound(&mut self, store: Store) -> Result<Option<Store>, Fault> {
         let path = self.path.display();
         match store.file_state() {
@@ -207,8 +208,8 @@ impl Writer {
         Ok(None)
     }
 
-    /// Saves what a log has that was deleted. A file that is gone itself is made again only where there is something to
-    /// put into it: somebody may be moving it.
+    /// Saves the content of a deleted -wal. If the file itself is gone, a new one is made only when there is something
+    /// to write, since somebody may be moving the file.
     fn look(&mut self) {
         if !self.is(FileState::WithoutLog) {
             return;
@@ -221,8 +222,8 @@ impl Writer {
         self.is_told = self.is(FileState::WithoutLog);
     }
 
-    /// Until there is nobody any more who sends. Nobody waits where the service ends: the key says the next time that it
-    /// was taken.
+    /// Runs until nobody can send any more. If the service ends, nobody waits for the answer: the key says the next
+    /// time that the request was taken.
     fn run(&mut self, received: &mpsc::Receiver<Job>) {
         let (mut wait, mut before) = (LOOK, None);
         loop {
@@ -238,7 +239,7 @@ impl Writer {
         }
     }
 
-    /// A step of what is to be done beside deliveries, in a file that is open. Whether there is another.
+    /// Does a step of the upkeep if the file is open. Returns whether there is another step.
     fn keep_up(&mut self) -> bool {
         let is_to_go_on =
             |store: &&mut Store| self.upkeep.is_due() && store.file_state() == FileState::Intact;
@@ -273,12 +274,13 @@ impl Writer {
         self.store.as_ref().is_some_and(|store| store.file_state() == state)
     }
 
-    /// What became of one request, or of several, which are all taken or none of them.
+    /// Takes one request, or several, which are all taken or none of them.
     fn take(&mut self, all: &[Forwarded], sent: Sent) -> Fate {
         let Some(first) = all.first() else { return Fate::Taken };
         let owners = self.owners.of(first);
         match self.store().map_err(NotTaken::from).and_then(|store| store.take(all, sent, owners)) {
-            // It is written where nobody will read it: the key says what there is to be done.
+            // The rows went where nobody will read them. The request comes again, and its key shows whether it is
+            // there.
             Ok(_) if !self.is(FileState::Intact) => Fate::away(format!(
                 "{} or its -wal was deleted meanwhile: it is opened again",
                 self.path.display()
@@ -292,7 +294,7 @@ impl Writer {
         }
     }
 
-    /// Where the file is opened anew meanwhile nothing is known of what was asked for: it may be asked for again.
+    /// If the file is opened again meanwhile, the outcome is unknown, and the operator may ask again.
     fn settle(&mut self, who: &str, deed: &Deed) -> Told {
         match self.store().and_then(|store| store.settle(who, deed)) {
             Ok(_) if !self.is(FileState::Intact) => {

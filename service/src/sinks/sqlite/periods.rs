@@ -1,4 +1,4 @@
-//! Periods that are closed, and adjustments: what statements of both databases find in a file.
+//! Closed periods and adjustments in a file, by the statements of `sql/settle`.
 
 use super::fault::Fault;
 use super::hours;
@@ -10,7 +10,7 @@ use rusqlite::{params_from_iter, ToSql, Transaction};
 
 pub(super) struct Periods<'a>(pub(super) Transaction<'a>);
 
-/// What is closed, as a transaction sees it.
+/// What is closed, as the transaction sees it.
 pub(super) fn closed(transaction: &Transaction) -> Result<Closed, Fault> {
     Ok(closed_of(&rows(transaction, CLOSED, &[])?)?)
 }

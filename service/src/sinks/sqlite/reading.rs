@@ -1,4 +1,4 @@
-//! Reads a file, also while the service writes it.
+//! Reads a file, also while the service writes to it.
 
 use super::fault::Fault;
 use super::schema;
@@ -17,7 +17,7 @@ pub(in crate::sinks) struct Reader {
     connection: Connection,
 }
 
-/// None where nothing was written yet.
+/// None if nothing was written yet.
 pub(in crate::sinks) fn open(path: &Path) -> anyhow::Result<Option<Reader>> {
     let opened = || {
         let connection = connection(path)?;
@@ -52,7 +52,7 @@ impl sql::Reader for Reader {
         format!("x'{digits}'")
     }
 
-    /// A month or a day goes as a whole, once the last of its hours does.
+    /// A month or a day is deleted as a whole, with its last hour.
     fn has(&self, period: &Period, hours_from: i64) -> bool {
         let (day, first) = (day_of(period.from), day_of(hours_from));
         match period.is_month() {
@@ -77,8 +77,8 @@ fn text(value: ValueRef<'_>) -> Option<String> {
     }
 }
 
-/// A reader of a write-ahead log writes to a file beside it; who may not, and finds no log, reads the file as one that nobody
-/// writes.
+/// Opens the file for reading. A reader of a write-ahead log has to write to a file beside it. If it may not, and there
+/// is no log, it reads the file as one to which nobody writes.
 fn connection(path: &Path) -> Result<Connection, Fault> {
     if !path.is_file() {
         return Err(Fault::told("there is no such file: nothing was delivered to it yet"));

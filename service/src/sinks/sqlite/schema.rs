@@ -1,10 +1,10 @@
-//! The file's schema: one version of it, which a new file gets.
+//! The schema of the file. There is one version of it.
 
 use super::fault::Fault;
 use crate::sinks::sql::about;
 use rusqlite::{Connection, TransactionBehavior};
 
-/// Says, in the file's head, that it is one of ours: `totx`.
+/// Says in the file's header that the file is ours: `totx`.
 const APPLICATION: i64 = 0x746f_7478;
 
 /// The version that this program reads and writes.
@@ -14,7 +14,7 @@ const SCHEMA: &str = include_str!("schema.sql");
 
 /// Makes the tables and views of an empty file.
 pub(super) fn make(connection: &mut Connection) -> Result<(), Fault> {
-    // Another process may have done it since: the version is read anew, under the lock.
+    // Another process may have made them meanwhile, so the version is read again under the lock.
     let transaction = connection.transaction_with_behavior(TransactionBehavior::Immediate)?;
     if !check(&transaction)? {
         transaction.execute_batch(&schema())?;
@@ -25,7 +25,7 @@ pub(super) fn make(connection: &mut Connection) -> Result<(), Fault> {
     Ok(transaction.commit()?)
 }
 
-/// Writes down what its tables, views and columns are.
+/// Fills the table that says what tables, views and columns are.
 fn explain(connection: &Connection) -> rusqlite::Result<()> {
     let all = "select of.name, one.name from sqlite_schema of join pragma_table_info(of.name) one
         where of.type in ('table', 'view')";
@@ -40,8 +40,8 @@ fn explain(connection: &Connection) -> rusqlite::Result<()> {
     Ok(())
 }
 
-/// A total is two integers, `high * 1000000000000 + low`; it is shown as an integer, or as a text where no integer of SQLite
-/// holds it.
+/// The expression of a total, which is two integers, `high * 1000000000000 + low`. It is shown as an integer, or as a
+/// text if no integer of SQLite holds it.
 fn exact(high: &str, low: &str) -> String {
     format!(
         "case when {high} between -9223372 and 9223371 then {high} * 1000000000000 + {low} \
@@ -51,12 +51,12 @@ fn exact(high: &str, low: &str) -> String {
     )
 }
 
-/// The total and the count of a row.
+/// The expressions of the total and the count of a row.
 pub(super) fn totals() -> (String, String) {
     (exact("total_high", "total_low"), exact("count_high", "count_low"))
 }
 
-/// The statements that make it, with the columns of views that the file names alone.
+/// The statements that make the schema, with the columns that the file only names.
 fn schema() -> String {
     let (total, count) = totals();
     let low = "((total_low + adjustments) % 1000000000000 + 1000000000000) % 1000000000000";
@@ -75,12 +75,12 @@ fn schema() -> String {
         .replace("TOTAL", &format!("{total} as total"))
 }
 
-/// By which a file is told from others.
+/// The id that distinguishes the file from others.
 pub(super) fn id(connection: &Connection) -> rusqlite::Result<String> {
     connection.query_row("select id from sink", [], |row| row.get(0))
 }
 
-/// Whether a file is ours, of the version that is known; false where it is empty.
+/// Whether the file is ours, of the known version. False if it is empty.
 pub(super) fn check(connection: &Connection) -> Result<bool, Fault> {
     let number = |query: &str| connection.query_row(query, [], |row| row.get::<_, i64>(0));
     let version = number("pragma user_version")?;

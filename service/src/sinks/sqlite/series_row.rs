@@ -6,7 +6,7 @@ use crate::otlp::series::{Digest, SeriesKey};
 use crate::sinks::sql::totals::SeriesTotal;
 use rusqlite::{params, Connection, Transaction};
 
-/// The numbers of a series' row and of its metric's.
+/// The numbers of the row of a series and of its metric's row.
 #[derive(Clone, Copy, Debug, PartialEq, Eq)]
 pub(super) struct SeriesIds {
     pub(super) series: i64,
@@ -18,7 +18,7 @@ pub(super) fn find(connection: &Connection, series: &Digest) -> rusqlite::Result
     cached::find(connection, "select id from series where digest = ?1", [series], |row| row.get(0))
 }
 
-/// The rows of a series, which are made if there are none, and whether they were. Its sender is written down once it is known.
+/// The row numbers of a series, and whether its row was made now. Its sender is noted once it is known.
 pub(super) fn known(
     transaction: &Transaction,
     key: &SeriesKey,
@@ -28,7 +28,7 @@ pub(super) fn known(
     let (kind, is_monotonic) = (of.kind.name(), of.kind.is_monotonic());
     let bounds = list(of.histogram.as_ref().map_or(&[], |histogram| &histogram.bounds));
     let [attributes, resource, scope_attributes] = [&of.attributes, &of.resource, &of.scope_attributes]
-        .map(|object| serde_json::to_string(object).unwrap_or_default()); // each object is written
+        .map(|object| serde_json::to_string(object).unwrap_or_default()); // serialising a map of JSON does not fail
     let make = "insert into series (digest, identity, name, unit, kind, is_monotonic, bounds, attributes, resource, scope_name,
             scope_version, scope_attributes)
         values (?1, ?2, ?3, ?4, ?5, ?6, ?7, ?8, ?9, ?10, ?11, ?12) on conflict do nothing";
@@ -46,7 +46,7 @@ pub(super) fn known(
         of.scope_version,
         scope_attributes
     ];
-    // Most series that are looked for here are new: those of earlier requests are known.
+    // Most series that get here are new, since those of earlier requests are cached.
     let is_new = cached::run(transaction, make, row)? == 1;
     if is_new {
         let make = "insert into metrics (name, kind, is_monotonic, unit) values (?1, ?2, ?3, ?4)

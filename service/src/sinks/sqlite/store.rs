@@ -1,4 +1,4 @@
-//! The open file: one transaction a request, whole or not at all.
+//! The open file. A request is one transaction, whole or not at all.
 
 use super::cached;
 use super::fault::Fault;
@@ -24,28 +24,28 @@ use std::time::Duration;
 
 type NotTaken = sql::NotTaken<Fault>;
 
-/// How long another process may keep the lock before a delivery is given up for this time.
+/// How long a delivery waits for another process' lock before it is given up for now.
 const PATIENCE: Duration = Duration::from_secs(2);
-/// More than there are: each is prepared once.
+/// More than there are, so that each is prepared once.
 const STATEMENTS: usize = 64;
-/// How many series' row numbers are kept in memory; then they are read anew.
+/// How many series' row numbers are cached. After that they are read again.
 const CACHED: usize = 100_000;
 
 pub(super) struct Store {
     path: PathBuf,
     pub(super) connection: Connection,
-    /// Device and number of the file,
+    /// The device and the inode number of the file.
     place: (u64, u64),
-    /// and of those beside it that are there while it is open: its log, and what its readers share.
+    /// The same of the files beside it while it is open: its log, and the memory that its readers share.
     beside: [Option<(u64, u64)>; 2],
-    /// Row numbers of series. Only what is committed is in it.
+    /// The row numbers of series. Only what is committed is in it.
     series: HashMap<Digest, SeriesIds>,
-    /// It changes when another process has written.
+    /// SQLite changes it when another process has written.
     data_version: i64,
 }
 
 impl Store {
-    /// `admit` is asked with the file's id, and before one is made that has none.
+    /// `admit` is asked with the file's id, and without one before a file is made.
     pub(super) fn open(
         path: &Path,
         admit: &dyn Fn(Option<&str>) -> Result<(), String>,
@@ -60,7 +60,7 @@ impl Store {
         let mut connection = Connection::open_with_flags(path, flags)?;
         connection.busy_timeout(PATIENCE)?;
         connection.set_prepared_statement_cache_capacity(STATEMENTS);
-        // Before anything is changed: the file may be another program's.
+        // Before anything is changed, since the file may be another program's.
         let id = schema::check(&connection)?.then(|| schema::id(&connection)).transpose()?;
         admit(id.as_deref()).map_err(Fault::Another)?;
         let mode: String = connection.query_row("pragma journal_mode = wal", [], |row| row.get(0))?;
@@ -82,7 +82,7 @@ impl Store {
         })
     }
 
-    /// Whether the files of these names still are those that are open.
+    /// Whether the names still lead to the files that are open.
     pub(super) fn file_state(&self) -> FileState {
         match place(&self.path) == Some(self.place) {
             true if beside(&self.path) == self.beside => FileState::Intact,
@@ -91,12 +91,12 @@ impl Store {
         }
     }
 
-    /// Copies into the file what is in the log, which may have no name any more.
+    /// Copies the log into the file. The log may have no name any more.
     pub(super) fn copy_log(&self) -> Result<(), Fault> {
         copy_log(&self.connection)
     }
 
-    /// Takes one request, but for points that begin too early, which are left; or several whole.
+    /// Takes one request without points that begin too early, which are returned; or several whole.
     pub(super) fn take(
         &mut self,
         all: &[Forwarded],
@@ -112,7 +112,7 @@ impl Store {
         outcome.left()
     }
 
-    /// Closes or opens a period, or corrects.
+    /// Closes or reopens a period, or makes an adjustment.
     pub(super) fn settle(&mut self, who: &str, deed: &Deed) -> Result<Told, Fault> {
         let transaction = self.connection.transaction_with_behavior(TransactionBehavior::Immediate)?;
         let mut periods = Periods(transaction);
@@ -132,7 +132,7 @@ impl Store {
     }
 }
 
-/// What comes of calls of a file, which wait for nothing but for the disk.
+/// Runs a future that never waits: calls of SQLite block until they are done.
 fn at_once<T>(work: impl Future<Output = T>) -> T {
     match pin!(work).poll(&mut Context::from_waker(Waker::noop())) {
         Poll::Ready(done) => done,
@@ -140,27 +140,28 @@ fn at_once<T>(work: impl Future<Output = T>) -> T {
     }
 }
 
-/// Makes an empty file where there is none: SQLite's own would be as open as the umask leaves it. It is its owner's alone, but
-/// in a folder that hands its group on the group may read it. SQLite gives its log the rights of the file.
+/// Makes an empty file if there is none, since one that SQLite makes is as open as the umask leaves it. Only the owner
+/// may read it; but in a folder that passes its group on to new files, the group may too. SQLite gives its log the mode
+/// of the file.
 fn make_private(path: &Path) {
     let mut options = OpenOptions::new();
     let made = options.write(true).create_new(true).mode(0o600).open(path);
-    // What goes wrong here SQLite meets too, and says better.
+    // SQLite meets the same errors, and reports them better.
     if let (Ok(file), true) = (made, is_of_a_group(path)) {
         let _ = file.set_permissions(PermissionsExt::from_mode(0o640));
     }
 }
 
-/// Whether files in its folder are of the folder's group (setgid), which may look into it.
+/// Whether new files get the group of the folder (setgid), and the group may enter the folder.
 fn is_of_a_group(path: &Path) -> bool {
     const HANDS_ON_AND_LETS_IN: u32 = 0o2050;
     let folder = path.parent().and_then(|folder| folder.metadata().ok());
     folder.is_some_and(|folder| folder.permissions().mode() & HANDS_ON_AND_LETS_IN == HANDS_ON_AND_LETS_IN)
 }
 
-/// Copies the log into the file, and syncs it. What an earlier run wrote and did not sync, or could not sync, may be
-/// read and yet not be on the disk; a key that is read is acknowledged, and its request leaves the outbox. So nothing
-/// is believed before it was written anew.
+/// Copies the log into the file, and syncs it. What an earlier run wrote and did not sync may be read and yet not be on
+/// the disk. A key that is read is acknowledged, and its request leaves the outbox. So nothing is believed before it
+/// was written again.
 fn copy_log(connection: &Connection) -> Result<(), Fault> {
     let (busy, log, copied): (i64, i64, i64) =
         connection.query_row("pragma wal_checkpoint(full)", [], |row| {
@@ -173,13 +174,13 @@ fn copy_log(connection: &Connection) -> Result<(), Fault> {
     Ok(())
 }
 
-/// What is found where the open files were.
+/// What is found under the names of the open files.
 #[derive(Clone, Copy, Debug, PartialEq, Eq)]
 pub(super) enum FileState {
     Intact,
-    /// What is beside the file was deleted or replaced. Rows would go into a log that nobody reads.
+    /// A file beside the database was deleted or replaced. Rows would go into a log that nobody reads.
     WithoutLog,
-    /// The file itself was: rows would go into a file that has no name.
+    /// The database itself was. Rows would go into a file without a name.
     Gone,
 }
 

@@ -1,5 +1,5 @@
-//! What the file has behind each request; what goes wrong around it is in `trouble`, a request that is left in part in
-//! `service/tests/postgres/main.rs`.
+//! Tests what the file has after each request. Trouble around the file is in `trouble`; requests that are taken in part
+//! are tested in `service/tests/postgres/main.rs`.
 
 mod hours;
 mod periods;
@@ -88,7 +88,7 @@ impl Trial {
         }
     }
 
-    /// A step of the upkeep, in the file that is open.
+    /// Does a step of the upkeep, in the open file.
     fn step_at(&mut self, now: u64) -> rusqlite::Result<bool> {
         let store = self.writer.store.as_mut().expect("it is open");
         self.writer.upkeep.go_on(&mut store.connection, now)
@@ -148,7 +148,7 @@ fn a_key_is_taken_once() {
     assert_eq!(trial.totals(), only("a", -2, 2));
 }
 
-/// A number that was put aside is not taken because later ones were; nor is one of another slot or epoch.
+/// A number that was left out can still be taken after later ones, and another slot or epoch has numbers of its own.
 #[test]
 fn gaps_between_keys_stay_open() {
     let mut trial = Trial::new();
@@ -164,7 +164,7 @@ fn gaps_between_keys_stay_open() {
     assert_eq!(trial.totals(), [("a".into(), 15, 4), ("b".into(), 48, 2)]);
 }
 
-/// In order nothing begins before its series ends: what does may be there.
+/// In order, a point that begins before its series ends is not added: what it counts may be there.
 #[test]
 fn what_begins_before_its_series_ends_is_refused() {
     let mut trial = Trial::new();
@@ -178,7 +178,7 @@ fn what_begins_before_its_series_ends_is_refused() {
         trial.refused(number, sum("a", start, end, 9), why);
     }
     assert_eq!(trial.totals(), only("a", 2, 2));
-    // Those that were put aside, and are sent again.
+    // Dead letters that are sent again.
     trial.taken(3, sum("a", 200, 300, 1));
     trial.taken(2, sum("a", 50, 100, 1));
     trial.taken(5, sum("a", 400, 500, 1));
@@ -219,7 +219,7 @@ fn sums_past_64_bits_are_exact() {
     );
 }
 
-/// A total is an integer of SQLite as long as one holds it, and the views agree.
+/// A total is shown as an integer as long as SQLite has one of that size, and all views agree.
 #[test]
 fn views_carry_and_borrow() {
     let mut trial = Trial::new();
@@ -309,7 +309,7 @@ async fn a_sink_has_a_thread_that_ends_with_it() {
     for request in &bodies {
         assert_eq!(sink.deliver(request).await, Fate::Taken);
     }
-    // Others are not held up by one whose caller went away.
+    // A request whose caller went away does not hold up others.
     drop(sink.deliver(&bodies[0]));
     assert_eq!(sink.deliver(&bodies[1]).await, Fate::Taken);
     drop(sink);

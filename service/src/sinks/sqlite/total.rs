@@ -1,4 +1,4 @@
-//! The row of what a series has counted.
+//! The row of a series' total.
 
 use super::cached;
 use super::wide_integers::{list, numbers, of_parts, parts_of, Unsigned};
@@ -44,7 +44,7 @@ impl Total {
         self.sums.buckets.as_ref().map(Vec::len)
     }
 
-    /// With points, by their times, that come to this much.
+    /// The total after points were added. They are in the order of time, and these are their sums.
     pub(super) fn with(before: Option<&Total>, ends: Ends, points: &[ForwardedPoint], sums: &Sums) -> Total {
         let start = points.first().map_or(0, |point| point.start);
         let Some(before) = before else {
@@ -60,7 +60,7 @@ impl Total {
         Total { ends: Ends { life, floor: last, last }, ..self }
     }
 
-    /// Whether no two integers hold it.
+    /// Whether two integers can't hold it.
     pub(super) fn is_too_great(&self) -> bool {
         parts_of(&self.sums).is_none()
     }

@@ -1,5 +1,7 @@
-//! What is done beside deliveries: what is too old is deleted. It goes in steps, each a short transaction of its own that is right by itself: so a delivery waits for one step at most, and a
-//! kill behind any of them leaves a file that the next start goes on with.
+//! What is done beside deliveries: rows that are too old are deleted.
+//!
+//! Each step is a short transaction that is right by itself. So a delivery waits for one step at most, and after a kill
+//! the next start goes on.
 
 use super::cached;
 use super::wide_integers::Unsigned;
@@ -10,12 +12,12 @@ use std::time::{Duration, Instant};
 
 /// About how many rows a step changes: some milliseconds of work.
 const STEP: usize = 5000;
-/// How long until it is looked again whether something is too old.
+/// The pause before the next look whether something is too old.
 const EVERY: Duration = Duration::from_secs(10);
 
 pub(super) struct Upkeep {
     retention: Retention,
-    /// So many.
+    /// About how many rows a step changes.
     pub(super) step: usize,
     due: Instant,
 }
@@ -29,7 +31,8 @@ impl Upkeep {
         Instant::now() >= self.due
     }
 
-    /// One step, at this time in nanoseconds since 1970. Whether another is to follow; else it is due some time later.
+    /// Does one step. `now` is in nanoseconds since 1970. Returns whether another step is to follow; if not, the next
+    /// one is due some time later.
     pub(super) fn go_on(&mut self, connection: &mut Connection, now: u64) -> rusqlite::Result<bool> {
         let more =
             connection.transaction_with_behavior(TransactionBehavior::Immediate).and_then(|transaction| {
@@ -58,7 +61,7 @@ impl Upkeep {
     }
 }
 
-/// Deletes the intervals of requests all of whose intervals ended by then, which is so long ago. The requests' keys stay.
+/// Deletes the intervals of requests whose intervals all ended by `until`. The keys of the requests stay.
 fn intervals(transaction: &Transaction, until: u64, step: usize) -> rusqlite::Result<bool> {
     let mut next = transaction
         .prepare_cached("select id from requests where last_end_ns <= ?1 order by last_end_ns limit 1")?;
@@ -87,8 +90,8 @@ const BY_TIME: [&str; 5] = [
      (select series, of_hour, hour from late_hours where hour < ?1 limit ?2)",
 ];
 
-/// Deletes hours, days and months that ended by then: at first from the views, then their rows. The last hour stays: what
-/// ends before the horizon is left out, and by a clock that was ahead once all that comes would be.
+/// Deletes hours, days and months that ended by `until`: first from the views, then their rows. The last hour stays:
+/// after a clock was ahead once, the horizon would otherwise hide all that comes until then.
 fn hours(transaction: &Transaction, until: u64, step: usize) -> rusqlite::Result<bool> {
     let so_far = hours_from(transaction)?;
     let last: Option<i64> = transaction.query_row("select max(hour) from hours", [], |row| row.get(0))?;
@@ -114,8 +117,8 @@ fn hours(transaction: &Transaction, until: u64, step: usize) -> rusqlite::Result
     Ok(false)
 }
 
-/// By a clock that was ahead once the horizon is in the time to come, and the views would have nothing that is right until
-/// then. The next month is whole: nothing of it came, but by such a clock.
+/// After a clock was ahead once, the horizon is in the future, and until then the views would show nothing that is
+/// right. It is moved back to the next month, which is whole: only such a clock could have counted in it.
 fn come_back(transaction: &Transaction, now: u64) -> rusqlite::Result<()> {
     let next = after_month((now / HOUR_NS) as i64);
     match hours_from(transaction)? <= next {
@@ -133,7 +136,8 @@ fn set_hours_from(transaction: &Transaction, hour: i64) -> rusqlite::Result<()> 
     cached::run(transaction, "update horizon set hours_from = ?1", [hour]).map(drop)
 }
 
-/// What came late, and adjustments, count in an hour by the clock, so that one says nothing about it.
+/// The hour in which the last interval ends. Late points and adjustments count in an hour by the clock, so they say
+/// nothing of it.
 fn last_hour_of_intervals(transaction: &Transaction) -> rusqlite::Result<i64> {
     let last = "select max(last_end_ns) from series_totals";
     let last: Option<Unsigned> = transaction.query_row(last, [], |row| row.get(0))?;

@@ -1,12 +1,12 @@
-//! Whole numbers past SQLite's own: 64 bits without sign, and totals of 128 bits; and lists of numbers.
+//! Whole numbers that SQLite's own can't hold: 64 bits without sign, and totals of 128 bits. Also lists of numbers.
 
 use crate::sinks::sql::Sums;
 use rusqlite::types::{FromSql, FromSqlError, FromSqlResult, ToSql, ToSqlOutput, Type, ValueRef};
 use rusqlite::Row;
 use serde::Serialize;
 
-/// A number of 64 bits without sign. From 2^63 on it is a text of 20 digits: SQLite sorts texts behind integers, so
-/// the order of such a column is that of the numbers.
+/// A number of 64 bits without sign. From 2^63 on it is stored as a text of 20 digits. SQLite sorts texts after
+/// integers, so such a column has the order of the numbers.
 #[derive(Clone, Copy, Debug, PartialEq, Eq, PartialOrd, Ord)]
 pub(super) struct Unsigned(pub u64);
 
@@ -33,8 +33,8 @@ impl FromSql for Unsigned {
 
 const BASE: i128 = 1_000_000_000_000;
 
-/// A total as two integers, high and low: total = high * 10^12 + low, 0 <= low < 10^12. So a query adds up both parts of a
-/// million rows and more without a carry. `None` from about 9 * 10^30 on.
+/// A total as two integers, high and low: total = high * 10^12 + low, 0 <= low < 10^12. So a query can add up both
+/// parts of a million rows and more without a carry. None from about 9 * 10^30 on.
 pub(super) fn parts(total: i128) -> Option<(i64, i64)> {
     let high = i64::try_from(total.div_euclid(BASE)).ok()?;
     let low = i64::try_from(total.rem_euclid(BASE)).ok()?;
@@ -45,12 +45,12 @@ pub(super) fn of_parts(high: i64, low: i64) -> i128 {
     i128::from(high) * BASE + i128::from(low)
 }
 
-/// Of total and count; none where one of them is too great for two integers.
+/// The parts of total and count. None if one of them is too great for two integers.
 pub(super) fn parts_of(sums: &Sums) -> Option<[(i64, i64); 2]> {
     Some([parts(sums.total)?, parts(sums.count)?])
 }
 
-/// A list of numbers, a JSON array; none where it is null.
+/// A list of numbers, from a JSON array. None if it is null.
 pub(super) fn numbers(row: &Row, column: usize) -> rusqlite::Result<Option<Vec<i128>>> {
     let text: Option<String> = row.get(column)?;
     let odd = |error| rusqlite::Error::FromSqlConversionFailure(column, Type::Text, Box::new(error));
@@ -59,7 +59,7 @@ pub(super) fn numbers(row: &Row, column: usize) -> rusqlite::Result<Option<Vec<i
 
 /// Numbers as a JSON array.
 pub(super) fn list(numbers: &[impl Serialize]) -> String {
-    serde_json::to_string(numbers).unwrap_or_default() // numbers are always written
+    serde_json::to_string(numbers).unwrap_or_default() // serialising numbers does not fail
 }
 
 #[cfg(test)]

@@ -1,4 +1,4 @@
-//! A transaction of the file while it takes requests.
+//! A transaction of the file that takes requests.
 
 use super::cached;
 use super::fault::Fault;
@@ -24,7 +24,7 @@ pub(super) struct Writing<'a> {
     pub(super) transaction: Transaction<'a>,
     pub(super) owners: Option<Arc<dyn KnowsOwners>>,
     pub(super) known: &'a HashMap<Digest, SeriesIds>,
-    /// Of no use to others until it is committed.
+    /// The row numbers of series that this transaction has looked up. Others may use them after the commit.
     pub(super) new: HashMap<Digest, SeriesIds>,
 }
 
@@ -130,7 +130,7 @@ impl sql::Transaction for Writing<'_> {
 }
 
 impl Row {
-    /// The numbers of its rows: of its metric, and its own.
+    /// The numbers of the series' row and of its metric's.
     pub(super) fn ids(&self) -> SeriesIds {
         self.ids
     }
@@ -141,7 +141,7 @@ impl Writing<'_> {
         self.transaction.commit().map(|()| self.new)
     }
 
-    /// The digest, and what was left out, of a request that is there.
+    /// Reads the digest and the left-out points of a request that is there.
     fn find<T>(
         &self,
         request: &Forwarded,
@@ -156,7 +156,7 @@ impl Writing<'_> {
         )
     }
 
-    /// The life of a request's slot and epoch, begun by the first request of them.
+    /// The life of a request's shard and epoch. Their first request begins it.
     fn life(&self, request: &Forwarded) -> rusqlite::Result<i64> {
         let key = params![request.slot, request.epoch];
         let query = "select id from lives where slot = ?1 and epoch = ?2";
@@ -185,14 +185,14 @@ impl Writing<'_> {
             true => None,
             false => Total::read(&self.transaction, ids.series)?,
         };
-        // One whose sender is not known is looked up again, until it is.
+        // A series whose sender is not known is looked up each time, until it is known.
         if sender.is_some() {
             self.new.insert(of.digest, ids);
         }
         Ok(Stored { ends: total.as_ref().map(Total::ends), row: Row { ids, total }, buckets })
     }
 
-    /// Times are told from the first start of their request, so that they are short.
+    /// Times are stored relative to the first start of their request, so that they are short.
     fn intervals(&self, place: &Place, all: &[Adding<'_, Row>]) -> rusqlite::Result<()> {
         let mut times: BTreeMap<i64, (u64, u64)> = BTreeMap::new();
         for point in all.iter().flat_map(|adding| &adding.of.points) {

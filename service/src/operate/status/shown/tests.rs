@@ -1,3 +1,5 @@
+//! Tests the words of a status.
+
 use super::*;
 use crate::files::Held;
 use crate::metrics::RoundedSeries;
@@ -33,7 +35,7 @@ fn section(status: &Status, title: &str) -> Section {
     found.unwrap_or_else(|| panic!("there is no {title}"))
 }
 
-/// What is to be known of what waits.
+/// The notes on what waits.
 fn notes(status: &Status) -> Vec<String> {
     section(status, "What waits").notes
 }
@@ -67,7 +69,7 @@ fn what_is_not_there_is_not_spoken_of() {
     assert_eq!(limits.rows[1], ["memory of the book", "1.0 MiB", "1.0 GiB", "0 %", "--max-memory"]);
 }
 
-/// As over a store, in which a sender has all slots.
+/// A sender is quarantined in each shard of a store.
 #[test]
 fn who_is_quarantined_in_several_slots_is_shown_once() {
     let told = |senders: &str| format!("quarantined: {senders}; `totxegun release NAME` once it is repaired");
@@ -207,7 +209,7 @@ fn instances_databases_and_slots_are_shown() {
     assert_eq!(slots[0], ["0", "a", "1,234", "0", "0", "5", "", ""]);
     let unknown = "nothing is known of it: no instance has it";
     assert_eq!(slots[1], ["7", "nobody", "1,234", "?", "?", "?", "", unknown]);
-    // One that is being filled, where those of others are taken.
+    // A shard that is recovering while posts of other shards are taken.
     told.slots[0].unavailable = Some("recovering".into());
     assert_eq!(section(&told, "Slots").rows[0][7], "posts get 503: recovering");
     told.unavailable = Some("recovering".into());

@@ -1,9 +1,10 @@
-//! The partitions of `interval_rows`: each has the intervals that end in one day of UTC; one that ends at midnight, in the day before.
+//! The partitions of `interval_rows`: each has the intervals that end in one day of UTC. One that ends at midnight is in
+//! the day before.
 
 use tokio_postgres::{Client, Error, GenericClient};
 
-/// The days without one: behind the last that has one, but for those that are long ago, until three days ahead. What a clock
-/// that was ahead has made beyond is no such last one.
+/// The days without a partition: from the day after the last that has one, at most 40 days ago, until three days ahead.
+/// Partitions beyond that, which a clock that was ahead has made, do not count.
 const MISSING: &str = "with known as (
         select max(to_date(right(relname, 8), 'YYYYMMDD')) as last, (now() at time zone 'UTC')::date as today
         from pg_class join pg_namespace on pg_namespace.oid = relnamespace
@@ -16,10 +17,10 @@ const MISSING: &str = "with known as (
 /// In nanoseconds.
 const DAY: i64 = 86_400_000_000_000;
 
-/// The most intervals that are moved into a day that is made behind them.
+/// The most intervals that are moved into a partition that is made after them.
 const MOVED: i64 = 100_000;
 
-/// The hours and days that were written last: pages that no index has yet are read by each look for a time.
+/// Updates the index of the hours and days that were written last: a query by time reads all pages that are not in it.
 const SUMMARIZE: &str = "select brin_summarize_new_values(indexrelid) from pg_index
     join pg_class as one on one.oid = indexrelid join pg_am on pg_am.oid = one.relam
     join pg_namespace on pg_namespace.oid = one.relnamespace where nspname = 'totxegun' and amname = 'brin'";
@@ -31,7 +32,8 @@ pub(in super::super) async fn make(client: &mut impl GenericClient) -> Result<()
     Ok(())
 }
 
-/// Intervals of the day that came before are moved into it. A day of which there are too many stays among the others.
+/// Makes a partition, and moves the day's intervals into it. If there are too many, they stay among the others, and the
+/// day gets no partition.
 async fn make_one(client: &mut impl GenericClient, day: &str, from: i64) -> Result<(), Error> {
     let (to, name) = (from + DAY, format!("totxegun.interval_{day}"));
     let of_day = format!("totxegun.interval_other where end_ns >= {from} and end_ns < {to}");

@@ -1,4 +1,4 @@
-//! Intervals that ended too long ago. Days go as a whole, so an interval is kept up to a day longer.
+//! Deletes intervals that ended too long ago. Days are dropped as a whole, so an interval is kept up to a day longer.
 
 use super::STEP;
 use std::time::Duration;

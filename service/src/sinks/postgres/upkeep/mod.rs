@@ -1,8 +1,8 @@
-//! What is done beside deliveries, by a connection of its own, one service of a database at a time: days are made ahead,
-//! and what is kept no longer is deleted.
+//! What is done beside deliveries, by a connection of its own and by one service of a database at a time: days are made
+//! ahead, and what is not kept any longer is deleted.
 //!
-//! Each step is a short transaction, and waits for locks no longer than a second; so a delivery that waits behind it
-//! waits no longer either. A kill between two steps leaves what the next round goes on with.
+//! Each step is a short transaction that waits for locks at most a second, so a delivery that waits for a step waits no
+//! longer either. After a kill between two steps, the next round goes on.
 
 pub(super) mod days;
 mod hours;
@@ -20,28 +20,28 @@ use std::time::Duration;
 use tokio::sync::oneshot;
 use tokio_postgres::{Client, Error};
 
-/// A start delivers first.
+/// The wait before the first round, since a start delivers first.
 const FIRST: Duration = Duration::from_secs(1);
 /// From the end of one round to the next.
 const PAUSE: Duration = Duration::from_secs(60);
 
-/// A statement may take longer than one of a delivery: nothing waits for it, but for the locks of a step.
+/// A statement may take longer here than in a delivery: nothing waits for it, except for the locks of a step.
 const SETTINGS: &str = "set lock_timeout = '1s'; set statement_timeout = '5min'";
 
-/// `totxegun` and one more, as the number of an advisory lock.
+/// The number of an advisory lock: `totxegun` plus one.
 const LOCK: i64 = schema::LOCK + 1;
 
-/// The rows of one step.
+/// The rows that a step changes at most.
 const STEP: i64 = 10_000;
 
-/// A thread that goes on until this is dropped.
+/// A thread that works until this is dropped.
 pub(super) struct Upkeep {
     stop: Option<oneshot::Sender<()>>,
     thread: Option<JoinHandle<()>>,
 }
 
 impl Upkeep {
-    /// It touches nothing before `was_there` says that the sink is the one that is remembered.
+    /// Nothing is changed before `was_there` says that the sink is the one that is remembered.
     pub(super) fn start(
         server: Server,
         retention: Retention,
@@ -62,7 +62,7 @@ impl Upkeep {
 }
 
 impl Drop for Upkeep {
-    /// A step that is under way is undone by the server, once it sees that its client is gone.
+    /// The server undoes a step that is under way, once it sees that its client is gone.
     fn drop(&mut self) {
         drop(self.stop.take());
         let _ = self.thread.take().map(JoinHandle::join);
@@ -86,7 +86,7 @@ async fn rounds(server: &Server, retention: Retention, memory: &dyn Memory, was_
     }
 }
 
-/// Whatever fails, the others are tried: a lock that somebody keeps holds up one of them.
+/// If one fails, the others are still tried: a lock that somebody keeps holds up only one of them.
 async fn round(server: &Server, retention: Retention, memory: &dyn Memory) -> Result<(), Fault> {
     let (mut client, _connection) = session::connect(server).await?;
     if !schema::check(&client).await? || !is_ours(&client, memory).await? {
@@ -102,7 +102,7 @@ async fn round(server: &Server, retention: Retention, memory: &dyn Memory) -> Re
     Ok(all.into_iter().collect::<Result<(), Error>>()?)
 }
 
-/// Whether this is the sink that is remembered, and no other service does the same. The lock ends with the connection.
+/// Whether this is the sink that is remembered, and no other service does this work. The lock ends with the connection.
 async fn is_ours(client: &Client, memory: &dyn Memory) -> Result<bool, Error> {
     client.batch_execute(SETTINGS).await?;
     let id = client.query_one("select id from totxegun.sink", &[]).await?;

@@ -1,4 +1,4 @@
-//! The role `totxegun_read`, which may read all.
+//! The role `totxegun_read`, which may read everything.
 
 use crate::sinks::postgres::Server;
 use std::sync::Once;
@@ -7,15 +7,15 @@ use tokio_postgres::{Client, Error};
 
 const MAKE: &str = "create role totxegun_read nologin";
 
-/// What it may read, also of tables to come.
+/// What the role may read, with tables to come.
 const GRANT: &str = "grant usage on schema totxegun to totxegun_read;
     grant select on all tables in schema totxegun to totxegun_read;
     alter default privileges in schema totxegun grant select on tables to totxegun_read";
 
-/// This run has said what to type.
+/// So that a run says only once what to type.
 static TOLD: Once = Once::new();
 
-/// Makes the role where there is none and we may; lets it in where it is not.
+/// Makes the role if there is none and this service may, and grants it what it lacks.
 pub(super) async fn let_in(client: &Client, server: &Server) -> Result<(), Error> {
     let query = "select exists (select from pg_roles where rolname = 'totxegun_read'),
             exists (select from pg_roles where rolname = 'totxegun_read' and has_schema_privilege(oid, 'totxegun', 'usage'))";
@@ -40,7 +40,7 @@ async fn make(client: &Client, server: &Server) -> Result<(), Error> {
             });
             Ok(())
         }
-        // Made by the service of another database meanwhile.
+        // The service of another database made it meanwhile.
         Err(error) if error.code() == Some(&SqlState::DUPLICATE_OBJECT) => Ok(()),
         Err(error) => Err(error),
     }

@@ -1,11 +1,11 @@
-//! Hours, days and months are the sums of intervals: in the file, and as its views say them.
+//! Tests that hours, days and months are the sums of intervals, in the file and in its views.
 
 use super::super::wide_integers::Unsigned;
 use super::*;
 use rusqlite::Connection;
 use std::collections::BTreeMap;
 
-/// Of a time and series: points, total, count, buckets; the last two of a histogram.
+/// By time and series: points, total, count and buckets; only histograms have the last two.
 pub(super) type Rows = BTreeMap<(String, i64), (i64, String, Option<String>, Option<String>)>;
 
 const FORMATS: [(&str, &str); 3] = [("hour", "%Y-%m-%d %H:00Z"), ("day", "%Y-%m-%d"), ("month", "%Y-%m-01")];
@@ -31,7 +31,7 @@ struct Span {
     buckets: Option<Vec<i128>>,
 }
 
-/// Each span, with how SQLite writes the times in which it counts.
+/// Each interval, with the times in which it counts as SQLite writes them.
 fn spans(trial: &Trial) -> Vec<Span> {
     let file = Connection::open(trial.path()).expect("a file");
     let mut query = file
@@ -66,7 +66,7 @@ fn spans(trial: &Trial) -> Vec<Span> {
         .expect("spans")
 }
 
-/// Plain sums of the spans that are in the file.
+/// Plain sums of the intervals in the file.
 pub(super) fn sums(trial: &Trial, unit: usize) -> Rows {
     type Sums = (i64, i128, Option<i128>, Option<Vec<i128>>);
     let mut all: BTreeMap<(String, i64), Sums> = BTreeMap::new();
@@ -89,7 +89,7 @@ pub(super) fn sums(trial: &Trial, unit: usize) -> Rows {
         .collect()
 }
 
-/// What the view of a unit has.
+/// The rows of a unit's view.
 pub(super) fn view(trial: &Trial, unit: &str) -> Rows {
     let file = Connection::open(trial.path()).expect("a file");
     let query = format!(
@@ -105,7 +105,7 @@ pub(super) fn view(trial: &Trial, unit: &str) -> Rows {
         .expect("rows")
 }
 
-/// Points, total and count of each hour and name, added up.
+/// Points, total and count by hour and name.
 fn names(trial: &Trial, view: &str) -> BTreeMap<(String, String), (i64, i128, i128)> {
     let file = Connection::open(trial.path()).expect("a file");
     let query = format!(
@@ -137,8 +137,8 @@ pub(super) fn agree(trial: &Trial) {
     }
 }
 
-/// Around the end of a month, of a leap day and of a year, in and out of order, with ends at full hours: a point of each
-/// of some series.
+/// A point for each of some series, around the end of a month, of a leap day and of a year, in and out of order, some
+/// with ends at full hours.
 fn random_points(random: &mut Random) -> Vec<String> {
     const MIDNIGHTS: [u64; 4] = [1_793_491_200, 1_709_164_800, 1_709_251_200, 1_798_761_600];
     let mut points = Vec::new();
@@ -167,7 +167,7 @@ fn random_points(random: &mut Random) -> Vec<String> {
     points
 }
 
-/// Without its reason, which is another one where it was given before.
+/// The fate without its reason, which differs if it was given before.
 fn bare(fate: Fate) -> Fate {
     match fate {
         Fate::TakenPartly { rejected, left, .. } => {
@@ -186,7 +186,7 @@ fn hours_days_and_months_are_the_sums_of_intervals() {
         let mut taken = 0;
         trial.taken(1000, metrics(&sum_of("first", &[])));
         for number in 1..=60 {
-            // Most come as if they had been put aside, in any order of their times.
+            // Most are sent as dead letters, in any order of their times.
             let number = if random.below(8) == 0 { 1000 + number } else { number };
             let points = random_points(&mut random);
             if points.is_empty() {
@@ -207,12 +207,12 @@ fn hours_days_and_months_are_the_sums_of_intervals() {
     }
 }
 
-/// What a calendar says.
+/// The expected times are those of a calendar.
 #[test]
 fn a_span_counts_where_it_ends() {
     let mut trial = Trial::new();
-    // 2017-01-01 00:00, before which a second was inserted that times since 1970 don't count; 2024-02-29 00:00, 2026-11-01 00:00,
-    // 2027-01-01 00:00, 2100-03-01 00:00.
+    // 2017-01-01 00:00, before which there was a leap second, which times since 1970 don't count; 2024-02-29 00:00,
+    // 2026-11-01 00:00, 2027-01-01 00:00 and 2100-03-01 00:00.
     let midnights = [1_483_228_800, 1_709_164_800, 1_793_491_200, 1_798_761_600, 4_107_542_400]
         .map(|at: u64| at * 1_000_000_000);
     for (number, midnight) in (1..).zip(midnights) {
@@ -279,7 +279,7 @@ fn each_table_view_and_column_says_what_it_is() {
     assert_eq!(trial.ask(&format!("{said} except {unsaid}")), "");
 }
 
-/// Of series that differ in the type of an attribute; one has more than 64 bits hold.
+/// The series differ in the type of an attribute, and one has more than 64 bits hold.
 #[test]
 fn the_hours_of_one_series_are_read() {
     const HOUR: u64 = 3_600_000_000_000;

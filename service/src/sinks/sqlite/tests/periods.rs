@@ -1,5 +1,5 @@
-//! A close, and what follows it, over kills. What counts where is tried for both sinks in
-//! `service/tests/postgres/periods.rs`.
+//! Tests closing a period, and what follows, with kills in between. In which hour what counts is tested for both sinks
+//! in `service/tests/postgres/periods.rs`.
 
 use super::*;
 use crate::sinks::periods::{Adjustment, Which};
@@ -44,12 +44,12 @@ fn steps(trial: &mut Trial) {
     trial.done(adjustment("2024-03-01T00", 3));
     trial.taken(6, histogram("h", OLD, OLD + 9, Some(5), [1, 2, 3]));
     trial.done(Deed::Open(leap_day()));
-    // As one that was put aside.
+    // Sent as a dead letter.
     trial.taken(5, sum("a", OLD + 9, OLD + 10, 13));
     trial.done(Deed::Close("2024-02-28".parse().expect("a day")));
 }
 
-/// All but when it was done.
+/// All rows, without the times at which they were made.
 fn found(trial: &Trial) -> String {
     let tables = [
         "hours",
@@ -67,7 +67,8 @@ fn found(trial: &Trial) -> String {
     trial.ask(&format!("{rows} {closed} {adjustments}"))
 }
 
-/// The file as it lies there when its log ends behind any commit: all that is asked for again comes to the same.
+/// Opens the file as it is on disk after each of the log's commits, and repeats all requests: the result has to be the
+/// same.
 fn tried() -> bool {
     let hour = now();
     let mut trial = Trial::new();
@@ -101,7 +102,7 @@ fn a_kill_at_any_point_leaves_a_deed_whole_or_not_at_all() {
     while !tried() {}
 }
 
-/// Where the transactions of a log end: what is behind the last one that is whole is not there for SQLite.
+/// Where the transactions of a log end. SQLite ignores what follows the last whole one.
 fn commits(log: &[u8]) -> Vec<usize> {
     let frame = 24 + 4096;
     let is_commit = |end: &usize| log[end - frame + 4..end - frame + 8] != [0; 4];
@@ -128,7 +129,7 @@ fn what_came_late_is_in_one_hour_and_says_whose_it_is() {
     }
 }
 
-/// Else it is said to be done, and is on no bill: that hour is in no view for long, nor is its month.
+/// Otherwise an adjustment would be confirmed and be on no bill: its hour is in no view any more, nor is its month.
 #[test]
 fn an_hour_that_is_deleted_is_adjusted_only_while_it_is_closed() {
     let mut trial = Trial::new();
@@ -148,7 +149,7 @@ fn an_hour_that_is_deleted_is_adjusted_only_while_it_is_closed() {
     for view in ["hour", "day", "month"] {
         assert_eq!(trial.ask(&format!("{of_all}{view}")), "2|7|0", "{view}");
     }
-    // What is closed is adjusted where that counts.
+    // A closed hour is adjusted in the hour in which it counts.
     trial.done(Deed::Close(day()));
     trial.done(adjust());
     for view in ["hour", "day", "month"] {
@@ -156,7 +157,7 @@ fn an_hour_that_is_deleted_is_adjusted_only_while_it_is_closed() {
     }
 }
 
-/// As by a clock that was ahead once: what came late then counts far behind all intervals.
+/// As after a clock was ahead once: late points then count in an hour long after all intervals.
 #[test]
 fn what_came_late_is_no_reason_to_leave_out_what_comes() {
     let mut trial = Trial::new();
@@ -172,7 +173,7 @@ fn what_came_late_is_no_reason_to_leave_out_what_comes() {
     }
 }
 
-/// Its rows go one after another.
+/// The rows of the hour are deleted one after another.
 #[test]
 fn what_came_late_in_an_hour_that_is_being_deleted_is_there_whole_or_not_at_all() {
     let mut trial = Trial::new();
@@ -193,7 +194,7 @@ fn what_came_late_in_an_hour_that_is_being_deleted_is_there_whole_or_not_at_all(
     assert!(["10", "3", "0"].iter().all(|number| rows.iter().any(|found| found == number)), "{rows:?}");
 }
 
-/// Of totals that no integer of SQLite holds.
+/// For totals that no integer of SQLite holds.
 #[test]
 fn what_is_billed_is_exact() {
     let mut trial = Trial::new();

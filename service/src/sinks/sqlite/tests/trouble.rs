@@ -1,4 +1,4 @@
-//! What goes wrong around the file: nothing is lost by it, and its reason is told.
+//! Tests trouble around the file: nothing is lost, and the reason is reported.
 
 use super::*;
 use rusqlite::Connection;
@@ -17,7 +17,7 @@ fn a_transaction_that_was_cut_is_not_there() {
     drop(other);
     trial.taken(2, sum("a", 20, 30, 2));
     assert_eq!(trial.totals(), only("a", 3, 2));
-    // Killed behind the log's last commit: its files as they lie there, opened by another process.
+    // As if killed after the log's last commit: another process opens the files as they are on disk.
     let copy = tempfile::tempdir().expect("a folder");
     for name in ["totals.db", "totals.db-wal"] {
         std::fs::copy(trial.folder.path().join(name), copy.path().join(name)).expect("a copy");
@@ -43,7 +43,7 @@ fn a_lock_is_waited_for() {
     assert_eq!(trial.totals(), [("a".into(), 1, 1), ("new".into(), 2, 1)]);
 }
 
-/// What is to be deleted is deleted later, and deliveries go on.
+/// Deletions wait, and deliveries go on.
 #[test]
 fn a_lock_holds_up_the_upkeep_alone() {
     let mut trial = Trial::new();
@@ -63,7 +63,7 @@ fn a_lock_holds_up_the_upkeep_alone() {
     assert_eq!(trial.totals(), only("a", 3, 2));
 }
 
-/// A row number that is kept in memory is not believed behind another process's write.
+/// A cached row number is not used after another process has written.
 #[test]
 fn another_writer_is_noticed() {
     let mut trial = Trial::new();
@@ -84,7 +84,7 @@ fn a_file_that_is_moved_is_not_written_on() {
     assert_eq!(trial.totals(), only("a", 2, 1));
 }
 
-/// Else it would go into a log without a name, and be lost with the process.
+/// Otherwise rows would go into a log without a name, and be lost with the process.
 #[test]
 fn a_log_that_is_deleted_loses_nothing() {
     for (gone, is_written) in
@@ -99,7 +99,7 @@ fn a_log_that_is_deleted_loses_nothing() {
             true => trial.taken(2, sum("a", 20, 30, 2)),
             false => trial.writer.look(),
         }
-        // Killed behind it: its files as they lie there, opened by another process.
+        // As if killed after that: another process opens the files as they are on disk.
         let copy = tempfile::tempdir().expect("a folder");
         for name in ["totals.db", "totals.db-wal"] {
             std::fs::copy(trial.folder.path().join(name), copy.path().join(name)).expect("a copy");
@@ -120,7 +120,7 @@ fn a_missing_folder_is_told_and_waited_for() {
     trial.taken(1, sum("a", 10, 20, 1));
 }
 
-/// Root writes everywhere, so only the file's kind can stop it.
+/// Root may write everything, so only the kind of the file can prevent it.
 #[test]
 fn what_can_not_be_written_is_told_and_waited_for() {
     let mut trial = Trial::new();
@@ -210,7 +210,7 @@ fn another_schema_is_refused_by_name_and_left_alone() {
     trial.taken(2, sum("a", 20, 30, 2));
 }
 
-/// A reader of what was there before stops the copy of the log, and so that the log is believed.
+/// A reader that still sees an earlier state prevents the copying of the log, so the log is not believed.
 #[test]
 fn a_long_reader_is_told_and_waited_for() {
     let mut trial = Trial::new();
@@ -226,7 +226,7 @@ fn a_long_reader_is_told_and_waited_for() {
     assert_eq!(trial.totals(), only("a", 7, 3));
 }
 
-/// It says what was counted of whom; its folder may be open to others, where it is not the service's own.
+/// The file says who counted what, and its folder may be open to others if it is not the service's own.
 #[test]
 fn a_file_that_is_made_is_its_owners_alone() {
     let mut trial = Trial::new();
@@ -238,7 +238,7 @@ fn a_file_that_is_made_is_its_owners_alone() {
     for name in ["totals.db", "totals.db-wal", "totals.db-shm"] {
         assert_eq!(mode_of(name), 0o600, "{name}");
     }
-    // One that an operator opens to others stays so.
+    // A file that an operator opens to others stays open.
     std::fs::set_permissions(trial.path(), std::fs::Permissions::from_mode(0o640)).expect("its rights");
     trial.reopen();
     trial.taken(2, sum("a", 20, 30, 2));
@@ -246,7 +246,7 @@ fn a_file_that_is_made_is_its_owners_alone() {
     assert_eq!(mode & 0o777, 0o640);
 }
 
-/// As where an operator has made one for who reads it.
+/// As if an operator has made the folder for those who read the file.
 #[test]
 fn a_file_in_a_folder_that_hands_its_group_on_is_for_the_group_to_read() {
     let trial = Trial::new();

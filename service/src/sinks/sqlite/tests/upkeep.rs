@@ -1,4 +1,4 @@
-//! What is deleted, and what of it may come again.
+//! Tests what is deleted, and whether it can come again.
 
 use super::hours::view;
 use super::*;
@@ -18,14 +18,14 @@ impl Trial {
         self.writer.upkeep = Upkeep::new(keep);
     }
 
-    /// One step, of few rows.
+    /// One step, which changes few rows.
     pub(super) fn step(&mut self, now: u64) -> bool {
         self.writer.store().expect("it is open");
         self.writer.upkeep.step = 7;
         self.step_at(now).expect("a step")
     }
 
-    /// Until there is nothing to do. How many steps it were.
+    /// Does steps until there is nothing left to do. Returns how many.
     pub(super) fn keep_up(&mut self, now: u64) -> usize {
         (0..).find(|_| !self.step(now)).expect("an end")
     }
@@ -45,12 +45,12 @@ fn intervals_that_are_too_old_are_deleted_and_counted_once() {
     two_days(&mut trial);
     trial.keep(Retention { intervals: days(1), ..Retention::default() });
     let (before, total) = (view(&trial, "hour"), trial.totals());
-    // The first 24 ended by then, the last of them at this very moment.
+    // The first 24 have ended, the last of them at this very moment.
     assert!(trial.keep_up(NOVEMBER + 2 * DAY) >= 3);
     assert_eq!(trial.ask("select count(*), min(start_ns) from intervals"), format!("24|{}", NOVEMBER + DAY));
     assert_eq!((view(&trial, "hour"), trial.totals()), (before, total.clone()));
     trial.reopen();
-    // Under its key it is taken; under another it is refused, also in part.
+    // Under its own key each is taken; under another key it is refused, even if it overlaps only in part.
     let again = |hour: u64, by: u64| {
         sum("a", NOVEMBER + hour * HOUR + by, NOVEMBER + (hour + 1) * HOUR, 1 + hour as i64)
     };
@@ -67,7 +67,7 @@ fn intervals_that_are_too_old_are_deleted_and_counted_once() {
     assert_eq!(trial.totals()[0], ("a".into(), 48 * 49 / 2 + 1000, 49));
 }
 
-/// Also once no interval is there any more.
+/// Even after no interval is left.
 #[test]
 fn what_was_left_of_a_request_is_known_for_ever() {
     let mut trial = Trial::new();
@@ -108,7 +108,7 @@ fn hours_that_are_too_old_are_deleted_and_stay_away() {
     for table in ["hours", "metric_hours"] {
         assert_eq!(trial.ask(&format!("select count(*) from {table}")), "2");
     }
-    // Late, of an hour that is gone: its day and month are not yet.
+    // Late points of a deleted hour, whose day and month are not deleted yet.
     trial.taken(2001, sum("b", NOVEMBER + 7, NOVEMBER + 8, 10));
     trial.taken(2000, sum("b", october + 7, october + 8, 10));
     assert_eq!(rows(&trial, "hour"), hours);
@@ -118,7 +118,7 @@ fn hours_that_are_too_old_are_deleted_and_stay_away() {
     assert_eq!(trial.ask("select count(*) from intervals"), "8");
 }
 
-/// Else a bill that is made again says that nothing was counted, with the status of a whole one.
+/// Otherwise a bill that is made again would say that nothing was counted, with the status of a complete one.
 #[test]
 fn a_month_or_a_day_that_is_deleted_is_not_exported_as_one_without_points() {
     let mut trial = Trial::new();
@@ -141,12 +141,12 @@ fn a_month_or_a_day_that_is_deleted_is_not_exported_as_one_without_points() {
             format!("hours before 2026-11-02 05:00 were deleted (--keep-hours), so there is no whole {gone}");
         assert!(why.contains(&part), "{why}");
     }
-    // These went as a whole, or not at all.
+    // These were deleted as a whole, or not at all.
     let whole = ["2026-11", "2026-11-02", "2026-11-03"].map(exported);
     assert_eq!(whole, [Ok(2), Ok(0), Ok(1)]);
 }
 
-/// What is there goes by the clock; what comes behind the last hour of it is not left out.
+/// Deleting follows the clock, but points after the last hour that is there are not left out.
 #[test]
 fn a_clock_that_was_ahead_leaves_out_nothing_that_comes() {
     let mut trial = Trial::new();
@@ -161,7 +161,7 @@ fn a_clock_that_was_ahead_leaves_out_nothing_that_comes() {
     assert_eq!(trial.ask(hours), "2026-11-02 23:00Z|48\n2026-11-03 00:00Z|1000");
 }
 
-/// Whoever posted shared it: so there are hours of its time. A month of which something was deleted is not there.
+/// All senders shared the clock, so there are hours of its time. A month of which a part was deleted is left out.
 #[test]
 fn a_clock_that_all_shared_and_was_ahead_leaves_out_nothing_of_the_next_month() {
     let mut trial = Trial::new();
@@ -212,7 +212,7 @@ async fn deliveries_go_on_while_much_is_deleted() {
     assert_eq!(trial.ask("select count(*) from intervals"), taken.to_string());
 }
 
-/// 80,000 intervals of long ago, of 2,000 series; the file is closed.
+/// 80,000 old intervals of 2,000 series. The file is closed.
 fn much() -> Trial {
     let mut trial = Trial::new();
     for number in 1..=40 {
