@@ -161,7 +161,7 @@ def goes_back(checks: Checks, program: str, one: Service, way: Dump | Lag, sink:
         lost = differences(told_to_all(before), {name: of for name, of in sink.totals().items() if name in told_to_all(before)})
         checks.same("so is what the others were told before and afterwards", [], lost[:3])
         with open(one.log, encoding="utf-8") as log:
-            said = re.findall(r"the store has gone back: .* requests=(\d+) since=\"20\S+ \S+\" until=\"20", log.read())
+            said = re.findall(r"the store was restored to an earlier state: .* requests=(\d+) since=\"20\S+ \S+\" until=\"20", log.read())
         checks.true("the log says what the sink has beyond it", len(said) > 0, one.last_lines(30))
         page = one.asked("GET", "/metrics")[1].decode()
         ahead = sum(float(number) for number in re.findall(r"^totxegun_sink_ahead_requests{.*} (\S+)", page, re.MULTILINE))

@@ -416,7 +416,7 @@ def run(checks: Checks, program: str, seconds: float, folder: str) -> None:
         checks.true("the log says who is refused, and why",
                     re.search(r"a post of address \S+ is refused with 401: the token is not known", log),
                     service.last_lines())
-        unused = "can't be used, so what it had before is option=\"--tokens\""
+        unused = "so its former content stays in use option=\"--tokens\""
         checks.true("the log says that a file can't be used", unused in log, service.last_lines())
         service.signal(signal.SIGTERM)
         checks.same("SIGTERM ends the service", 0, service.process.wait(60))

@@ -82,6 +82,16 @@ impl ConnectionPermit {
     }
 }
 
+/// What was done to make room for a waiting client.
+#[derive(Clone, Copy, PartialEq, Eq)]
+enum Step {
+    None,
+    /// The next connection that answers a request has to close.
+    Asked,
+    /// A connection closes.
+    Closing,
+}
+
 impl ConnectionPermits {
     pub fn new(max: usize) -> Arc<ConnectionPermits> {
         Arc::new(ConnectionPermits {
@@ -127,17 +137,19 @@ impl ConnectionPermits {
             tracing::warn!(
                 address,
                 connections = most,
-                "all connections are taken that the address may have: each further one waits until the longest idle one is \
-                 closed"
+                "all connections of the address are in use: each further client waits until the longest idle one is closed"
             );
         }
         self.has_waiter.store(true, Relaxed);
         let (waits_since, mut freed) = (Instant::now(), pin!(self.free.clone().acquire_owned()));
+        let mut last = Step::None;
         let permit = loop {
-            let time = match self.evict_longest_idle(waits_since) {
-                true => TO_END,
-                false => LOOK,
+            last = match last {
+                // A connection has taken the request to close.
+                Step::Asked if !self.wants_close.load(Relaxed) => Step::Closing,
+                _ => self.make_room(waits_since),
             };
+            let time = if last == Step::Closing { TO_END } else { LOOK };
             if let Some(permit) = within(time, freed.as_mut()).await {
                 break permit.ok(); // the semaphore is never closed
             }
@@ -147,17 +159,82 @@ impl ConnectionPermits {
         permit
     }
 
-    /// Evicts the longest idle connection, and returns whether there was one.
-    fn evict_longest_idle(&self, waits_since: Instant) -> bool {
+    /// Evicts the longest idle connection; if none is idle, asks the next one that answers to close.
+    fn make_room(&self, waits_since: Instant) -> Step {
         let taken: Vec<_> = locked(&self.taken).iter().filter_map(Weak::upgrade).collect();
         let idle = taken.iter().filter_map(|permit| Some((permit.idle_since()?, permit)));
         let longest = idle.min_by_key(|(since, _)| *since);
         let time = |since| self.opened.elapsed().saturating_sub(Duration::from_millis(since));
         match longest {
-            Some((since, permit)) if time(since) >= MIN_IDLE => return permit.try_evict(since),
-            Some(_) if waits_since.elapsed() < MIN_IDLE => {} // it may soon have been idle for long enough
-            _ => self.wants_close.store(true, Relaxed),
+            Some((since, permit)) if time(since) >= MIN_IDLE => {
+                // Only one connection closes for one client.
+                self.wants_close.store(false, Relaxed);
+                if permit.try_evict(since) {
+                    return Step::Closing;
+                }
+                Step::None
+            }
+            Some(_) if waits_since.elapsed() < MIN_IDLE => Step::None, // it may soon have been idle for long enough
+            _ => {
+                self.wants_close.store(true, Relaxed);
+                Step::Asked
+            }
         }
-        false
+    }
+}
+
+#[cfg(test)]
+mod tests {
+    use super::*;
+    use crate::intake::user::User;
+    use tokio::net::TcpStream;
+
+    /// A listener to which nobody connects.
+    struct Silent;
+
+    impl Listener for Silent {
+        type Stream = TcpStream;
+
+        async fn accepted(&self) -> std::io::Result<TcpStream> {
+            std::future::pending().await
+        }
+
+        fn user(_: &TcpStream) -> Option<User> {
+            None
+        }
+
+        fn shown(&self) -> String {
+            String::new()
+        }
+    }
+
+    /// Otherwise several senders would lose their connections for one client that waits.
+    #[tokio::test]
+    async fn one_connection_closes_for_one_waiting_client() {
+        let permits = ConnectionPermits::new(2);
+        let (one, _other) = (permits.acquire(&Silent).await, permits.acquire(&Silent).await);
+        let mut waiting = pin!(permits.acquire(&Silent));
+        assert!(within(LOOK / 2, waiting.as_mut()).await.is_none());
+        assert!(permits.has_to_close());
+        let begun = Instant::now();
+        while begun.elapsed() < TO_END / 2 {
+            assert!(within(LOOK / 2, waiting.as_mut()).await.is_none());
+            assert!(!permits.has_to_close(), "after {:?}", begun.elapsed());
+        }
+        drop(one);
+        assert!(within(LOOK, waiting.as_mut()).await.is_some());
+        assert!(!permits.has_to_close());
+    }
+
+    /// If the connection that was asked to close does not end, another one is asked.
+    #[tokio::test]
+    async fn another_connection_closes_if_the_first_does_not_end() {
+        let permits = ConnectionPermits::new(1);
+        let _one = permits.acquire(&Silent).await;
+        let mut waiting = pin!(permits.acquire(&Silent));
+        assert!(within(LOOK / 2, waiting.as_mut()).await.is_none());
+        assert!(permits.has_to_close());
+        assert!(within(TO_END + 3 * LOOK, waiting.as_mut()).await.is_none());
+        assert!(permits.has_to_close());
     }
 }

@@ -102,23 +102,26 @@ impl Remembered {
         }
         let act = left
             .as_ref()
-            .map(|left| Asked::new("new sink", format!("{now} in the place of {left}")))
+            .map(|left| Asked::new("new sink", format!("{now} instead of {left}")))
             .map(|asked| Act::new(Actor::User(None), asked));
         if let Some(act) = &act {
             self.acts.begins(act);
         }
-        self.place.set_sink(now.clone())?;
+        let recorded = self.place.set_sink(now.clone());
+        if let (Some(act), Err(why)) = (&act, &recorded) {
+            self.acts.ended(act, &why.to_string());
+        }
+        recorded?;
         if let (Some(act), Some(left)) = (act, left) {
             let waiting = self.place.waiting();
             tracing::warn!(
                 sink = %now,
                 former = %left,
                 waiting,
-                "--new-sink: from here on all goes into this sink, also the requests that wait; the former one keeps what \
-                 it has taken"
+                "--new-sink: from now on everything is delivered to this sink, also the waiting requests; the former sink \
+                 keeps what it has"
             );
-            let waited =
-                waiting.map_or(String::new(), |waiting| format!("; requests that waited: {waiting}"));
+            let waited = waiting.map_or(String::new(), |waiting| format!("; waiting requests: {waiting}"));
             self.acts.ended(&act, &format!("done{waited}"));
         }
         self.takes_new.store(false, Relaxed);
@@ -127,7 +130,7 @@ impl Remembered {
 
     fn refusal(&self, known: &KnownSink, now: &KnownSink) -> String {
         let found = match (&known.id, &now.id) {
-            (Some(_), None) if known.is_at(now) => format!("{now}, which is empty or an older one"),
+            (Some(_), None) if known.is_at(now) => format!("{now}, which is empty or an older copy"),
             _ => now.to_string(),
         };
         self.place.refusal(known, &found)
@@ -149,9 +152,9 @@ impl Remembers for InFolder {
 
     fn refusal(&self, known: &KnownSink, found: &str) -> String {
         format!(
-            "this folder delivers to {known}, and the sink is now {found}; requests that wait: {}. Set --sink (or \
-             TOTXEGUN_SINK) to the old one, or put it back; or give --new-sink for one start: what waits, and all after \
-             it, goes into the new one",
+            "this folder delivers to {known}, but --sink is now {found}; waiting requests: {}. Set --sink (or \
+             TOTXEGUN_SINK) to the old sink, or restore it; or give --new-sink for one start: the waiting requests and all \
+             later ones go into the new sink",
             self.waiting().unwrap_or_default()
         )
     }

@@ -31,7 +31,7 @@ fn a_log_in_json_has_an_object_a_line_with_its_fields() {
     assert_eq!(field("level"), "WARN");
     assert_eq!(sink, format!("otlp {NO_SINK}"));
     assert!(key.starts_with("0-") && reason.starts_with("no answer"), "{told}");
-    assert_eq!(field("msg"), "the sink has not taken a request: it is sent again");
+    assert_eq!(field("msg"), "the sink has not taken a request: it is retried");
 }
 
 #[test]

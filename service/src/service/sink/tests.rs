@@ -56,7 +56,7 @@ impl Place {
     fn is_refused(&self, sink: &str, parts: &[&str]) {
         let before = self.said()["sink"].clone();
         let said = self.start(sink, false).err().expect("it is another");
-        for part in parts.iter().chain(&["--new-sink", "requests that wait: 1"]) {
+        for part in parts.iter().chain(&["--new-sink", "waiting requests: 1"]) {
             assert!(said.contains(part), "{part}: {said}");
         }
         assert_eq!(self.said()["sink"], before);
@@ -92,7 +92,7 @@ fn a_fresh_file_of_the_same_name_is_another() {
     let (file, away) = (place.file("a.db"), place.file("away.db"));
     place.starts(&file);
     std::fs::rename(&file, &away).unwrap();
-    place.is_refused(file.to_str().unwrap(), &["which is empty or an older one"]);
+    place.is_refused(file.to_str().unwrap(), &["which is empty or an older copy"]);
     assert!(!file.exists());
     Place::new().starts(&file);
     place.is_refused(file.to_str().unwrap(), &["a.db (id "]);
@@ -110,9 +110,9 @@ fn a_new_sink_is_taken_by_name_and_kept() {
     place.starts(&other);
     let acts = std::fs::read_to_string(place.file("data/acts.jsonl")).unwrap();
     let (begun, ended) = acts.split_once('\n').unwrap();
-    let what = format!("in the place of sqlite {}", one.display());
+    let what = format!("instead of sqlite {}", one.display());
     assert!(begun.contains("\"action\":\"new sink\"") && begun.contains(&what), "{acts}");
-    assert!(ended.contains("done; requests that waited: 1") && ended.lines().count() == 1, "{acts}");
+    assert!(ended.contains("done; waiting requests: 1") && ended.lines().count() == 1, "{acts}");
     place.is_refused(one.to_str().unwrap(), &["other.db (id ", "one.db (id "]);
     // Including a sink that is not there yet, by its address.
     let down = "postgres://u@127.0.0.1:9/d";
@@ -134,7 +134,7 @@ fn a_folder_that_has_met_no_sink_takes_the_first() {
     place.starts(&other);
     place.say(json!("what"));
     let error = Folder::open(&place.file("data"), Durability::Disk).err().unwrap();
-    assert!(error.to_string().contains("put a copy of this file"), "{error}");
+    assert!(error.to_string().contains("restore it from a copy"), "{error}");
 }
 
 #[test]
@@ -178,4 +178,37 @@ async fn a_file_that_is_replaced_in_a_run_is_remembered() {
     assert_eq!(sink.deliver(&request).await, Fate::Taken);
     drop(sink);
     place.starts(&file);
+}
+
+/// A place that can't record a sink.
+struct Full(KnownSink);
+
+impl Remembers for Full {
+    fn sink(&self) -> Option<KnownSink> {
+        Some(self.0.clone())
+    }
+
+    fn set_sink(&self, _: KnownSink) -> Result<(), Ended> {
+        Err(anyhow!("the disk is full").into())
+    }
+
+    fn refusal(&self, _: &KnownSink, _: &str) -> String {
+        "another sink".into()
+    }
+}
+
+/// Otherwise `acts.jsonl` would never say what became of the order.
+#[test]
+fn a_new_sink_that_can_t_be_recorded_has_an_outcome() {
+    let place = Place::new();
+    let [former, new] =
+        ["former.db", "new.db"].map(|name| place.file(name).to_str().unwrap().parse::<Address>().unwrap());
+    std::fs::create_dir(place.file("data")).unwrap();
+    let acts = Arc::new(Acts::in_folder(&place.file("data")));
+    let told = Told { address: &new, retention: Retention::default(), takes_new: true, acts };
+    assert!(told.open(Box::new(Full(former.known()))).is_err());
+    let acts = std::fs::read_to_string(place.file("data/acts.jsonl")).unwrap();
+    let lines: Vec<&str> = acts.lines().collect();
+    assert!(lines.len() == 2 && lines.iter().all(|line| line.contains("\"action\":\"new sink\"")), "{acts}");
+    assert!(!lines[0].contains("outcome") && lines[1].contains("\"outcome\":\"the disk is full\""), "{acts}");
 }
