@@ -3,12 +3,15 @@
 
     tests/kubernetes.py TOTXEGUN
 
-They are parsed, and what they name is there: labels, volumes, ports, the Secret's files. Their settings start a service, with its
-folders in another place, and each port of the pod is one at which it listens. The service is asked for each probe, which answers
-200. Without PyYAML or openssl all is left out, with status 77.
+They are parsed, and what they name is there: labels, volumes, ports, the Secret's files. kubectl, which asks no server for this, knows
+each field and reads each value as one of its type; of the StatefulSet and the Service it leaves nothing out. Their settings start a
+service, with its folders in another place, and each port of the pod is one at which it listens. The service is asked for each probe,
+which answers 200. Without PyYAML or openssl all is left out, with status 77, and without kubectl what it is asked.
 
 Each line is one check; the last line counts those that passed and failed, and the status is 0 where none failed.
 """
+import copy
+import json
 import os
 import re
 import subprocess
@@ -25,6 +28,10 @@ from tooling.files import text_of, write
 
 FILE = f"{ROOT}/operate/kubernetes/totxegun.yaml"
 PROBES = ("startupProbe", "readinessProbe", "livenessProbe")
+# Debian's kubectl, 1.20, knows it by this version alone, with the same fields.
+KNOWN_AS = {"policy/v1": "policy/v1beta1"}
+# What has kubectl write an object again that it has read by its types: without what these don't have.
+WRITTEN_BY = {"StatefulSet": ["set", "env", "ANY=value"], "Service": ["set", "selector", "app=totxegun"]}
 
 
 def documents() -> dict[str, Any]:
@@ -59,6 +66,44 @@ def look_at_names(checks: Checks, kinds: dict[str, Any]) -> None:
     checks.same("the image is of this version", f"totxegun:{text_of(f'{ROOT}/VERSION').strip()}", container["image"])
     of_map = next(it for it in pod["volumes"] if "configMap" in it)["configMap"]["name"]
     checks.same("the settings are mounted", kinds["ConfigMap"]["metadata"]["name"], of_map)
+
+
+def kubectl(*words: str, given: Any) -> tuple[int, str]:
+    """Its status, and what it printed. It asks no server."""
+    done = subprocess.run(["kubectl", *words, "--local", "-f", "-", "-o", "json"], input=json.dumps(given), capture_output=True,
+                          text=True, check=False, env={**os.environ, "KUBECONFIG": "/dev/null"})
+    return done.returncode, done.stdout or done.stderr
+
+
+def knows_fields(it: Any) -> tuple[int, str]:
+    """Patched by itself, each list and object in it has to be a field of its kind."""
+    return kubectl("patch", "--type=strategic", "-p", json.dumps(it), given=it)
+
+
+def left_out(wanted: Any, found: Any, place: str = "") -> list[str]:
+    """The places in an object that another one does not have."""
+    if isinstance(wanted, dict):
+        return [it for key, value in wanted.items() for it in left_out(value, (found or {}).get(key), f"{place}.{key}")]
+    if isinstance(wanted, list):
+        pairs = zip(wanted, [*(found or []), *[None] * len(wanted)])
+        return [it for number, pair in enumerate(pairs) for it in left_out(*pair, f"{place}[{number}]")]
+    return [] if found is not None else [place]
+
+
+def look_at_fields(checks: Checks, kinds: dict[str, Any]) -> None:
+    for kind, document in kinds.items():
+        it: dict[str, Any] = {**document, "apiVersion": KNOWN_AS.get(document["apiVersion"], document["apiVersion"])}
+        status, said = knows_fields(it)
+        checks.true(f"kubectl knows each field of {kind}", status == 0, said)
+        odd = copy.deepcopy(it)
+        odd.get("spec", odd)["fieldThatIsNot"] = {}
+        checks.true(f"it finds one in {kind} that is not there", knows_fields(odd)[0] != 0, "taken")
+        # An object without a pod's template is read first, and refused for that alone.
+        status, said = kubectl("set", "env", "ANY=value", given=it)
+        checks.true(f"it reads each value of {kind}", status == 0 or "not a pod or does not have a pod template" in said, said)
+    for kind, words in WRITTEN_BY.items():
+        status, said = kubectl(*words, given=kinds[kind])
+        checks.same(f"it leaves nothing out of {kind}", (0, []), (status, status or left_out(kinds[kind], json.loads(said))))
 
 
 def secrets() -> list[str]:
@@ -121,6 +166,8 @@ def main(program: str) -> int:
     if checks.has("the files for Kubernetes", *needs):
         kinds = documents()
         look_at_names(checks, kinds)
+        if checks.has("what kubectl says of them", *missing(["kubectl"])):
+            look_at_fields(checks, kinds)
         with tempfile.TemporaryDirectory(prefix="kubernetes-") as folder:
             look_at_settings(checks, program, kinds, folder)
     return checks.end()
