@@ -12,6 +12,7 @@ left out, with status 77, and what is of a store without PostgreSQL.
 Each line is one check; the last line counts those that passed and failed, and the status is 0 where none failed.
 """
 import contextlib
+import functools
 import http.client
 import json
 import os
@@ -321,22 +322,31 @@ def instance_of_store(program: str, folder: str, sink: Sink, closing: contextlib
 
 
 def look_at_dashboard(checks: Checks, prometheus: Prometheus, page: bytes, has_store: bool) -> None:
-    """Each query is one that Prometheus takes, of metrics that are there."""
+    """Prometheus takes each query, and each is of metrics that are there. Those of several machines have rows; of the others
+    tests/demo.py looks for them."""
     with open(f"{OPERATE}/dashboard.json", encoding="utf-8") as file:
-        panels = [panel for panel in json.load(file)["panels"]
-                  if has_store or not panel["title"].startswith("Several machines")]
-    queries = [target["expr"] for panel in panels for target in panel["targets"]]
+        panels = json.load(file)["panels"]
+    of_machines = {target["expr"] for panel in panels if panel["title"].startswith("Several machines") for target in panel["targets"]}
+    queries = {target["expr"] for panel in panels for target in panel["targets"]} - (set() if has_store else of_machines)
     names = {line.split()[2] for line in page.decode().splitlines() if line.startswith("# TYPE")}
     unknown = [name for query in queries for name in METRIC.findall(query)
                if name not in names and re.sub("_(bucket|sum|count)$", "", name) not in names]
     checks.same(f"the dashboard's {len(queries)} queries are of metrics that are there", [], unknown)
-    wrong = []
-    for query in queries:
+
+    def answer(query: str) -> Any:
         told = query.replace("$__rate_interval", "5s").replace("$job", "totxegun").replace("$instance", ".*")
-        answer = prometheus.ask("query", query=told)
-        if not answer or answer["status"] != "success":
-            wrong.append((query, answer))
+        return prometheus.ask("query", query=told)
+
+    def has_rows(query: str) -> bool:
+        found = answer(query)
+        return bool(found and found["data"]["result"])
+
+    answers = {query: answer(query) for query in sorted(queries)}
+    wrong = [(query, found) for query, found in answers.items() if not found or found["status"] != "success"]
     checks.same("Prometheus takes each of them", [], wrong)
+    if has_store:
+        empty = [query for query in sorted(of_machines) if not wait_until(functools.partial(has_rows, query), 10)]
+        checks.same(f"each of {len(of_machines)} of several machines has rows", [], empty)
 
 
 def run(checks: Checks, program: str, folder: str) -> None:
