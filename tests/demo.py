@@ -4,9 +4,9 @@
     tests/demo.py TOTXEGUN [SECONDS] [SEED]
 
 The programs have each kind of instrument, and nothing is set but where they post: so their points are cumulative. At the end
-their own counts, the database's and Prometheus' are the same, by series and bucket; their gauges are at the other receiver; no
-alert of operate/ has fired; each query of operate/dashboard.json that is not of several machines has rows; and the picture of the
-run is drawn. What is missing is said, and left out with status 77.
+their own counts, the database's and Prometheus' are the same, by series and bucket; the SDK has logged no error; their gauges are
+at the other receiver; no alert of operate/ has fired; each query of operate/dashboard.json that is not of several machines has
+rows; and the picture of the run is drawn. What is missing is said, and left out with status 77.
 
 Each line is one check; the last line counts those that passed and failed, and the status is 0 where none failed.
 """
@@ -22,6 +22,7 @@ from testing import ROOT
 from testing.checks import Checks
 from testing.database import initdb
 from testing.service import ask
+from tooling.files import text_of
 from showing.play import VICTIMS, Play
 from showing.scraped import torn
 from picture import draw
@@ -46,6 +47,8 @@ def missing() -> list[str]:
 def look(checks: Checks, play: Play, folder: str) -> None:
     rows = play.rows()
     checks.true("the programs posted", all(shop.said[0] > 0 for shop in play.shops), [shop.said for shop in play.shops])
+    logs = {shop.name: text_of(f"{play.folder}/{shop.name}.log") for shop in play.shops}
+    checks.same("they, and the SDK in them, logged no error", {name: "" for name in logs}, logs)
     killed = {victim for _, victim in play.kills}
     checks.true("something was killed", killed, play.kills)
     print(f"note: {[shop.said for shop in play.shops]}, killed {', '.join(sorted(killed))} of {', '.join(VICTIMS)}", flush=True)
