@@ -66,13 +66,16 @@ wrong: ## tries wrong copies of the service
 
 # With what make build has built, while it is killed; as root with STALLS=1 also while its disk stands still now and then. With
 # STORE=1 three instances over a store, each on a machine of its own: make soak STORE=1, or make soak STORE=1 SEED=7,8. With
-# ATTACK=1 honest senders beside attackers, for two hours. With WHOLE=1 all runs of the tests of which make test makes a sample.
-soak: ## longer tests, an hour under load: STALLS=1, STORE=1, ATTACK=1, WHOLE=1
+# ATTACK=1 honest senders beside attackers, for two hours. With RETRIES=1 senders that retry over a thousand kills, of one service, and
+# then of three instances. With WHOLE=1 all runs of the tests of which make test makes a sample.
+soak: ## longer tests, an hour under load: STALLS=1, STORE=1, ATTACK=1, RETRIES=1, WHOLE=1
 	@[ -x bin/totxegun ] || { echo "there is no bin/totxegun: make build makes it" >&2; exit 1; }
 	@$(if $(STORE),tests/several_machines.py bin/totxegun 3600 $(SEED) --long,\
 	   $(if $(ATTACK),tests/mixed_attack.py bin/totxegun 7200 $(or $(SEED),1) $(if $(STALLS),--stalls),\
+	   $(if $(RETRIES),tests/retries.py bin/totxegun 100000 1000 $(or $(SEED),1) &&\
+	   tests/retries.py bin/totxegun 100000 1000 $(or $(SEED),1) --instances 3,\
 	   $(if $(WHOLE),TOTXEGUN_TESTS=whole tools/cargo test && tests/service_interrupted.py bin/totxegun,\
-	   tests/service_load.py bin/totxegun 3600 $(if $(STALLS),--stalls))))
+	   tests/service_load.py bin/totxegun 3600 $(if $(STALLS),--stalls)))))
 
 # With what make build has built. The gate tries most of them for a shorter time.
 SEVERAL = orders_anywhere.py store_peers.py several_machines.py:90 under_patroni.py store_move.py

@@ -90,10 +90,10 @@ class Addressed(Protocol):
     address: str
 
 
-def instance(program: str, folder: str, name: str, store: Pair, sink: Addressed) -> Service:
+def instance(program: str, folder: str, name: str, store: Pair, sink: Addressed, *more: str) -> Service:
     peer = f"127.0.0.1:{free_port()}"
     return Service(program, f"{folder}/{name}", sink.address, "--store", store.address, "--instance", name, "--peer", peer,
-                   "--flush-interval", "1s")
+                   "--flush-interval", "1s", *more)
 
 
 def trouble(chance: random.Random, store: Pair, instances: Sequence[Service]) -> str:

@@ -50,6 +50,7 @@ SERVICE_STEPS: tuple[tuple[str, list[str], int], ...] = (
     ("by_hour.py", ["10"], 50),
     ("clock_jumps.py", ["1"], 20),
     ("service_interrupted.py", ["30"], 60),
+    ("retries.py", ["2000", "40"], 40),
     ("close_interrupted.py", ["3"], 60),
     ("behind_proxies.py", [], 60),
     ("store.py", ["60"], 120),
