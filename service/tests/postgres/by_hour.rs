@@ -32,6 +32,7 @@ async fn the_hours_of_one_series_are_read() {
             found_hours.iter().map(|it| (it.hour, it.total.0, it.count.map(|count| count.0))).collect();
         assert_eq!(found, [(4, 1, None), (5, series.total.0, count)], "{}", series.name);
         assert_eq!(hours(series.digest, 5).unwrap(), found_hours[1..]);
+        assert_eq!(hours(series.digest, 6), Some(Vec::new()), "it is there all the same");
     }
     assert_eq!(hours([0; 32], 0), None, "a series that the database does not have");
 }

@@ -303,5 +303,10 @@ fn the_hours_of_one_series_are_read() {
     found.sort();
     assert_eq!(found, [vec![(5, 3, Some(4))], vec![(5, 5, None)], vec![(5, 2 * i128::from(i64::MAX), None)]]);
     assert_eq!(all.iter().filter_map(|one| hours(one.digest, 0)).map(|hours| hours.len()).max(), Some(2));
+    let after_all = all.iter().map(|one| hours(one.digest, 6));
+    assert!(
+        after_all.eq(vec![Some(Vec::new()); 3]),
+        "a series that has no hour from then on is there all the same"
+    );
     assert_eq!(hours([0; 32], 0), None, "a series that the file does not have");
 }
