@@ -13,7 +13,7 @@ use hyper::body::HttpBody;
 use hyper::Body;
 use std::future::{poll_fn, Future};
 use std::pin::pin;
-use std::sync::{Mutex, MutexGuard, PoisonError};
+use std::sync::{Arc, Mutex, MutexGuard, PoisonError};
 use std::task::Poll;
 use std::thread;
 use std::time::Duration;
@@ -34,14 +34,14 @@ pub async fn blocking<T: Send + 'static>(work: impl FnOnce() -> T + Send + 'stat
 
 /// Parses bodies: a short one on the calling thread, a long one on a blocking thread, so that no short post waits for
 /// it. Only so many long ones are parsed at a time, since one takes several times its length of memory.
-pub struct Readers(Semaphore);
+pub struct Readers(Arc<Semaphore>);
 
 impl Readers {
     /// A body up to this long is short.
     pub const SHORT: usize = 64 << 10;
 
     pub fn new(most: usize) -> Readers {
-        Readers(Semaphore::new(most))
+        Readers(Arc::new(Semaphore::new(most)))
     }
 
     /// Parses something of this length.
@@ -56,15 +56,21 @@ impl Readers {
         }
     }
 
-    /// Parses something long.
+    /// Parses something long. The work keeps its turn until it is done, even if its sender goes away and nobody awaits it.
     pub async fn read_long<T: Send + 'static>(&self, read: impl FnOnce() -> T + Send + 'static) -> T {
-        let _turn = self.turn().await;
-        blocking(read).await
+        let turn = self.0.clone().acquire_owned().await; // it is never closed
+        blocking(move || {
+            let done = read();
+            drop(turn);
+            done
+        })
+        .await
     }
 
-    /// Takes the turn of one long body, for a caller that parses by itself.
-    pub async fn turn(&self) -> impl Sized + '_ {
-        self.0.acquire().await // it is never closed
+    /// How many more long bodies may be parsed now.
+    #[cfg(test)]
+    pub fn free(&self) -> usize {
+        self.0.available_permits()
     }
 }
 
@@ -130,4 +136,34 @@ const MOST_THREADS: usize = 8;
 /// How many threads work in parallel.
 fn threads() -> usize {
     thread::available_parallelism().map_or(1, |most| most.get().min(MOST_THREADS))
+}
+
+#[cfg(test)]
+mod tests {
+    use super::*;
+    use std::sync::mpsc::channel;
+
+    /// Otherwise senders that go away at once would have any number of long bodies read at a time.
+    #[tokio::test(flavor = "multi_thread")]
+    async fn a_long_body_keeps_its_turn_if_nobody_waits_for_it_any_more() {
+        let readers = Arc::new(Readers::new(1));
+        let (begun, has_begun) = tokio::sync::oneshot::channel();
+        let (end, ends) = channel();
+        let reading = tokio::spawn({
+            let readers = readers.clone();
+            async move {
+                let read = move || {
+                    let _ = begun.send(());
+                    ends.recv().unwrap()
+                };
+                readers.read_long(read).await
+            }
+        });
+        has_begun.await.unwrap();
+        reading.abort();
+        assert!(reading.await.unwrap_err().is_cancelled());
+        assert_eq!(readers.free(), 0);
+        end.send(()).unwrap();
+        readers.read_long(|| ()).await;
+    }
 }

@@ -133,10 +133,11 @@ fn part(used: u64, most: Option<u64>) -> f64 {
 }
 
 /// What a post has claimed of the quota of its sender. When it is dropped, the points are given back unless `keep` was
-/// called, and the claim on series ends, since by then it is known how many came.
+/// called, and the claim on series ends, since by then it is known how many came. It belongs to the work that puts the
+/// post into the book, which goes on even if the sender goes away.
 #[must_use = "the points of what is taken have to be kept"]
-pub struct Claim<'s> {
-    shares: &'s Shares,
+pub struct Claim {
+    shares: Arc<Shares>,
     sender: String,
     points: Duration,
     series: u64,
@@ -163,13 +164,13 @@ impl Shares {
     /// Claims the points of a post, and room for its series. `look` counts the new series; it is called only if there
     /// is no room for as many series as there are points.
     pub async fn claim<F: Future<Output = Result<u64, Over>>>(
-        &self,
+        self: &Arc<Shares>,
         sender: &str,
         points: u64,
         look: impl Fn() -> F,
-    ) -> Result<Claim<'_>, Over> {
+    ) -> Result<Claim, Over> {
         let mut claim = Claim {
-            shares: self,
+            shares: self.clone(),
             sender: String::new(),
             points: Duration::ZERO,
             series: 0,
@@ -344,15 +345,7 @@ impl Shares {
     }
 }
 
-impl Claim<'_> {
-    /// Waits for work that continues even if the post is cancelled; in that case the points are kept.
-    pub async fn during<T>(&mut self, work: impl Future<Output = T>) -> T {
-        let points = std::mem::take(&mut self.points);
-        let done = work.await;
-        self.points = points;
-        done
-    }
-
+impl Claim {
     /// Gives back the points that were not taken; `points` of `of` are in the book.
     pub fn keep(&mut self, points: u64, of: u64) {
         let left = of.saturating_sub(points) as f64 / of.max(1) as f64;
@@ -360,7 +353,7 @@ impl Claim<'_> {
     }
 }
 
-impl Drop for Claim<'_> {
+impl Drop for Claim {
     fn drop(&mut self) {
         self.shares.counted.give_back_of_all(self.series_of_all);
         if self.series > 0 {

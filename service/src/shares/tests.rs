@@ -111,7 +111,7 @@ fn of_series(series: u64) -> Service {
 
 impl Service {
     /// The claim of a post with these series, which are found by number.
-    async fn claim(&self, sender: &str, names: &[String]) -> Result<Claim<'_>, Over> {
+    async fn claim(&self, sender: &str, names: &[String]) -> Result<Claim, Over> {
         let numbers = self.numbers.of(names).into_iter();
         self.claim_by(sender, names, || Series::numbered(self.numbers.clone(), numbers.clone()), 0).await
     }
@@ -122,7 +122,7 @@ impl Service {
         names: &[String],
         series: impl Fn() -> Series,
         unflushed: u64,
-    ) -> Result<Claim<'_>, Over> {
+    ) -> Result<Claim, Over> {
         let points = names.len() as u64;
         let look = || std::future::ready(self.shares.look(sender, points, series(), unflushed));
         self.shares.claim(sender, points, look).await
@@ -134,7 +134,7 @@ impl Service {
         Ok(())
     }
 
-    fn take(&self, sender: &str, names: &[String], mut claim: Claim<'_>) {
+    fn take(&self, sender: &str, names: &[String], mut claim: Claim) {
         let mut book = self.book.lock().unwrap();
         let before = book.len();
         book.extend(names.iter().map(|name| (name.clone(), sender.into())));
@@ -159,7 +159,7 @@ fn used_up(series: u64, most: u64) -> Result<(), Over> {
 
 #[tokio::test]
 async fn without_rules_each_has_all() {
-    let shares = Shares::default();
+    let shares = Arc::<Shares>::default();
     for _ in 0..10 {
         let look = || async { panic!("nobody asks") };
         shares.claim("A", u64::MAX, look).await.unwrap().keep(1, 1);

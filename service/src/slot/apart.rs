@@ -8,7 +8,7 @@
 use super::duplicates::{fates, Fate};
 use super::posted::{Posted, RequestReader};
 use super::refused_points::RefusedPoints;
-use super::request::Put;
+use super::request::{keep_points, Put};
 use super::verdict::Journalled;
 use super::Slot;
 use crate::core::{Book, Locked, PointRefusal, Read, Refused};
@@ -16,27 +16,24 @@ use crate::files::{Body, Names as _, Points, POSTS_KNOWN};
 use crate::otlp::series::only;
 use crate::otlp::{Causes, Outcome, Reason};
 use crate::shares::Claim;
-use crate::work::Readers;
 use std::sync::Arc;
 
 impl Slot {
-    /// Puts a post point by point, after the book has refused it for one of its series.
+    /// Puts a post point by point, after the book has refused it for one of its series. It had so many points in all.
     pub(super) async fn put_apart(
         self: &Arc<Slot>,
         mut posted: Posted,
         refused: Refused,
-        claim: &mut Claim<'_>,
-    ) -> (Posted, Result<Result<Put, Refused>, Reason>) {
-        if posted.read.bytes() <= Readers::SHORT {
-            let put = self.try_apart(&mut posted, refused);
-            return (posted, put);
-        }
-        let slot = self.clone();
-        let put = self.readers.read_long(move || {
+        mut claim: Claim,
+        all: u64,
+    ) -> (Posted, Claim, Result<Result<Put, Refused>, Reason>) {
+        let (slot, length) = (self.clone(), posted.read.bytes());
+        let put = move || {
             let put = slot.try_apart(&mut posted, refused);
-            (posted, put)
-        });
-        claim.during(put).await
+            keep_points(&mut claim, &put, all);
+            (posted, claim, put)
+        };
+        self.readers.read(length, put).await
     }
 
     /// `refused` is how the book refused the whole post.

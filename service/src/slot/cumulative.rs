@@ -15,7 +15,6 @@ use crate::otlp::{Outcome, Reason, Window};
 use crate::post_reports::SERIES_SHOWN;
 use crate::runs::{self, Draft};
 use crate::shares::Claim;
-use crate::work::{blocking, Readers};
 use std::collections::{HashMap, HashSet};
 use std::mem::take;
 use std::sync::atomic::{AtomicU64, Ordering::Relaxed};
@@ -117,19 +116,16 @@ impl Slot {
         self: &Arc<Slot>,
         sender: String,
         by: ByNumber,
-        mut claim: Claim<'_>,
+        mut claim: Claim,
     ) -> Result<Journalled, Reason> {
         let all = by.points.count() as u64;
         let mut making = Making::of(sender, by, self.clock.window(), false);
         loop {
             let landed = self.landed.notified(); // registered before the try, so that none is missed
             let put;
-            (making, put) = self.made(making, &mut claim).await;
+            (making, claim, put) = self.made(making, claim, all).await;
             match put? {
                 Some(put) => {
-                    if put.is_in_book {
-                        claim.keep(put.points + put.duplicates, all);
-                    }
                     self.count_put(&making.sender, &put);
                     let Making { refused, sender, by, .. } = &mut making;
                     return Ok(put.journalled.with_late(Some(refused.take_kept(self, sender, &by.names))));
@@ -142,19 +138,18 @@ impl Slot {
     async fn made(
         self: &Arc<Slot>,
         mut making: Making,
-        claim: &mut Claim<'_>,
-    ) -> (Making, Result<Option<Put>, Reason>) {
-        if making.by.bytes() <= Readers::SHORT {
-            let put = self.put_made(&mut making);
-            return (making, put);
-        }
-        let _turn = self.readers.turn().await;
-        let slot = self.clone();
-        let making = blocking(move || {
+        mut claim: Claim,
+        all: u64,
+    ) -> (Making, Claim, Result<Option<Put>, Reason>) {
+        let (slot, length) = (self.clone(), making.by.bytes());
+        let put = move || {
             let put = slot.put_made(&mut making);
-            (making, put)
-        });
-        claim.during(making).await
+            if let Some(put) = put.as_ref().ok().and_then(Option::as_ref).filter(|put| put.is_in_book) {
+                claim.keep(put.points + put.duplicates, all);
+            }
+            (making, claim, put)
+        };
+        self.readers.read(length, put).await
     }
 
     /// None if a flush in flight has to end first; the caller waits without the lock of the runs.

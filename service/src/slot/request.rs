@@ -120,7 +120,7 @@ impl Slot {
         points: u64,
         length: usize,
         series: impl Fn() -> Series,
-    ) -> Result<Claim<'_>, Over> {
+    ) -> Result<Claim, Over> {
         let look = || {
             let (shares, sender, series) = (self.shares.clone(), sender.to_string(), series());
             let in_book = self.core.lock().series();
@@ -140,22 +140,23 @@ impl Slot {
     async fn put_in_turn(
         self: &Arc<Slot>,
         mut posted: Posted,
-        mut claim: Claim<'_>,
+        mut claim: Claim,
     ) -> Result<Journalled, Reason> {
         let (all, mut apart) = (posted.read.points(), None);
         loop {
             let landed = self.landed.notified(); // registered before the try, so that none is missed
             let put;
             match apart {
-                None => put = self.put(&mut posted),
+                None => {
+                    put = self.put(&mut posted);
+                    keep_points(&mut claim, &put, all);
+                }
                 Some(refused) => {
-                    (posted, put) = Box::pin(self.put_apart(posted, refused, &mut claim)).await;
+                    (posted, claim, put) = Box::pin(self.put_apart(posted, refused, claim, all)).await;
                 }
             }
             match put? {
                 Ok(put) => {
-                    // Duplicates count too, since finding them costs more than taking points.
-                    claim.keep(put.points + put.duplicates, all);
                     self.count_put(&posted.read.post.sender, &put);
                     return Ok(put.journalled.with_late(posted.late));
                 }
@@ -300,6 +301,14 @@ impl Slot {
     /// Puts a parsed post into the book and the journal.
     pub(crate) fn put_of_test(&self, read: crate::core::Read) -> Result<(), Reason> {
         self.put(&mut Posted::whole(read)).map(drop)
+    }
+}
+
+/// Counts the points that were put towards their sender's quota. Duplicates count too, since finding them costs more than
+/// taking points.
+pub(super) fn keep_points(claim: &mut Claim, put: &Result<Result<Put, Refused>, Reason>, all: u64) {
+    if let Ok(Ok(put)) = put {
+        claim.keep(put.points + put.duplicates, all);
     }
 }
 

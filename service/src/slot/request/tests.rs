@@ -146,3 +146,48 @@ async fn what_is_refused_of_a_post_of_a_lost_slot_is_not_kept() {
     let told = Journalled::behind_all(Refused::BadSender, &slot.journal).with_late(Some(late));
     assert!(told.durable(&slot.journal).await.1.is_none());
 }
+
+/// Otherwise other posts would find the room that its series take once it is put.
+#[tokio::test(flavor = "multi_thread")]
+async fn a_long_post_keeps_its_share_until_it_is_put_if_its_sender_goes_away() {
+    const POINTS: u64 = 3_000;
+    let shared = Shared::of_test();
+    shared.shares.begin(Rules {
+        max_series: 2 * POINTS,
+        of_each: Share { series: Some(POINTS + 500), points: None }.into(),
+        tokens: None,
+        profile: Profile::AlsoCumulative,
+        owned: Box::new(Nothing),
+        flush_interval: Duration::ZERO,
+    });
+    let slot = Slot::in_memory(&shared);
+    let point = |end| format!(r#"{{"asInt":"{end}","startTimeUnixNano":"1","timeUnixNano":"{}"}}"#, end + 1);
+    let points: Vec<String> = (1..=POINTS).map(point).collect();
+    let body = format!(
+        r#"{{"resourceMetrics":[{{"scopeMetrics":[{{"metrics":[{{"name":"a","sum":{{"aggregationTemporality":2,"isMonotonic":true,"dataPoints":[{}]}}}}]}}]}}]}}"#,
+        points.join(",")
+    );
+    let numbered = slot.numbered_text(&body.into()).unwrap().unwrap();
+    assert!(numbered.bytes() > Readers::SHORT);
+    let free = slot.readers.free();
+    let book = slot.core.lock();
+    let posting = tokio::spawn({
+        let slot = slot.clone();
+        async move { slot.request("A".into(), numbered.into()).await }
+    });
+    while slot.readers.free() == free {
+        tokio::time::sleep(Duration::from_millis(1)).await;
+    }
+    posting.abort();
+    assert!(posting.await.unwrap_err().is_cancelled());
+    let is_let_in = async || {
+        let new = || std::future::ready(Ok(1_000));
+        shared.shares.claim("A", 1_000, new).await.is_ok()
+    };
+    assert!(!is_let_in().await, "the room of a post that is being put was another's");
+    drop(book);
+    while slot.readers.free() < free {
+        tokio::time::sleep(Duration::from_millis(1)).await;
+    }
+    assert_eq!((slot.core.lock().series(), is_let_in().await), (1, true));
+}
