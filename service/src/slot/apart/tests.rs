@@ -1,4 +1,5 @@
-//! Compares posts with late, foreign-owned and duplicate points in all positions with a model that goes point by point.
+//! Compares posts with late, foreign-owned, rejected and duplicate points in all positions with a model that goes point by
+//! point.
 
 mod kept;
 
@@ -111,7 +112,12 @@ impl OfSeries {
 }
 
 fn body(points: &[Point]) -> String {
-    let metrics: Vec<String> = points
+    body_with(points, &[])
+}
+
+/// The same with a point of a gauge at each of these places among the metrics.
+fn body_with(points: &[Point], gauges: &[usize]) -> String {
+    let mut metrics: Vec<String> = points
         .iter()
         .map(|Point { series: (sender, number), start, end, value }| {
             format!(
@@ -119,6 +125,9 @@ fn body(points: &[Point]) -> String {
             )
         })
         .collect();
+    for place in gauges {
+        metrics.insert(*place, r#"{"name":"g","gauge":{"dataPoints":[{"asInt":"1"}]}}"#.into());
+    }
     format!(r#"{{"resourceMetrics":[{{"scopeMetrics":[{{"metrics":[{}]}}]}}]}}"#, metrics.join(","))
 }
 
@@ -181,7 +190,8 @@ fn said(outcome: &Outcome) -> (u16, u64, Vec<String>) {
     }
 }
 
-fn wanted(fates: &[Wanted]) -> (u16, u64, Vec<String>) {
+/// What is to be said of a post with points that come to this, beside so many foreign ones.
+fn wanted(fates: &[Wanted], foreign: u64) -> (u16, u64, Vec<String>) {
     let of = |is_wanted: fn(&Wanted) -> bool| -> Vec<(usize, Wanted)> {
         fates.iter().copied().enumerate().filter(|(_, fate)| is_wanted(fate)).collect()
     };
@@ -200,7 +210,7 @@ fn wanted(fates: &[Wanted]) -> (u16, u64, Vec<String>) {
         [late, others].into_iter().filter_map(|of| Some(format!("{} {}", of.len(), told(*of.first()?))));
     let mut parts: Vec<String> = parts.collect();
     parts.sort();
-    (200, rejected, parts)
+    (200, rejected + foreign, parts)
 }
 
 #[tokio::test]
@@ -220,8 +230,12 @@ async fn each_point_of_a_post_is_as_it_is_by_itself() {
             let parts = (0..count).map(|_| drawn(&mut chance, &model, 'A')).collect();
             let points = mixed(&mut chance, parts);
             let fates = model.post('A', &points);
-            let outcome = posted(&slot, 'A', body(&points), chance.below(2) > 0).await;
-            assert_eq!(said(&outcome), wanted(&fates), "post {post} of {seed}: {points:?}: {fates:?}");
+            let gauges: Vec<usize> =
+                (0..chance.below(3)).map(|_| chance.below(points.len() as u64 + 1) as usize).collect();
+            let (body, by_number) = (body_with(&points, &gauges), chance.below(2) > 0);
+            let outcome = posted(&slot, 'A', body, by_number).await;
+            let wanted = wanted(&fates, gauges.len() as u64);
+            assert_eq!(said(&outcome), wanted, "post {post} of {seed}, {gauges:?}: {points:?}: {fates:?}");
             for fate in fates {
                 found[match fate {
                     Wanted::Taken => 0,
