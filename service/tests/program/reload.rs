@@ -36,16 +36,16 @@ fn nothing_is_lost_while_settings_change() {
     let service = place.serve_with(&["--config", path.to_str().unwrap(), "--sink", &place.sink()]);
     let senders = ["a", "b", "c"].map(|name| sender(&service, name, &STOP));
     for time in 0..TIMES {
-        let points = 1_000_000 + time;
-        write(&path, &format!("log-level = \"info\"\nsender-points = {points}\n"));
+        let (level, cause) = [("debug", "gauge"), ("info", "summary")][time % 2];
+        let (reasons, most) = (time + 1, 100_000 + time);
+        let settings = format!(
+            "log-level = \"{level}\"\nlog-rejected = {reasons}\nexpect-rejected = [\"{cause}\"]\nsender-series = {most}\nsender-points = {most}\n"
+        );
+        write(&path, &settings);
         signal(service.pid(), "HUP");
-        until("it is read", || {
-            place
-                .log()
-                .matches("SIGHUP: settings changed, and count from now on settings=\"sender-points\"")
-                .count()
-                > time
-        });
+        let line = "SIGHUP: settings changed, and count from now on \
+                    settings=\"expect-rejected, log-level, log-rejected, sender-points, sender-series\"";
+        until("it is read", || place.log().matches(line).count() > time);
     }
     STOP.store(true, Relaxed);
     let taken = senders.map(|sender| sender.join().unwrap());
