@@ -112,10 +112,12 @@ fn named(point: &Value) -> String {
 }
 
 fn value(point: &Value) -> String {
-    let value = match &point["value"] {
-        Value::Null if point["sum"].is_null() => format!("{} values", point["count"]),
-        Value::Null => format!("{} in {} values", point["sum"], point["count"]),
-        value => value.to_string(),
+    let text = |name: &str| point[name].as_str();
+    let count = text("count").unwrap_or_default();
+    let value = match (text("value"), text("sum")) {
+        (Some(value), _) => value.to_string(),
+        (None, Some(sum)) => format!("{sum} in {count} values"),
+        (None, None) => format!("{count} values"),
     };
     match point["temporality"].as_str() {
         Some("cumulative") => format!("{value} since its start"),

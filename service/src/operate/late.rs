@@ -118,7 +118,7 @@ impl Found {
     }
 }
 
-/// A point with the names of its series, for programs.
+/// A point as a program reads it: with the names of its series, and whole numbers as decimal texts, which no reader rounds.
 fn listed(point: &LatePoint) -> Value {
     let mut shown = json!({
         "key": point.key,
@@ -128,19 +128,24 @@ fn listed(point: &LatePoint) -> Value {
         "series": point.series().0.to_string(),
         "start": of_nanoseconds(point.start_ns),
         "end": of_nanoseconds(point.end_ns),
-        "start_ns": point.start_ns,
-        "end_ns": point.end_ns,
+        "start_ns": point.start_ns.to_string(),
+        "end_ns": point.end_ns.to_string(),
         "temporality": if point.cumulative { "cumulative" } else { "delta" },
         "series_end": point.series_end_ns.map(of_nanoseconds),
         "series_sender": point.series_sender,
     });
     match &point.value {
-        LateValue::Sum(value) => shown["value"] = json!(value),
+        LateValue::Sum(value) => shown["value"] = json!(value.to_string()),
         LateValue::Histogram { count, sum, buckets } => {
-            (shown["count"], shown["sum"], shown["buckets"]) = (json!(count), json!(sum), json!(buckets));
+            shown["count"] = json!(count.to_string());
+            shown["sum"] = json!(sum.map(|sum| sum.to_string()));
+            shown["buckets"] = texts(buckets);
         }
     }
     if let Ok(of) = SeriesTotal::of_none(&point.series()) {
+        if let Some(histogram) = &of.histogram {
+            shown["bounds"] = texts(&histogram.bounds);
+        }
         let (kind, mut of) = (of.kind, json!(of));
         for name in ["name", "unit", "attributes", "resource"] {
             shown[name] = of[name].take();
@@ -149,9 +154,12 @@ fn listed(point: &LatePoint) -> Value {
         for name in ["scope_name", "scope_version", "scope_attributes"] {
             shown[name] = of[name].take();
         }
-        shown["bounds"] = of["histogram"]["bounds"].take();
     }
     shown
+}
+
+fn texts<T: ToString>(numbers: &[T]) -> Value {
+    numbers.iter().map(ToString::to_string).collect()
 }
 
 impl Desk {
@@ -179,5 +187,47 @@ impl Desk {
             Ok(found) => Answer::new(200, found),
             Err(why) => Answer::told(500, &format!("late data can't be read: {why}")),
         }
+    }
+}
+
+#[cfg(test)]
+mod tests {
+    use super::*;
+    use serde_json::value::RawValue;
+    use std::collections::BTreeSet;
+
+    fn late(kind: &str, value: LateValue) -> LatePoint {
+        LatePoint {
+            key: "1".into(),
+            at: 5,
+            sender: "shop".into(),
+            reason: Reason::OutOfOrder,
+            series: RawValue::from_string(format!(r#"[[],"","",[],"m","1",{kind},[]]"#)).unwrap(),
+            start_ns: 1,
+            end_ns: 2,
+            cumulative: false,
+            value,
+            series_end_ns: Some(3),
+            series_sender: None,
+        }
+    }
+
+    /// Whoever reads it with a program finds them there.
+    #[test]
+    fn the_fields_of_a_point_are_those_of_the_document_of_formats() {
+        let formats = include_str!("../../../docs/FORMATS.md");
+        let (_, section) = formats.split_once("**A point of `/late`**").expect("its table");
+        let rows = section.lines().skip_while(|line| !line.starts_with("| `"));
+        let first_cells =
+            rows.take_while(|line| line.starts_with('|')).filter_map(|line| line.split(" | ").next());
+        let documented: BTreeSet<&str> =
+            first_cells.flat_map(|cell| cell.split('`').skip(1).step_by(2)).collect();
+        let histogram = LateValue::Histogram { count: 3, sum: Some(7), buckets: vec![1, 2] };
+        let both = [late("\"monotonic\"", LateValue::Sum(7)), late("[5]", histogram)].map(|it| listed(&it));
+        let fields = both.iter().flat_map(|point| point.as_object().unwrap().keys());
+        let fields: BTreeSet<&str> = fields.map(String::as_str).collect();
+        assert_eq!(documented, fields);
+        assert_eq!((&both[0]["value"], &both[1]["buckets"]), (&json!("7"), &json!(["1", "2"])));
+        assert_eq!((both[0].get("bounds"), both[1].get("bounds")), (None, Some(&json!(["5"]))));
     }
 }

@@ -45,9 +45,10 @@ fn what_a_series_refuses_is_listed_by_series_sender_reason_and_time() {
     let of = |point: &Value| {
         [&point["sender"], &point["reason"], &point["value"], &point["series_sender"]].map(Value::to_string)
     };
-    assert_eq!(of(&all[0]), ["\"shop\"", "\"duplicate_or_late\"", "7", "null"]);
-    assert_eq!(of(&all[1]), ["\"shop\"", "\"other_writer\"", "7", "\"other\""]);
-    assert_eq!((&all[2]["end_ns"], &all[2]["temporality"]), (&(hour + 50).into(), &"delta".into()));
+    assert_eq!(of(&all[0]), ["\"shop\"", "\"duplicate_or_late\"", "\"7\"", "null"]);
+    assert_eq!(of(&all[1]), ["\"shop\"", "\"other_writer\"", "\"7\"", "\"other\""]);
+    let end = (hour + 50).to_string();
+    assert_eq!((&all[2]["end_ns"], &all[2]["temporality"]), (&end.into(), &"delta".into()));
     for (words, wanted) in [
         (&["--series", "a"][..], &["a"][..]),
         (&["--sender", "other"], &[]),
