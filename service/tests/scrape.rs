@@ -198,3 +198,29 @@ fn a_sample_has_the_time_of_its_series_where_that_is_asked_for() {
     let line = page.lines().find(|line| line.starts_with("orders_total{")).unwrap();
     assert!(line.ends_with("} 5 1700000000123"), "{line}");
 }
+
+/// To Prometheus a series with another label is another one.
+#[test]
+fn a_series_has_its_sender_where_that_is_asked_for() {
+    let folder = tempfile::tempdir().unwrap();
+    let service = serve(&folder.path().join("data"), &[]);
+    // In October 2026.
+    service.post(1_792_000_000_000_000_000, 5);
+    service.order("flush");
+    until_it_is_delivered(&service);
+    let labels = |path: &str| {
+        let (_, page) = asked(&service.operate, "GET", path, "").unwrap();
+        page.lines().find(|line| line.starts_with("orders_total{")).unwrap().to_string()
+    };
+    assert!(labels("/totals?sender").contains(",otel_sender=\"A\","), "{}", labels("/totals?sender"));
+    assert!(!labels("/totals").contains("otel_sender"), "{}", labels("/totals"));
+    for (words, part) in [
+        (&["totals", "--json"][..], "\"sender\":\"A\""),
+        (&["export", "--month", "2026-10", "--json"], "\"sender\":\"A\""),
+        (&["export", "--month", "2026-10", "--csv"], ",A\n"),
+    ] {
+        let output = service.told(words);
+        let text = String::from_utf8(output.stdout).unwrap();
+        assert!(output.status.success() && text.contains(part), "{words:?}: {text}");
+    }
+}

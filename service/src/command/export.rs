@@ -19,7 +19,7 @@ use std::io::{BufWriter, Write};
 
 const COLUMNS: &str =
     "series,name,kind,is_monotonic,unit,attributes,resource,scope_name,scope_version,scope_attributes,points,total,\
-    adjustments,total_adjusted,count,bounds,buckets";
+    adjustments,total_adjusted,count,bounds,buckets,sender";
 
 #[derive(Args)]
 pub struct Options {
@@ -174,6 +174,7 @@ fn csv(line: &Line) -> String {
         line.count.as_deref().unwrap_or_default().into(),
         cell(bounds),
         cell(buckets),
+        cell(line.sender.as_deref().unwrap_or_default()),
     ];
     cells.join(",") + "\n"
 }
@@ -224,6 +225,6 @@ mod tests {
         ] {
             assert_eq!(cell(text), written);
         }
-        assert_eq!(COLUMNS.split(',').count(), 16);
+        assert_eq!(COLUMNS.split(',').count(), 17);
     }
 }

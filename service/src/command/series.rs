@@ -26,6 +26,7 @@ struct Object<'a> {
     count: Option<&'a str>,
     bounds: Option<Vec<String>>,
     buckets: Option<Vec<String>>,
+    sender: Option<&'a str>,
     #[serde(flatten)]
     times: Option<&'a Times>,
 }
@@ -50,6 +51,7 @@ pub fn object(line: &Line) -> Result<Vec<u8>> {
         count: line.count.as_deref(),
         bounds: texts(line.bounds.as_deref())?,
         buckets: texts(line.buckets.as_deref())?,
+        sender: line.sender.as_deref(),
         times: line.times.as_ref(),
     };
     serde_json::to_vec(&object).map(with_end).context("a series can't be written")
@@ -83,6 +85,7 @@ mod tests {
             scope_name: "lib".into(),
             scope_version: String::new(),
             scope_attributes: raw("{}"),
+            sender: Some("shop".into()),
             points: 3,
             total: "9223372036854775810".into(),
             adjustments: "-5".into(),
@@ -96,7 +99,7 @@ mod tests {
 
     #[test]
     fn numbers_are_texts_and_attributes_are_objects() {
-        let written = r#"{"series":"7","name":"wait","kind":"histogram","is_monotonic":false,"unit":"us","attributes":{"code":200,"route":"/"},"resource":{},"scope_name":"lib","scope_version":"","scope_attributes":{},"points":"3","total":"9223372036854775810","adjustments":"-5","total_adjusted":"9223372036854775805","count":"9007199254740993","bounds":["-1","5"],"buckets":["0","9007199254740993","0"]"#;
+        let written = r#"{"series":"7","name":"wait","kind":"histogram","is_monotonic":false,"unit":"us","attributes":{"code":200,"route":"/"},"resource":{},"scope_name":"lib","scope_version":"","scope_attributes":{},"points":"3","total":"9223372036854775810","adjustments":"-5","total_adjusted":"9223372036854775805","count":"9007199254740993","bounds":["-1","5"],"buckets":["0","9007199254740993","0"],"sender":"shop""#;
         assert_eq!(object(&line()).unwrap(), format!("{written}}}\n").into_bytes());
         let times =
             Times { first_start: "2026-11-05T13:30:15Z".into(), last_end: "2026-11-05T14:00:00Z".into() };
@@ -105,8 +108,9 @@ mod tests {
             times.first_start, times.last_end
         );
         assert_eq!(object(&Line { times: Some(times), ..line() }).unwrap(), with_times.into_bytes());
-        let sum = Line { kind: Kind::Sum, count: None, bounds: None, buckets: None, ..line() };
+        let sum = Line { kind: Kind::Sum, count: None, bounds: None, buckets: None, sender: None, ..line() };
         let written = String::from_utf8(object(&sum).unwrap()).unwrap();
-        assert!(written.ends_with("\"count\":null,\"bounds\":null,\"buckets\":null}\n"), "{written}");
+        let end = "\"count\":null,\"bounds\":null,\"buckets\":null,\"sender\":null}\n";
+        assert!(written.ends_with(end), "{written}");
     }
 }

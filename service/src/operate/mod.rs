@@ -251,7 +251,7 @@ impl Desk {
                 self.read_levels();
                 reply(200, PROMETHEUS, self.metrics.page())
             }
-            Route::Totals => self.totals().await,
+            Route::Totals => self.totals(query).await,
             Route::Health => reply(200, TEXT, "ok\n"),
             Route::Ready => match self.unavailable() {
                 None => reply(200, TEXT, "ready\n"),

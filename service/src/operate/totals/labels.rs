@@ -12,12 +12,15 @@ use std::fmt::Write;
 
 pub type Labels = BTreeMap<String, String>;
 
-/// Labels that the page sets itself. An attribute of such a name becomes `exported_NAME`.
-const OURS: [&str; 7] = ["job", "instance", "le", "otel_scope_name", "otel_scope_version", METRIC, SERIES];
+/// What the page itself says of a series. An attribute of such a name is shown as `exported_NAME`.
+const OURS: [&str; 8] =
+    ["job", "instance", "le", "otel_scope_name", "otel_scope_version", METRIC, SENDER, SERIES];
 
 /// The metric's name as it was sent: several names may become the same one.
 const METRIC: &str = "otel_metric_name";
-/// The `identity` of the series: attributes of several series may become the same labels.
+/// Whose series it is, if that is asked for.
+const SENDER: &str = "otel_sender";
+/// Which series it is: attributes of several may come to the same labels.
 const SERIES: &str = "otel_series";
 /// How many bytes of the digest are used. They are enough that nobody finds two series with the same ones.
 const IDENTITY: usize = 16;
@@ -34,6 +37,7 @@ pub fn of_series(series: &SeriesTotal) -> Labels {
     labels.insert("otel_scope_version".into(), series.scope_version.clone());
     identify(&mut labels, &series.resource);
     labels.insert(METRIC.into(), series.name.clone());
+    labels.insert(SENDER.into(), series.sender.clone().unwrap_or_default());
     labels.insert(SERIES.into(), identity(series));
     labels.retain(|_, value| !value.is_empty()); // to Prometheus, an empty label is a missing one
     labels

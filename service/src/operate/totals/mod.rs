@@ -14,6 +14,7 @@ pub(super) mod tests;
 pub(super) use labels::identity;
 pub use page::Times;
 
+use super::query::Query;
 use super::{message, reply, Desk, PROMETHEUS};
 use crate::otlp::series::Digest;
 use crate::sinks::sql::reading;
@@ -31,7 +32,14 @@ use tokio::time::timeout;
 /// How long to wait while another reader has the page.
 const PATIENCE: Duration = Duration::from_secs(10);
 
-/// Reads the sink.
+/// Whether a page has the sender of each series.
+#[derive(Clone, Copy, PartialEq)]
+enum Senders {
+    Labels,
+    LeftOut,
+}
+
+/// The sink that is read.
 pub struct Totals {
     source: Address,
     times: Times,
@@ -86,12 +94,16 @@ impl Totals {
     }
 
     /// A page of all totals.
-    async fn page(&self) -> Result<Body, String> {
+    async fn page(&self, senders: Senders) -> Result<Body, String> {
         let Ok(Ok(turn)) = timeout(PATIENCE, self.page.clone().acquire_owned()).await else {
             let seconds = PATIENCE.as_secs();
             return Err(format!("another reader has had a page of totals for {seconds} s: ask again"));
         };
-        Ok(sent::sent(self.read(Ok).await?, self.times, turn))
+        let mut series = self.read(Ok).await?;
+        if senders == Senders::LeftOut {
+            series.iter_mut().for_each(|one| one.sender = None);
+        }
+        Ok(sent::sent(series, self.times, turn))
     }
 }
 
@@ -100,7 +112,7 @@ fn said(fault: impl Display) -> String {
 }
 
 impl Desk {
-    pub(super) async fn totals(&self) -> Response<Body> {
+    pub(super) async fn totals(&self, query: Query<'_>) -> Response<Body> {
         let Some(totals) = &self.totals else {
             let name = self.sink.name();
             return message(
@@ -108,7 +120,8 @@ impl Desk {
                 &format!("only a SQLite or PostgreSQL sink has totals here: this service delivers to {name}, ask it"),
             );
         };
-        match totals.page().await {
+        let senders = if query.has("sender") { Senders::Labels } else { Senders::LeftOut };
+        match totals.page(senders).await {
             Ok(page) => reply(200, PROMETHEUS, page),
             Err(what) => message(503, &what),
         }

@@ -25,6 +25,7 @@ pub fn series(name: &str, unit: &str, kind: Kind, total: i128, attributes: Value
         scope_name: String::new(),
         scope_version: String::new(),
         scope_attributes: Map::new(),
+        sender: None,
         digest: [0; 32],
         points: 1,
         start_ns: 1,

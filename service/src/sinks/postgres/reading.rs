@@ -91,7 +91,7 @@ impl sql::Reader for Reader {
     }
 
     fn totals(&self) -> String {
-        "select identity, points, first_start_ns, last_end_ns, total, count, without_sum, buckets
+        "select identity, points, first_start_ns, last_end_ns, total, count, without_sum, buckets, sender
         from series_totals join series on series.id = series_totals.series where points > 0
         order by name, cast(attributes as text), cast(resource as text), series.id"
             .into()

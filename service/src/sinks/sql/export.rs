@@ -19,6 +19,8 @@ pub struct Line {
     pub scope_name: String,
     pub scope_version: String,
     pub scope_attributes: Box<RawValue>,
+    /// Whose series it is, if the service knows.
+    pub sender: Option<String>,
     pub points: i64,
     pub total: String,
     pub adjustments: String,

@@ -136,6 +136,7 @@ fn total(row: &Row) -> Result<SeriesTotal> {
     let mut series = series(row, 0)?;
     (series.points, series.start_ns, series.end_ns) = (row.number(1)?, row.number(2)?, row.number(3)?);
     series.total = Exact(row.number(4)?);
+    series.sender = row.some(8).map(String::from);
     if let Some(histogram) = &mut series.histogram {
         let buckets: Vec<i128> = serde_json::from_str(&row.list(7).unwrap_or_default())?;
         *histogram = Histogram {
@@ -206,7 +207,7 @@ pub fn read(sink: &Address, what: &What, each: Each<'_>) -> Result<Closed> {
         }
     };
     let query = format!(
-        "select of.series, identity, points, total, adjustments, total_adjusted, count, of.buckets, {times}
+        "select of.series, identity, points, total, adjustments, total_adjusted, count, of.buckets, {times}, sender
         from {view} as of join series on series.id = of.series {order}"
     );
     opened.each(&query, |row| line(&row), each)?;
@@ -229,6 +230,7 @@ fn line(row: &Row) -> Result<Line> {
         scope_name: of.scope_name,
         scope_version: of.scope_version,
         scope_attributes: to_raw_value(&of.scope_attributes)?,
+        sender: row.some(10).map(String::from),
         points: row.number(2)?,
         total: number(3)?,
         adjustments: number(4)?,

@@ -27,7 +27,10 @@ pub struct SeriesTotal {
     pub scope_name: String,
     pub scope_version: String,
     pub scope_attributes: Map<String, Value>,
-    /// The digest of all that identifies the series.
+    /// Whose series it is, if the service knows.
+    #[serde(skip_serializing_if = "Option::is_none")]
+    pub sender: Option<String>,
+    /// Of all that identifies it.
     #[serde(skip)]
     pub digest: Digest,
     /// How many points it has, each for an interval of its own.
@@ -107,6 +110,7 @@ impl SeriesTotal {
             scope_name: parts.scope_name,
             scope_version: parts.scope_version,
             scope_attributes: object(&parts.scope_attributes)?,
+            sender: None,
             digest: key.digest(),
             points: 0,
             start_ns: 0,

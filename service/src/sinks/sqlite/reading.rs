@@ -42,7 +42,7 @@ impl sql::Reader for Reader {
     fn totals(&self) -> String {
         let (total, count) = schema::totals();
         format!(
-            "select identity, points, first_start_ns, last_end_ns, {total}, {count}, without_sum, buckets
+            "select identity, points, first_start_ns, last_end_ns, {total}, {count}, without_sum, buckets, sender
             from series join series_totals on series_totals.series = series.id order by name, attributes, resource, series.id"
         )
     }
