@@ -327,8 +327,12 @@ def serving(checks: Checks, world: World, seed: str) -> Iterator[bool]:
     serves = wait_for(world.is_ready)
     checks.true(f"{world.what}: they serve", serves, world.last_lines())
     yield serves
-    if not serves:
-        return
+    if serves:
+        end(checks, world)
+
+
+def end(checks: Checks, world: World) -> None:
+    """All instances, which hand over all that they have."""
     terms, versions = world.ask("select sum(term) from totxegun_store.slot"), world.ask(VERSIONS)
     print(f"note: {sum(one.posts for one in world.senders)} posts, {sum(one.repeats for one in world.senders)} repeats, {terms} terms,"
           f" {sum(one.starts for one in world.instances)} starts, versions {versions}", flush=True)

@@ -1,159 +1,240 @@
 #!/usr/bin/env python3
-"""Three instances over a PostgreSQL that Patroni keeps, whose leader's machine is lost with an instance's.
+"""The set-up of docs/SEVERAL_MACHINES.md by its letter, whose leader's machine is cut off for a minute and comes back, and is lost.
 
-    tests/under_patroni.py TOTXEGUN [SECONDS [SEED]]
+    tests/under_patroni.py TOTXEGUN [CUTS [SECONDS]] [--keep FOLDER]
 
-Machines are network namespaces, as in tests/several_machines.py: three instances, etcd, two with Patroni (synchronous_mode_strict),
-and haproxy. Two programs on OpenTelemetry's SDK for Go post by way of haproxy, where it is installed, and senders that repeat each
-post until it is answered. Each SECONDS (5) something comes, and Patroni and units do the rest: all processes of the leader's machine
-and of an instance's are killed at once, and their folders deleted; the lost machines come back, empty; the new leader's PostgreSQL
-is killed alone; the leader is cut off from etcd, from the other server and from two instances, while it lives.
+Machines are network namespaces, as in tests/several_machines.py. Each of three runs what the page says, of which the settings and
+commands are read there: etcd, PostgreSQL under Patroni, haproxy and an instance. On a fourth one haproxy shares posts out. Three
+programs on OpenTelemetry's SDK for Go post by way of it, one by gRPC, where that is installed, and senders that repeat each post
+until it is answered. Then, so often (CUTS, 3): the leader's machine is cut off from all others for so long (SECONDS, 60), and comes
+back. After that: it is cut off from the other two alone, so the balancer and its instance go on; its PostgreSQL is killed; a standby
+is cut off; an instance is not reached by the other instances, while the rest goes on; the leader's machine is lost with its disk, and
+replaced as the page says. A leader may not lead again because it comes back, and each time all three stream again.
 
-At the end the sink has, series by series and bucket by bucket, what senders were told and what the programs counted. It needs what
-tests/several_machines.py needs, patroni and etcd-server; where one is missing a line says so, and the status is 77. Each other line
-is one check; the last one counts those that passed and failed, and the status is 1 where one failed.
+At the end the sink has, series by series and bucket by bucket, what senders were told and what the programs counted. A note says
+after how many seconds posts were taken again. It needs what tests/several_machines.py needs, patroni, etcd-server, etcd-client,
+nftables, openssl and curl; where one is missing a line says so, and the status is 77. Each other line is one check; the last one
+counts those that passed and failed, and the status is 1 where one failed.
 """
 import argparse
 import contextlib
 import json
 import os
-import shutil
+import random
+import re
+import shlex
 import signal
 import subprocess
 import sys
 import tempfile
+import threading
 import time
-from collections.abc import Callable, Sequence
+from collections.abc import Callable, Iterator
 from typing import Any
 
 import sdk_go
+from testing import ROOT
 from testing.checks import Checks
-from testing.database import NOBODY, initdb
-from testing.machines import Machine, both_ways
-from testing.servers import PORT, as_nobody, send
-from testing.service import OtlpSink, ask, forwarded_value
-from several_machines import IN_THE_END, LISTEN, Balancer, World, missing, options, phase, run, serving, wait_for
+from clock_jumps import Clock
+from testing.machines import Machine, Router, both_ways
+from testing.page_machines import ETCD, NAMES, PASSWORD, PATRONI, POSTGRES, Node, PageMachines, block, log_to, of_machine
+from testing.servers import LIMIT, send
+from testing.service import ask
+from several_machines import (IN_THE_END, LISTEN, PEER, SENDERS, Balancer, Instance, OverMachines, PostgresSink, World, end, kept_folder,
+                              missing, other_version, phase, run, wait_for)
 from several_trouble import Trouble
 
-WHAT = "under Patroni"
-ETCD, PATRONI = 2379, 8008
-SDK_SECONDS = 20
-# Patroni's own tables are all in etcd; these are what a page of it has, but for shorter times.
-SETTINGS = """
-scope: totxegun
-name: {name}
-restapi: {{listen: "{host}:8008", connect_address: "{host}:8008"}}
-etcd3: {{host: "{etcd}:2379"}}
-bootstrap:
-  dcs:
-    ttl: 20
-    loop_wait: 2
-    retry_timeout: 5
-    synchronous_mode: true
-    synchronous_mode_strict: true
-    postgresql: {{use_pg_rewind: false, remove_data_directory_on_diverged_timelines: true}}
-  initdb: [{{encoding: UTF8}}, {{auth: trust}}, no-sync]
-postgresql:
-  listen: "{host}:5432"
-  connect_address: "{host}:5432"
-  data_dir: "{folder}/data"
-  bin_dir: "{programs}"
-  pgpass: "{folder}/pgpass"
-  authentication: {{superuser: {{username: postgres}}, replication: {{username: postgres}}}}
-  pg_hba: [local all all trust, host all all all trust, host replication all all trust]
-  parameters: {{unix_socket_directories: "{folder}", shared_buffers: 32MB, max_connections: 120}}
-"""
+WHAT = "by the page's letter"
+LISTEN_GRPC = 4317
+SDK_SECONDS = 90
+BETWEEN = 5
 
 
-class Node:
-    """A PostgreSQL under a Patroni, on a machine of its own."""
+class Addressed:
+    """What an instance is told of the store and of its sink is the page's."""
 
-    def __init__(self, machine: Machine, etcd: Machine) -> None:
-        self.machine, self.host, self.etcd = machine, machine.address, etcd
-        self.programs, self.folder = os.path.dirname(initdb()), tempfile.mkdtemp(prefix="patroni-")
-        self.process: subprocess.Popen[bytes] = None
+    address = ""
 
-    def begin(self) -> None:
-        """On what its folder has, which may be nothing."""
-        os.makedirs(self.folder, exist_ok=True)
-        os.chown(self.folder, NOBODY, NOBODY)
-        with open(f"{self.folder}/patroni.yml", "w", encoding="ascii") as file:
-            file.write(SETTINGS.format(name=self.machine.name, host=self.host, etcd=self.etcd.address, folder=self.folder,
-                                       programs=self.programs))
-        self.process = log_to(f"{self.folder}.log", self.machine.on(*as_nobody(), "patroni", file.name))
 
-    def be_lost(self) -> None:
-        self.machine.kill()
-        self.process.wait()
-        shutil.rmtree(self.folder, ignore_errors=True)
+class PageInstance(Instance):
+    """What the page has people start on a machine."""
+
+    def __init__(self, node: Node, folder: str, programs: list[str], note: Callable[[str], object]) -> None:
+        os.makedirs(f"{folder}/instances/clock-{node.name}")
+        clock = Clock(f"{folder}/instances/clock-{node.name}")
+        super().__init__(node.machine, f"{folder}/instances", Addressed, Addressed, clock, programs, note)
+        self.settings = {"PGPASSWORD": PASSWORD, "TOTXEGUN_KEEP_INTERVALS": "forever"}
+        words = shlex.split(of_machine(block("totxegun serve --store"), node.name, node.machines))
+        words[0], words[words.index("--data") + 1] = programs[0], self.data
+        words = [f"{folder}/tls/{word}" if re.fullmatch(r"[\w.]+\.(pem|crt|key)", word) else word for word in words]
+        # Points of these senders end in 1970.
+        self.words = [*node.machine.on(), *words, "--flush-interval", "1s", "--max-ahead", "off"]
+        self.place = self.words.index(programs[0])
+
+
+class PageBalancer(Balancer):
+    """The page's, with the defaults that it names."""
+
+    def __init__(self, machine: Machine, folder: str) -> None:
+        self.host, self.listen, self.machine = machine.address, LISTEN, machine
+        with open(f"{ROOT}/operate/haproxy.cfg", encoding="utf-8") as file:
+            defaults = re.search(r"^defaults\n.*?(?=^frontend)", file.read(), re.MULTILINE | re.DOTALL)
+        with open(f"{folder}/balancer.cfg", "w", encoding="utf-8") as file:
+            file.write(defaults[0] + block("frontend senders"))
+        self.process = log_to(f"{folder}/balancer.log", machine.on("haproxy", "-db", "-f", file.name))
+
+
+class Metrics:
+    """The database of the sink."""
+
+    def __init__(self, machines: PageMachines) -> None:
+        self.machines = machines
 
     def ask(self, query: str) -> str | None:
-        words = [f"{self.programs}/psql", "-h", self.host, "-p", str(PORT), "-U", "postgres", "-XAtq", "-c", query, "postgres"]
-        done = subprocess.run(words, capture_output=True, text=True, check=False, timeout=60, env={**os.environ, "PGCONNECT_TIMEOUT": "5"})
-        return done.stdout.strip() if done.returncode == 0 else None
+        return self.machines.ask(query, "metrics")
 
-    def roles(self) -> dict[str, str]:
-        """Of each node, as Patroni has it. It promotes none but a synchronous standby that it has written down."""
-        status, text = ask(PATRONI, "GET", "/cluster", seconds=5, host=self.host)
-        members = json.loads(text)["members"] if status == 200 else ()
-        return {one["name"]: one["role"] for one in members if one["state"] == "running"}
-
-    def close(self) -> None:
-        self.machine.kill()
-        shutil.rmtree(self.folder, ignore_errors=True)
-        with contextlib.suppress(OSError):
-            os.unlink(f"{self.folder}.log")
-
-    def last_lines(self) -> str:
-        with open(f"{self.folder}.log", encoding="utf-8", errors="replace") as file:
-            return "".join(file.readlines()[-10:])
+    def rows(self, instance: str) -> Any:
+        return json.loads(self.ask(sdk_go.TOTALS.format(instance)) or "[]")
 
 
-class UnderPatroni:
-    """Which of the two writes is for Patroni to say."""
+class PageWorld(World):
+    """The page's machines, and what runs there."""
 
-    def __init__(self, *machines: Machine) -> None:
-        self.etcd, self.folder = machines[0], tempfile.mkdtemp(prefix="etcd-")
-        at = f"http://{self.etcd.address}:{ETCD}"
-        words = ["etcd", "--data-dir", self.folder, "--listen-client-urls", at, "--advertise-client-urls", at, "--listen-peer-urls",
-                 "http://127.0.0.1:2380"]
-        log_to(f"{self.folder}.log", self.etcd.on(*words))
-        self.nodes = [Node(machine, self.etcd) for machine in machines[1:]]
-        for node in self.nodes:
-            node.begin()
-        places = ",".join(f"{node.host}:{PORT}" for node in self.nodes)
-        self.address = f"postgres://postgres@{places}/postgres"
+    def __init__(self, stack: contextlib.ExitStack, arguments: argparse.Namespace) -> None:
+        self.what, self.program, self.has_others = WHAT, os.path.abspath(arguments.totxegun), False
+        self.folder = kept_folder(arguments.keep, "page") or stack.enter_context(tempfile.TemporaryDirectory(prefix="page-"))
+        os.chmod(self.folder, 0o755)
+        self.router = Router(stack)
+        machines = [self.router.machine(name) for name in (*NAMES, "balancer")]
+        self.store: PageMachines = PageMachines(*machines, folder=self.folder)
+        stack.callback(self.store.close)
+        self.metrics: Any = Metrics(self.store)
+        self.sink: Any = PostgresSink(self.metrics)
+        self.make_certificates()
+        programs = [self.program, other_version(self.program, self.folder)]
+        self.instances = [PageInstance(node, self.folder, programs, self.note) for node in self.store.nodes]
+        self.balancer = PageBalancer(machines[-1], self.folder)
+        self.senders = [OverMachines([self.balancer], number, "page") for number in range(SENDERS)]
 
-    def leader(self) -> Node | None:
-        """The one that writes, by what they say themselves."""
-        return next((node for node in self.nodes if node.ask("select pg_is_in_recovery()") == "f"), None)
+    def make_certificates(self) -> None:
+        os.mkdir(f"{self.folder}/tls")
+        subprocess.run(["sh", "-ec", block('new="-x509')], cwd=f"{self.folder}/tls", capture_output=True, check=True, timeout=LIMIT)
 
-    def other(self, node: Node) -> Node:
-        return next(one for one in self.nodes if one is not node)
+    def make_store(self) -> tuple[int, str]:
+        os.mkdir(f"{self.folder}/bin")
+        os.symlink(self.program, f"{self.folder}/bin/totxegun")
+        text = of_machine(block("CREATE ROLE totxegun LOGIN"), "a", self.store.machines)
+        environment = {**os.environ, "PATH": f"{self.folder}/bin:{os.environ['PATH']}", "PGPASSWORD": PASSWORD}
+        made = subprocess.run(self.store.machines[0].on("sh", "-ec", text), capture_output=True, text=True, check=False, timeout=LIMIT,
+                              env=environment)
+        return made.returncode, made.stderr
 
-    def is_whole(self) -> bool:
-        leader = self.leader()
-        return leader is not None and leader.roles() == {leader.machine.name: "leader", self.other(leader).machine.name: "sync_standby"}
-
-    def make_standby(self) -> None:
-        if not wait_for(self.is_whole):
-            raise OSError(f"Patroni has no leader with a standby: {[node.last_lines() for node in self.nodes]}")
-
-    def ask(self, query: str) -> str | None:
-        leader = self.leader()
-        return leader.ask(query) if leader else None
-
-    def close(self) -> None:
-        self.etcd.kill()
-        for node in self.nodes:
-            node.close()
-        shutil.rmtree(self.folder, ignore_errors=True)
-        os.unlink(f"{self.folder}.log")
+    def answered(self) -> list[int]:
+        return [one.posts for one in self.senders]
 
 
-def log_to(path: str, words: Sequence[str]) -> subprocess.Popen[bytes]:
-    with open(path, "ab") as log:
-        return subprocess.Popen(words, cwd="/", stdin=subprocess.DEVNULL, stdout=log, stderr=log)
+class Watch:
+    """When each sender has an answer to a post that it began after this."""
+
+    def __init__(self, world: PageWorld) -> None:
+        self.world, self.begun, self.before = world, time.monotonic(), world.answered()
+        self.first = self.last = 0.0
+        self.thread = threading.Thread(target=self.look, daemon=True)
+        self.thread.start()
+
+    def look(self) -> None:
+        while not self.last and time.monotonic() - self.begun < IN_THE_END:
+            have = [now >= before + 2 for now, before in zip(self.world.answered(), self.before)]
+            since = time.monotonic() - self.begun
+            self.first = self.first or since * any(have)
+            self.last = since * all(have)
+            time.sleep(0.1)
+
+
+class OfPage(Trouble):
+    """In this order; after each, all three stream."""
+
+    def __init__(self, world: PageWorld, cuts: int, seconds: float) -> None:
+        super().__init__(world, "page", False)
+        self.of: PageWorld = world
+        self.store: PageMachines = world.store
+        self.cuts, self.seconds = cuts, seconds
+        self.leader: Node = None
+
+    def kinds(self) -> list[Callable[[], object]]:
+        return [*[self.machine_cut_off] * self.cuts, self.cut_off_from_machines, self.postgres_killed, self.standby_cut_off,
+                self.unreached, self.machine_lost]
+
+    def go_on(self, until: float) -> None:
+        for kind in self.kinds():
+            time.sleep(BETWEEN)
+            self.done.append(kind.__name__)
+            self.leader = self.store.leader()
+            self.of.note(f"{kind.__name__}: {self.leader.name} leads")
+            with self.taken_again(kind.__name__):
+                kind()
+                seconds = self.store.become_whole()
+            print(f"note: {WHAT}, {kind.__name__}: all stream {seconds:.0f} s after it ended", flush=True)
+
+    @contextlib.contextmanager
+    def taken_again(self, what: str) -> Iterator[None]:
+        watch = Watch(self.of)
+        yield
+        watch.thread.join(IN_THE_END)
+        times = f"of the first sender after {watch.first:.1f} s, of each after {watch.last:.1f} s"
+        print(f"note: {WHAT}, {what}: posts are taken again, {times}", flush=True)
+
+    def cut_off(self, *others: Machine) -> None:
+        leader = self.leader
+        with self.of.router.cut(*both_ways(leader.machine, *others)):
+            time.sleep(self.seconds)
+        # What is wrong with its return shows in the first looks of its Patroni.
+        for _ in range(20):
+            time.sleep(0.5)
+            if any(node.members().get(leader.name, ("",))[0] == "leader" for node in self.store.others(leader)):
+                self.silences.append(f"{leader.name} leads again once it is back")
+                return
+
+    def machine_cut_off(self) -> None:
+        self.cut_off(*(node.machine for node in self.store.others(self.leader)), self.of.balancer.machine)
+
+    def cut_off_from_machines(self) -> None:
+        self.cut_off(*(node.machine for node in self.store.others(self.leader)))
+
+    def postgres_killed(self) -> None:
+        for pid in self.leader.pids("postgres"):
+            send(pid, signal.SIGKILL)
+
+    def standby_cut_off(self) -> None:
+        gone, stays = self.store.others(self.leader)
+        with self.of.router.cut(*both_ways(gone.machine, self.leader.machine, stays.machine, self.of.balancer.machine)):
+            time.sleep(self.seconds)
+
+    def unreached(self) -> None:
+        """By the other instances alone: the balancer, and the database by which all see who beats, go on."""
+        one = self.store.others(self.leader)[0]
+        one.refuse(PEER)
+        time.sleep(self.seconds)
+        one.guard()
+
+    def machine_lost(self) -> None:
+        """The page's commands are given on another machine, and then the lost one is set up as at first."""
+        leader = self.leader
+        one = self.of.instances[NAMES.index(leader.name)]
+        one.leave()
+        leader.be_lost()
+        one.vanish(with_folder=True)
+        time.sleep(self.seconds)
+        other = self.store.others(leader)[0]
+        found = ""
+        for line in of_machine(block("member remove ID"), leader.name, self.store.machines).splitlines():
+            if "member remove" in line:
+                line = line.replace(" ID", " " + re.search(rf"(\w+), \w+, {leader.name},", found)[1])
+            # The page asks a machine that is there.
+            line = re.sub(r"--endpoints=\S+", f"--endpoints=http://{other.host}:2379", line)
+            found = subprocess.run(other.machine.on(*shlex.split(line)), capture_output=True, text=True, check=True, timeout=LIMIT).stdout
+        leader.begin("existing")
+        one.begin(self.chance)
 
 
 class Sdk:
@@ -165,122 +246,72 @@ class Sdk:
         self.running: list[subprocess.Popen[bytes]] = []
 
     def start(self) -> None:
-        for number, (encoding, temporality) in enumerate((("json", sdk_go.DELTA), ("protobuf", sdk_go.CUMULATIVE))):
-            words = [self.program, "-encoding", encoding, "-url", f"http://{self.door.host}:{LISTEN}/v1/metrics", "-instance",
-                     f"i-{number}", "-sender", f"shop-{number}", "-temporality", str(temporality), "-seconds", str(SDK_SECONDS),
-                     "-descriptors", f"{self.folder}/descriptors", "-out", f"{self.folder}/{number}.json"]
+        kinds = (("json", sdk_go.DELTA), ("protobuf", sdk_go.CUMULATIVE), ("grpc", sdk_go.CUMULATIVE))
+        for number, (encoding, temporality) in enumerate(kinds):
+            places = ["-url", f"http://{self.door.host}:{LISTEN}/v1/metrics", "-grpc", f"{self.door.host}:{LISTEN_GRPC}"]
+            words = [self.program, "-encoding", encoding, *places, "-instance", f"i-{number}", "-sender", f"shop-{number}",
+                     "-temporality", str(temporality), "-seconds", str(SDK_SECONDS), "-descriptors", f"{self.folder}/descriptors",
+                     "-out", f"{self.folder}/{number}.json"]
             self.running.append(log_to(f"{self.folder}/{number}.log", words))
 
-    def compare(self, checks: Checks, sink: Any) -> None:
+    def compare(self, checks: Checks, metrics: Any) -> None:
         for number, one in enumerate(self.running):
             checks.same(f"{WHAT}: program {number} ends", 0, one.wait(IN_THE_END))
             with open(f"{self.folder}/{number}.json", encoding="utf-8") as file:
                 said = json.load(file)
             told = {part: said[part] for part in ("totals", "buckets")}
-            wait_for(lambda: not sdk_go.difference(told, counted(sink, number)))
-            checks.same(f"{WHAT}: the sink has what program {number} counted", [], sdk_go.difference(told, counted(sink, number)))
+
+            def differs() -> list[str]:
+                return sdk_go.difference(told, sdk_go.found_of(metrics, number)[0])
+
+            wait_for(lambda: not differs())
+            checks.same(f"{WHAT}: the sink has what program {number} counted", [], differs())
             checks.true(f"{WHAT}: and it did count", len(told["totals"]) > 5 and not said["gave_up"], said)
 
 
-def counted(sink: OtlpSink, number: int) -> dict[str, Any]:
-    """What the sink has of a program, as it writes it itself."""
-    found: dict[str, Any] = {"totals": {}, "buckets": {}}
-    with sink.lock:
-        bodies = list(sink.taken.values())
-    for resource in (one for body in bodies if f'"i-{number}"'.encode() in body for one in json.loads(body)["resourceMetrics"]):
-        if f'"i-{number}"' in json.dumps(resource["resource"]):
-            for metric in (one for scope in resource["scopeMetrics"] for one in scope["metrics"]):
-                add_metric(found, metric)
-    return found
-
-
-def add_metric(found: dict[str, Any], metric: Any) -> None:
-    for point in metric.get("sum", metric.get("histogram", {})).get("dataPoints", ()):
-        attributes = {one["key"]: one["value"] for one in point["attributes"]}
-        key = f"{metric['name']} {attributes['http.route']['stringValue']}"
-        value = forwarded_value(point)
-        buckets, total = value if isinstance(value, tuple) else (None, value)
-        found["totals"][key] = found["totals"].get(key, 0) + int(total)
-        if buckets is not None:
-            before = found["buckets"].get(key, [0] * len(buckets))
-            found["buckets"][key] = [one + other for one, other in zip(before, buckets)]
-
-
-class OfPatroni(Trouble):
-    """In this order; after each there is a leader with a synchronous standby again."""
-
-    def __init__(self, world: World, seed: str, between: float) -> None:
-        super().__init__(world, seed, False)
-        self.store: UnderPatroni = world.store
-        self.between = between
-
-    def kinds(self) -> list[Callable[[], object]]:
-        return [self.machines_lost, self.leader_killed, self.leader_cut_off]
-
-    def go_on(self, until: float) -> None:
-        for kind in self.kinds():
-            time.sleep(self.between)
-            self.done.append(kind.__name__)
-            kind()
-            self.store.make_standby()
-
-    def leads(self, node: Node) -> None:
-        """By what it says: an old one that is cut off says so too, as long as Patroni has not ended it."""
-        if not wait_for(lambda: node.ask("select pg_is_in_recovery()") == "f"):
-            raise OSError(f"Patroni has not promoted the standby: {node.last_lines()}")
-
-    def machines_lost(self) -> None:
-        """The leader's and an instance's, with all that was in their folders; they come back empty."""
-        store, one = self.store, self.world.instances[0]
-        lost = store.leader()
-        lost.be_lost()
-        one.vanish(with_folder=True)
-        self.leads(store.other(lost))
-        lost.begin()
-        one.begin(self.chance)
-
-    def leader_killed(self) -> None:
-        """PostgreSQL alone: Patroni has it go on, or another lead."""
-        leader = self.store.leader()
-        for pid in leader.machine.processes():
-            if is_postgres(pid):
-                send(pid, signal.SIGKILL)
-
-    def leader_cut_off(self) -> None:
-        """It lives, and one instance still has it."""
-        store = self.store
-        leader = store.leader()
-        others = [store.etcd, store.other(leader).machine, *(one.machine for one in self.world.instances[1:])]
-        with self.world.router.cut(*both_ways(leader.machine, *others)):
-            self.leads(store.other(leader))
-
-
-def is_postgres(pid: int) -> bool:
-    with contextlib.suppress(OSError), open(f"/proc/{pid}/comm", encoding="ascii") as file:
-        return file.read().strip() == "postgres"
-    return False
+def look_around(checks: Checks, world: PageWorld) -> None:
+    """What the page's firewall lets in, and the metrics of its alerts."""
+    node, balancer = world.store.nodes[0], world.balancer.machine
+    for port, is_open in ((ETCD, False), (POSTGRES, False), (PATRONI, True)):
+        asked = subprocess.run(balancer.on("curl", "-sm2", f"http://{node.host}:{port}/"), capture_output=True, check=False, timeout=LIMIT)
+        checks.same(f"{WHAT}: the balancer reaches port {port}", is_open, asked.returncode == 0)
+    page = ask(PATRONI, "GET", "/metrics", host=node.host)[1].decode()
+    named = set(re.findall(r"patroni_\w+", block("alert: PatroniStandbyMissing")))
+    checks.same(f"{WHAT}: Patroni has what its alerts name", (True, set()), (len(named) > 1, {one for one in named if one not in page}))
 
 
 def work(checks: Checks, arguments: argparse.Namespace, stack: contextlib.ExitStack) -> None:
-    world = World(stack, WHAT, arguments, arguments.seed, UnderPatroni, ("etcd", "p", "s"))
-    # The SDK's points end now: an instance whose clock is late leaves them out.
-    for one in world.instances:
-        one.clock.set(0)
-    world.store.make_standby()
+    world = PageWorld(stack, arguments)
+    print(f"note: {WHAT}: all stream {world.store.become_whole():.0f} s after the start", flush=True)
+    checks.same(f"{WHAT}: a store is made", (0, ""), world.make_store())
+    look_around(checks, world)
     lacking = sdk_go.missing()
     sdk = Sdk(world.folder, world.balancer) if checks.has("the SDK for Go", *lacking) else None
     if sdk:
         checks.same(f"{WHAT}: the program on the SDK for Go is built", "", sdk.fault)
-    with serving(checks, world, arguments.seed) as serves:
-        if not serves:
-            return
-        if sdk and not sdk.fault:
-            world.has_others = True
-            sdk.start()
-        phase(checks, world, [OfPatroni(world, arguments.seed, arguments.seconds)], 0)
-        if sdk and not sdk.fault:
-            sdk.compare(checks, world.sink)
+    for one in world.instances:
+        one.begin(random.Random("page"))
+    serves = wait_for(world.is_ready)
+    checks.true(f"{WHAT}: they serve", serves, world.last_lines())
+    if not serves:
+        return
+    if sdk and not sdk.fault:
+        world.has_others = True
+        sdk.start()
+    phase(checks, world, [OfPage(world, arguments.cuts, arguments.seconds)], 0)
+    if sdk and not sdk.fault:
+        sdk.compare(checks, world.metrics)
+    end(checks, world)
+
+
+def options() -> argparse.Namespace:
+    parser = argparse.ArgumentParser(description=__doc__.split("\n", maxsplit=1)[0])
+    parser.add_argument("totxegun", type=lambda word: os.path.abspath(word))
+    parser.add_argument("cuts", type=int, nargs="?", default=3)
+    parser.add_argument("seconds", type=float, nargs="?", default=60)
+    parser.add_argument("--keep", type=lambda word: os.path.abspath(word))
+    return parser.parse_args()
 
 
 if __name__ == "__main__":
-    sys.exit(run(WHAT, work, options(__doc__, 5), *missing("patroni", "etcd")))
+    sys.exit(run(WHAT, work, options(), *missing("patroni", "etcd", "etcdctl", "nft", "openssl", "curl")))

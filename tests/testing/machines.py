@@ -43,7 +43,7 @@ class Machine:
     """What runs there has its address, and every port of its own."""
 
     def __init__(self, stack: contextlib.ExitStack, name: str, number: int) -> None:
-        self.name, self.namespace = name, f"totxegun-{os.getpid()}-{name}"
+        self.stack, self.name, self.namespace = stack, name, f"totxegun-{os.getpid()}-{name}"
         self.address = f"{NETWORK}.{number}.2"
         link, router = f"m{number}", f"{NETWORK}.{number}.1"
         ip("netns", "add", self.namespace)
@@ -59,6 +59,14 @@ class Machine:
 
     def on(self, *words: str) -> list[str]:
         return on(self.namespace, *words)
+
+    def has_hosts(self, text: str) -> None:
+        """What runs there from now on finds this at /etc/hosts."""
+        folder = f"/etc/netns/{self.namespace}"
+        os.makedirs(folder)
+        self.stack.callback(shutil.rmtree, folder, ignore_errors=True)
+        with open(f"{folder}/hosts", "w", encoding="ascii") as file:
+            file.write(text)
 
     def be_led_to(self) -> None:
         """From now on what is sent to LED comes here."""
