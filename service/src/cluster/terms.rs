@@ -23,8 +23,8 @@ pub struct Instance {
     pub beat: u64,
     /// How many processes have started under this name.
     pub life: u64,
-    /// How often processes before the last one have sent heartbeats since it started.
-    pub earlier: u64,
+    /// How often each of the last of these has beaten, by its number.
+    pub lives: BTreeMap<u64, u64>,
     pub told: Told,
 }
 

@@ -58,7 +58,7 @@ impl Terms for Of {
             version: "1".into(),
             beat: 0,
             life: 0,
-            earlier: 0,
+            lives: BTreeMap::new(),
             told: terms::Told::default(),
         };
         let own = rows.0.entry(self.1.into()).or_insert(new);
@@ -71,7 +71,7 @@ impl Terms for Of {
             }
             life => life,
         };
-        own.earlier += u64::from(life < own.life);
+        *own.lives.entry(life).or_default() += 1;
         own.told = told;
         own.address = match stay {
             Stay::Here => self.2.clone(),

@@ -1,8 +1,8 @@
-//! Detects another process with this instance's name. The row counts the processes in the order in which they started,
-//! and the heartbeats of all but the last one. So a process knows whether it came later, and it takes no shard before
-//! it knows.
+//! Whether another process beats under this instance's name. The row numbers processes in the order in which they began, and counts
+//! the beats of each: so a process sees whether an earlier one goes on, and takes nothing before it knows.
 
 use crate::cluster::terms::Instance;
+use std::collections::BTreeMap;
 
 /// How many heartbeats of an earlier process, between our own, end this process. After a kill a few may still arrive.
 const LATER: u32 = 4;
@@ -16,9 +16,9 @@ pub(super) struct Namesake {
     /// How many processes had started, and for how many heartbeats that has been so.
     begun: u64,
     since: u32,
-    /// How often earlier processes had sent heartbeats; our heartbeats since the last of these; and how many of ours
-    /// had one in between.
-    earlier: Option<u64>,
+    /// How often each process had beaten, and own beats since the last one of an earlier process; and how many of this process had
+    /// one between.
+    beats: Option<BTreeMap<u64, u64>>,
     quiet: u32,
     between: u32,
     /// The number of this process.
@@ -33,7 +33,7 @@ impl Namesake {
 
     /// Whether shards with this name may still belong to an earlier process. Nothing is taken until that is known.
     pub fn may_own(&self) -> bool {
-        self.life > 1 && self.begun == self.life && self.quiet < QUIET
+        self.life > 1 && self.quiet < QUIET
     }
 
     /// Whether the other process had the name before this one started.
@@ -45,8 +45,12 @@ impl Namesake {
     pub fn note(&mut self, row: &Instance, life: u64) {
         self.since = if row.life == self.begun { self.since.saturating_add(1) } else { 0 };
         (self.begun, self.life) = (row.life, life);
-        let has_beaten = row.life == life && self.earlier.is_some_and(|before| row.earlier > before);
-        self.earlier = Some(row.earlier);
+        let has_beaten = self.beats.as_ref().is_some_and(|before| {
+            row.lives
+                .range(..life)
+                .any(|(earlier, beats)| before.get(earlier).is_none_or(|before| beats > before))
+        });
+        self.beats = Some(row.lives.clone());
         match has_beaten {
             true => (self.quiet, self.between) = (0, self.between + 1),
             false => self.quiet = self.quiet.saturating_add(1),

@@ -1,5 +1,6 @@
 //! Random schedules of instances over a store in memory.
 
+mod namesake;
 mod world;
 
 use super::*;
@@ -262,46 +263,7 @@ fn while_nobody_reaches_all_owners_each_stays_ready() {
     assert!(world.nodes.iter().all(|node| !node.owners.misses_owner()));
 }
 
-#[test]
-fn of_two_with_one_name_none_takes_a_slot_from_the_other() {
-    let mut world = World::of(11, &["a"]);
-    world.rounds(20);
-    assert!(world.is_settled());
-    let takes = world.takes;
-    world.join("a");
-    world.rounds(10);
-    assert_eq!(world.takes, takes);
-    assert!(world.nodes.iter().all(|node| node.owners.has_namesake()));
-    let came_later =
-        |world: &World| world.nodes.iter().map(|node| node.owners.came_later()).collect::<Vec<_>>();
-    assert_eq!(came_later(&world), [false, true]);
-    world.nodes.pop();
-    world.rounds(20);
-    assert!(world.is_settled() && !world.nodes[0].owners.has_namesake());
-    world.nodes.pop();
-    world.join("a");
-    world.rounds(60);
-    assert_eq!((came_later(&world), world.is_settled()), (vec![false], true), "the one before was killed");
-}
-
-/// As when systemd restarts a later process again and again: each one ends, and none may take free shards, however
-/// rarely the earlier process sends heartbeats.
-#[test]
-fn a_later_process_of_a_name_keeps_no_slot_from_the_one_before() {
-    let mut world = World::of(11, &["a"]);
-    world.rounds(20);
-    (world.store.rows[3].term, world.store.rows[3].owner) = (2, String::new());
-    world.join("a");
-    for _ in 0..8 {
-        world.nodes[0].stands_for = 2;
-        world.rounds(3);
-        assert!(world.nodes[1].owners.terms().is_empty());
-    }
-    assert!(world.nodes[0].owners.has_namesake() && world.nodes[1].owners.came_later());
-    assert_eq!(world.nodes[0].owners.terms().get(&3), Some(&3));
-}
-
-/// As after a store was restored from a backup.
+/// As where a store was set back.
 #[test]
 fn a_slot_that_another_has_under_the_same_term_is_dropped() {
     let mut world = World::of(13, &["a"]);

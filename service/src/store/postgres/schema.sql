@@ -8,8 +8,9 @@ create table totxegun_store.cluster (
 create table totxegun_store.instance (
     -- Other instances bring posts to the one address, operators of other machines ask at the other; empty if they can't.
     name text primary key, address text not null, operate text not null, version text not null, beat bigint not null,
-    -- Processes that have begun under this name, the last of which counts, and how often an earlier one has beaten since.
-    life bigint not null, earlier bigint not null,
+    -- Processes that have begun under this name, the first of which counts, and how often each of the last ones has beaten, by its
+    -- number.
+    life bigint not null, lives jsonb not null,
     -- What it tells of itself (`Told` in cluster/terms.rs), in JSON.
     told text not null);
 -- The fence. Its rows are never deleted. What is written of a slot locks its row where term, link and epoch are as the writer

@@ -16,16 +16,18 @@ use tokio_postgres::Row as DatabaseRow;
 /// The time limit of a read: reads wait for no lock and no standby, so a server that is silent for longer is lost.
 const READ: Duration = Duration::from_secs(5);
 
-const BEAT: &str =
-    "insert into totxegun_store.instance as i (name, address, operate, version, beat, life, earlier, told)
-    values ($1, $2, $3, $4, 1, greatest($6::bigint, 1), 0, $5)
+/// Of processes that began long ago the beats are left out, unless they go on.
+const BEAT: &str = "insert into totxegun_store.instance as i (name, address, operate, version, beat, life, lives, told)
+    values ($1, $2, $3, $4, 1, greatest($6::bigint, 1), jsonb_build_object(greatest($6::bigint, 1), 1), $5)
     on conflict (name) do update set beat = i.beat + 1, address = excluded.address, operate = excluded.operate,
     version = excluded.version, told = excluded.told, life = greatest(i.life, $6) + case $6 when 0 then 1 else 0 end,
-    earlier = i.earlier + case when $6 > 0 and $6 < i.life then 1 else 0 end
+    lives = (select (i.lives - (i.life - 8)::text)
+        || jsonb_build_object(number, coalesce((i.lives ->> number::text)::bigint, 0) + 1)
+        from (values (case $6 when 0 then i.life + 1 else $6 end)) as this (number))
     returning life";
 /// Also returns the server's time, in microseconds since 1970.
 const INSTANCES: &str = "select name, address, version, beat, told, operate, (extract(epoch from clock_timestamp()) * 1e6)::bigint,
-    life, earlier
+    life, lives::text
     from totxegun_store.instance";
 const SLOTS: &str = "select slot, term, owner from totxegun_store.slot order by slot";
 /// Takes nothing while a folder is being moved into the store.
@@ -73,7 +75,7 @@ impl Connection {
                 told: serde_json::from_str(row.get(4)).unwrap_or_default(),
                 operate: row.get(5),
                 life: row.get::<_, i64>(7) as u64,
-                earlier: row.get::<_, i64>(8) as u64,
+                lives: serde_json::from_str(row.get(8)).unwrap_or_default(),
             };
             (one, row.get::<_, i64>(6))
         };

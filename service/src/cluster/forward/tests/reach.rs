@@ -11,7 +11,7 @@ fn other(name: &str, address: &str) -> Instance {
         version: String::new(),
         beat: 1,
         life: 1,
-        earlier: 0,
+        lives: [].into(),
         told: Told::default(),
     }
 }

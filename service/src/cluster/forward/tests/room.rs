@@ -24,7 +24,7 @@ fn among(others: usize, whose: Whose) -> Receiver {
         version: String::new(),
         beat: 1,
         life: 1,
-        earlier: 0,
+        lives: [].into(),
         told: Default::default(),
     };
     forward.cluster.has_seen(Seen { instances: (0..others).map(instance).collect(), ..Seen::default() });

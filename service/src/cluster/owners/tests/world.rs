@@ -25,9 +25,9 @@ impl Random {
 pub struct Store {
     pub rows: Vec<Row>,
     pub instances: BTreeMap<String, (u64, Option<Stay>, Told)>,
-    /// How many processes have started under a name, and how often earlier ones have sent heartbeats since.
-    lives: BTreeMap<String, (u64, u64)>,
-    /// Which instance was the owner under which term.
+    /// How often each process of a name has beaten, by its number.
+    lives: BTreeMap<String, BTreeMap<u64, u64>>,
+    /// Who was the owner under which term.
     pub terms: HashMap<(u16, u64), usize>,
 }
 
@@ -36,9 +36,9 @@ impl Store {
     /// one.
     pub fn beat(&mut self, name: &str, (stay, told): (Stay, Told), clock: i64, life: &mut u64) -> Seen {
         let lives = self.lives.entry(name.into()).or_default();
-        lives.0 += u64::from(*life == 0);
-        *life = if *life == 0 { lives.0 } else { *life };
-        lives.1 += u64::from(*life < lives.0);
+        let last = |lives: &BTreeMap<u64, u64>| lives.keys().next_back().copied().unwrap_or_default();
+        *life = if *life == 0 { last(lives) + 1 } else { *life };
+        *lives.entry(*life).or_default() += 1;
         let row = self.instances.entry(name.into()).or_default();
         *row = (row.0 + 1, Some(stay), told);
         let instances = self.instances.iter().map(|(name, (beat, stay, told))| Instance {
@@ -47,8 +47,8 @@ impl Store {
             operate: String::new(),
             version: "1".into(),
             beat: *beat,
-            life: self.lives[name].0,
-            earlier: self.lives[name].1,
+            life: last(&self.lives[name]),
+            lives: self.lives[name].clone(),
             told: told.clone(),
         });
         Seen { instances: instances.collect(), slots: self.rows.clone(), clock: Some(clock), life: *life }

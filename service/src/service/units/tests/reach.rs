@@ -119,7 +119,7 @@ fn seen() -> Seen {
         version: "1".into(),
         beat: 1,
         life: 1,
-        earlier: 0,
+        lives: [].into(),
         told: Told::default(),
     };
     let row = |(slot, owner): (u16, &str)| Row { slot, term: 1, owner: owner.into() };
