@@ -37,6 +37,8 @@ pub struct Beats<T, U> {
     /// The last step of each shard; the next one waits for it.
     last: HashMap<u16, JoinHandle<()>>,
     following: mpsc::Receiver<Step>,
+    /// Takes the row of one away that has not come back.
+    forgetting: Option<JoinHandle<()>>,
     between: Duration,
 }
 
@@ -51,7 +53,7 @@ impl<T: Terms + 'static, U: Units + 'static> Beats<T, U> {
     pub fn new(cluster: Arc<Cluster>, terms: Arc<T>, units: Arc<U>) -> Beats<T, U> {
         let (follow, following) = mpsc::channel(FOLLOWING);
         let work = Work { cluster, terms, units, follow };
-        Beats { work: Arc::new(work), last: HashMap::new(), following, between: BEAT }
+        Beats { work: Arc::new(work), last: HashMap::new(), following, forgetting: None, between: BEAT }
     }
 
     /// A faster loop for tests.
@@ -138,11 +140,19 @@ impl<T: Terms + 'static, U: Units + 'static> Beats<T, U> {
         }
         steps.into_iter().for_each(|step| self.begin(step));
         work.publish();
-        if let Some((name, beat)) = cluster.owners().forgotten() {
-            let work = work.clone();
-            tokio::spawn(async move { work.forget(&name, beat).await }); // so that no heartbeat waits for it
-        }
+        self.forget();
         Ok(())
+    }
+
+    /// No beat waits for that, and the store is asked for one at a time.
+    fn forget(&mut self) {
+        if self.forgetting.as_ref().is_none_or(JoinHandle::is_finished) {
+            let forgotten = self.work.cluster.owners().forgotten();
+            self.forgetting = forgotten.map(|(name, beat)| {
+                let work = self.work.clone();
+                tokio::spawn(async move { work.forget(&name, beat).await })
+            });
+        }
     }
 
     async fn look(&mut self) {

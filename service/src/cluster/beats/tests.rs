@@ -12,6 +12,9 @@ pub const SLOTS: u16 = 6;
 pub struct Store {
     pub rows: Mutex<(BTreeMap<String, Instance>, Vec<Row>)>,
     is_silent: AtomicBool,
+    /// Rows stay for as long as this is so; how often one was to go.
+    keeps_rows: AtomicBool,
+    forgets: AtomicU64,
 }
 
 impl Store {
@@ -20,6 +23,8 @@ impl Store {
         Arc::new(Store {
             rows: Mutex::new((BTreeMap::new(), (0..SLOTS).map(row).collect())),
             is_silent: AtomicBool::new(false),
+            keeps_rows: AtomicBool::new(false),
+            forgets: AtomicU64::new(0),
         })
     }
 
@@ -118,6 +123,10 @@ impl Terms for Of {
 
     async fn forget(&self, name: &str, beat: u64) -> Result<bool, Silence> {
         self.0.answers().await;
+        self.0.forgets.fetch_add(1, SeqCst);
+        while self.0.keeps_rows.load(SeqCst) {
+            sleep(Duration::from_millis(20)).await;
+        }
         let all = &mut self.0.rows.lock().unwrap().0;
         let is_it = all.get(name).is_some_and(|one| one.beat == beat);
         Ok(is_it && all.remove(name).is_some())
@@ -302,6 +311,16 @@ async fn who_has_not_come_back_for_long_is_forgotten_and_comes_back_all_the_same
     store.are_owners(|owner| owner == "a", SOON).await;
     let is_known = || store.rows.lock().unwrap().0.contains_key("b");
     assert!(is_known() && a.cluster.status().others.len() == 1);
+    store.keeps_rows.store(true, SeqCst);
+    let is_asked = async {
+        while store.forgets.load(SeqCst) == 0 {
+            sleep(FAST).await;
+        }
+    };
+    timeout(FAST * 4 * crate::cluster::owners::FORGOTTEN, is_asked).await.unwrap();
+    sleep(FAST * 20).await;
+    assert_eq!(store.forgets.load(SeqCst), 1, "it is asked for one by one");
+    store.keeps_rows.store(false, SeqCst);
     let forgotten = async {
         while is_known() || !a.cluster.status().others.is_empty() {
             sleep(FAST).await;
