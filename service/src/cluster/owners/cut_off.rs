@@ -24,10 +24,11 @@ pub(super) struct CutOff {
 /// For each live instance that stays, the instances it can reach; none if it has not tried.
 pub(super) type Reached<'a> = BTreeMap<&'a str, Option<&'a BTreeSet<String>>>;
 
-/// The instances that more than half of all can't reach; or exactly half, if the one with the first name is among
-/// these. At least one is left over, so that it gets the shards.
+/// Those that more than half of all don't reach; or half, and the one with the first name neither, of those that say whom they reach:
+/// one that does not may be at fault itself. At least one is left, so that one has the slots.
 fn cut_off<'a>(all: &Reached<'a>) -> BTreeSet<&'a str> {
-    let Some((first, of_first)) = all.first_key_value() else { return BTreeSet::new() };
+    let says = all.iter().find(|(_, reached)| reached.is_some());
+    let Some((first, of_first)) = says.or(all.first_key_value()) else { return BTreeSet::new() };
     let is_cut_off = |name: &&str| {
         let misses = |(other, reached): &(&&str, &Option<&BTreeSet<String>>)| {
             *other != name && reached.is_some_and(|reached| !reached.contains(*name))
@@ -137,6 +138,8 @@ mod tests {
             "the first can't be told from one that others reach"
         );
         assert_eq!(found(&[("a", ""), ("b", "a")]), ["b"]);
+        assert_eq!(found(&[("a", "?"), ("b", "")]), ["a"], "it does not reach itself either");
+        assert_eq!(found(&[("a", "?"), ("b", "a")]), [""; 0]);
         assert_eq!(found(&[("a", ""), ("b", ""), ("c", "")]), ["b", "c"]);
         assert_eq!(found(&[("a", "b"), ("b", "a"), ("c", "d"), ("d", "c")]), ["c", "d"]);
         assert_eq!(found(&[("a", "?"), ("b", "?"), ("c", "")]), [""; 0], "they have not tried");
