@@ -211,8 +211,25 @@ fn a_sync_of_nothing_waits_for_the_standby_too() {
     syncing.join().unwrap();
 }
 
-/// Otherwise, while a shard is opened and there is no standby, the writes of all shards would be broken off every few
-/// seconds.
+/// Else each beat would break all connections off while the server waits for another standby.
+#[test]
+fn a_beat_waits_for_a_standby_of_a_server_that_is_there() {
+    let Some(server) = Server::start("") else { return };
+    make(&server.address());
+    let store = Arc::new(open(&server.address(), Copies::One));
+    assert!(wait(store.beat("a", "h:1", "h:1", Told::default(), 0)).is_ok());
+    server.ask("alter system set synchronous_standby_names = 'nobody'");
+    server.ask("select pg_reload_conf()");
+    let of = store.clone();
+    let beating = thread::spawn(move || wait(of.beat("a", "h:1", "h:1", Told::default(), 1)).is_ok());
+    sleep(Duration::from_secs(12));
+    assert!(!beating.is_finished(), "it was broken off");
+    server.ask("alter system reset synchronous_standby_names");
+    server.ask("select pg_reload_conf()");
+    assert!(beating.join().unwrap());
+}
+
+/// Else the writes of all slots would be broken off every few seconds while one is opened and no standby is there.
 #[test]
 fn who_asks_how_many_copies_there_are_breaks_no_connection_of_those_that_wait_for_one() {
     let Some(server) = Server::start("") else { return };

@@ -210,13 +210,19 @@ static FIRST: AtomicUsize = AtomicUsize::new(0);
 
 /// Opens a connection with our settings to a host that accepts writes.
 pub(super) async fn connect(server: &Server) -> Result<(Client, Driver), Doubt> {
+    let (client, driver, _) = connect_to_one(server).await?;
+    Ok((client, driver))
+}
+
+/// The same, and to which host it is.
+pub(super) async fn connect_to_one(server: &Server) -> Result<(Client, Driver, Config), Doubt> {
     let (mut told, mut may_pass) = (Vec::new(), true);
     let mut hosts = server.each_host();
     let first = FIRST.fetch_add(1, Relaxed) % hosts.len().max(1);
     hosts.rotate_left(first);
     for host in hosts {
         match connect_to(server, &host).await {
-            Ok(connected) => return Ok(connected),
+            Ok((client, driver)) => return Ok((client, driver, host)),
             Err(doubt) => {
                 may_pass &= doubt.may_pass();
                 told.push(doubt.to_string());

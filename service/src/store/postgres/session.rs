@@ -3,27 +3,30 @@
 
 mod put;
 
-use super::connection::{connect, Connections, Stored, CONNECT};
+use super::connection::{connect_to_one, Connections, Stored, CONNECT};
 use super::copies::{self, Copies};
 use super::doubt::{Doubt, Next};
 use super::drive::Write;
-use crate::postgres::Driver;
+use crate::postgres::{connect, Driver, Server};
 use std::collections::{BTreeMap, BTreeSet};
 use std::future::Future;
 use std::sync::Arc;
 use std::time::{Duration, Instant};
 use tokio::sync::Mutex;
-use tokio::time::timeout;
+use tokio::time::{sleep, timeout};
 use tokio_postgres::types::ToSql;
-use tokio_postgres::{Client, Error, Row, Statement};
+use tokio_postgres::{Client, Config, Error, Row, Statement};
 
 /// How long a connection may be silent before we drop it; we never cancel a call. The server ends calls that wait for a
 /// lock earlier, so at most one backend for each shard is left over: the one that has the lock and waits for its
 /// standby.
 pub(super) const SILENT: Duration = Duration::from_secs(30);
 
-/// How long to keep a connection that finds the shard's row locked. If this server is no longer the primary, the holder
-/// of the lock may wait forever.
+/// After so long a silence it is asked whether the server lets anybody in.
+const KNOCK: Duration = Duration::from_secs(5);
+
+/// So long a connection is kept on which the slot's row is locked. Who has the lock may wait for ever, if this server is no primary
+/// any more.
 const LOCKED: Duration = Duration::from_secs(5);
 
 /// The fence of each write: selects the rows with these terms, connection epochs (`link`) and owner epochs, except rows
@@ -115,7 +118,10 @@ pub(super) struct SlotRow {
 
 pub(super) struct Session {
     pub client: Client,
-    /// The number of this connection among those of the process.
+    /// Of which it is to this host.
+    server: Server,
+    host: Config,
+    /// Of those of this process.
     pub number: u64,
     copies: Copies,
     append: Statement,
@@ -137,7 +143,7 @@ impl Session {
 
     async fn made(all: &Connections) -> Result<Session, Doubt> {
         let number = all.draw();
-        let (client, driver) = connect(&all.server).await?;
+        let (client, driver, host) = connect_to_one(&all.server).await?;
         let of = |text| client.prepare(text);
         let preparing = async {
             Ok::<_, Error>([
@@ -148,10 +154,20 @@ impl Session {
             ])
         };
         let [append, put, pieces, settings] = within(CONNECT, preparing).await?;
-        let (made, writing) = (Instant::now(), Mutex::new(()));
-        let copies = all.copies;
-        let session =
-            Session { client, number, copies, append, put, pieces, settings, driver, made, writing };
+        let session = Session {
+            client,
+            server: all.server.clone(),
+            host,
+            number,
+            copies: all.copies,
+            append,
+            put,
+            pieces,
+            settings,
+            driver,
+            made: Instant::now(),
+            writing: Mutex::new(()),
+        };
         enough(within(CONNECT, session.settings()).await?)?;
         Ok(session)
     }
@@ -164,7 +180,29 @@ impl Session {
         }
     }
 
-    /// Whether to open another connection after this failure.
+    /// What is answered while the server is there. One that waits for its standby may be silent for longer than others wait for one
+    /// that is gone, and it lets anybody in meanwhile.
+    pub async fn while_there<T>(&self, asking: impl Future<Output = Result<T, Doubt>>) -> Result<T, Doubt> {
+        tokio::select! {
+            biased;
+            answer = asking => answer,
+            doubt = self.gone() => Err(doubt),
+        }
+    }
+
+    /// Returns once the server lets nobody in.
+    async fn gone(&self) -> Doubt {
+        loop {
+            sleep(KNOCK).await;
+            match connect(&self.server, &self.host, "", CONNECT).await.map_err(Doubt::from) {
+                Ok(_) => {}
+                Err(Doubt::Said(error)) if error.code().is_some() => {}
+                Err(doubt) => return doubt,
+            }
+        }
+    }
+
+    /// Whether another connection is made after this.
     pub fn is_left_after(&self, doubt: &Doubt) -> bool {
         match doubt {
             Doubt::Locked => self.made.elapsed() > LOCKED,

@@ -55,7 +55,8 @@ impl Connection {
         values: &[&(dyn ToSql + Sync)],
     ) -> Result<DatabaseRow, Doubt> {
         let session = self.session().await?;
-        self.heard(&session, session.written(session.client.query_one(text, values))).await
+        let answer = session.written(session.client.query_one(text, values));
+        self.heard(&session, session.while_there(answer)).await
     }
 
     async fn read<T>(&self, text: &str, each: impl Fn(&DatabaseRow) -> T) -> Result<Vec<T>, Doubt> {
