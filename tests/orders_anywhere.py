@@ -5,8 +5,8 @@
 
 Two instances share the eight slots of a store, and deliver to another database of the same server. At the one and at the
 other it is flushed, quarantined, lifted, asked and closed: all of it is of all slots. Series are forgotten by the instance that
-has them, to which the other one sends, also over TCP with a token. One is stopped while the other is asked, and killed. Skipped
-without PostgreSQL.
+has them, to which the other one sends, also over TCP with a token. A sender is renamed in the slots of both. One is stopped while the
+other is asked, and killed: the new name has what was taken over. Skipped without PostgreSQL.
 
 Each line is one check; the last line counts those that passed and failed, and the status is 0 where none failed.
 """
@@ -116,8 +116,11 @@ class Both:
 
     def total(self) -> str:
         """What the sink has."""
+        return self.of_sink("select coalesce(sum(total), 0) from totxegun.totals")
+
+    def of_sink(self, query: str) -> str:
         words = ("-h", "127.0.0.1", "-p", str(self.server.port), "-U", "postgres", "-d", "metrics", "-XAtqc")
-        return self.server.run("psql", *words, "select coalesce(sum(total), 0) from totxegun.totals")
+        return self.server.run("psql", *words, query)
 
     def close(self) -> None:
         for one in self.all:
@@ -200,6 +203,8 @@ def stops(checks: Checks, both: Both, first: Service, second: Service) -> None:
     checks.true("a flush while one stands still is of all slots once they have moved", code == 0, text)
     second.signal(signal.SIGCONT)
     checks.true("both have slots again", both.at_rest(), both.run("status", at=first)[1])
+    code, text = both.in_the_end("senders", "rename", "B", "C", at=first, is_said=lambda code, text: "C's now" in text)
+    checks.true("a sender is renamed in the slots of both", code == 0 and " of B are C's now" in text, text)
     second.kill()
     text = both.run("status", at=first)[1]
     are_moved = set(owners(both.server).values()) == {"a"}
@@ -208,7 +213,12 @@ def stops(checks: Checks, both: Both, first: Service, second: Service) -> None:
     checks.true("so nothing is closed, or all is known again", code != 0 or "done" in text, text)
     code, text = both.in_the_end("flush", at=first)
     checks.true("a flush waits for its slots", code == 0, text)
-    checks.true("the sink has all", wait_until(lambda: both.total() == str(3 * PROCESSES)), both.total())
+    checks.same("the old name has none of the slots that were taken over", [400] * PROCESSES, both.post(first, 30, "B"))
+    checks.same("the new name has all", [200] * PROCESSES, both.post(first, 30, "C"))
+    checks.same("they are flushed", 0, both.in_the_end("flush", at=first)[0])
+    checks.true("the sink has all", wait_until(lambda: both.total() == str(4 * PROCESSES)), both.total())
+    of_sender = "select sender, count(*) from totxegun.series group by 1"
+    checks.same("and the new name", f"C|{PROCESSES}", both.of_sink(of_sender))
 
 
 def main(words: list[str]) -> int:

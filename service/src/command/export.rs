@@ -156,7 +156,7 @@ const UNWRITTEN: &str = "standard output can't be written: what is there is not 
 fn csv(line: &Line) -> String {
     let [bounds, buckets] =
         [&line.bounds, &line.buckets].map(|list| list.as_ref().map_or("", |list| list.get()));
-    let cells: [Cow<str>; 17] = [
+    let cells: [Cow<str>; 18] = [
         line.series.to_string().into(),
         cell(&line.name),
         line.kind.name().into(),

@@ -21,6 +21,7 @@ mod periods;
 mod print;
 mod reading;
 mod retention;
+mod senders;
 mod series;
 mod serve;
 mod status;
@@ -71,7 +72,10 @@ enum Command {
     Quarantine(ask::OfSender),
     /// Releases a quarantined sender
     Release(ask::OfSender),
-    /// Shows, resends or drops requests that the sink refused for good
+    /// Gives a sender another name
+    #[command(subcommand)]
+    Senders(senders::Command),
+    /// Shows requests that the sink refused for good, sends them again, throws them away
     #[command(subcommand)]
     DeadLetters(letters::Command),
     /// Shows points that their series refused, so that they are not counted: `totxegun adjust --late KEY` books one
@@ -176,6 +180,7 @@ impl Command {
             Command::Flush(at) => Ok(ask::flush(&at)?),
             Command::Quarantine(of) => Ok(ask::order(&of.at, &format!("/quarantine/{}", of.sender))?),
             Command::Release(of) => Ok(ask::order(&of.at, &format!("/release/{}", of.sender))?),
+            Command::Senders(command) => Ok(command.run()?),
             Command::DeadLetters(command) => Ok(command.run()?),
             Command::Late(options) => Ok(options.run()?),
             Command::Close(options) => Ok(options.run()?),
@@ -308,6 +313,8 @@ mod tests {
             ("serve --datum d", "--datum"),
             ("quarantine", "<NAME>"),
             ("quarantine a/b", "<NAME>"),
+            ("senders rename a", "<NEW>"),
+            ("senders rename a/b c", "<OLD>"),
             ("close 2026-13", "2026-13"),
             ("close 2026-11 --flush --force", "--force"),
             ("reopen november", "no period"),

@@ -55,6 +55,7 @@ mod tests {
             posts: 1_234,
             last_seconds: 61,
             answer: answer.into(),
+            owner: None,
         };
         let refused = First { first: vec![of("A", "quarantined"), of("-", &"x".repeat(70))], more: 3 };
         let status = Status { version: "1".into(), dead_letters: 2, refused, ..Status::default() };

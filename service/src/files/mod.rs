@@ -33,8 +33,8 @@ pub use journal::{
     Body, ByNumber, Held, Journal, Left, Names, NoNames, OfRun, Points, Post, Replayed, Ticket,
 };
 pub use outbox::{
-    Beginning, Committed, Epochs, GoesOn, Noted, Outbox, Owned, PointsDigest, Recent, Recents, Runs, Series,
-    UnitOfMetric, Waits, POSTS_KNOWN,
+    Beginning, Committed, Epochs, GoesOn, Noted, Outbox, Owned, PointsDigest, Recent, Recents, Runs,
+    SenderRename, Series, UnitOfMetric, Waits, POSTS_KNOWN,
 };
 pub use segment::Dropped;
 pub use text_row::shared_ends;

@@ -56,9 +56,9 @@ impl Keeper {
         Ok(done.map_or_else(not_now, Done::Amended))
     }
 
-    /// Changes what the outbox knows of series and replaces the book by a fresh one. An error says why nothing was
-    /// changed.
-    async fn renew<T: Send + 'static>(
+    /// Changes what the outbox knows of series, and has a fresh book in the place of the one that is there. The error is why
+    /// nothing was changed.
+    pub(super) async fn renew<T: Send + 'static>(
         &mut self,
         change: impl FnOnce(&Slot) -> Result<T, Fault> + Send + 'static,
     ) -> Result<Result<T, Refused>, Trouble> {

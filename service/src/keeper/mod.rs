@@ -1,20 +1,16 @@
 //! The keeper of a shard: the one task that starts it, makes checkpoints, and carries out orders. `service` runs one
 //! for each shard.
 //!
-//! It does one thing after another, and runs what takes long on blocking threads. Nothing else moves posts from the
-//! journal to the outbox, or replaces the book.
-//!
-//! - `run`: the loop of the task; `orders`: orders of operators.
-//! - `checkpoint`: moves pending points to the outbox.
-//! - `fill`: fills a fresh book from the files; `numbers` and `series`: the series of the journal's posts.
-//! - `forget`: removes series, or rewinds their ends.
-//! - `rest`: gives back memory when nobody posts; `unfilled`: waits if a start lacks memory.
+//! One task does all of this, one after the other: `run` waits for what is to be done, `checkpoint` moves what the book
+//! has to the outbox, `forget` leaves out series or puts their ends back, `fill` gives a fresh book what the files say, `series`
+//! says which ones a post has, `numbers` gives them numbers for the book, `rename` gives a sender another name, `rest` gives back memory where nobody posts, `unfilled` waits where a start has too little memory. What takes long is done on threads beside the runtime's.
 
 mod checkpoint;
 mod fill;
 mod forget;
 mod numbers;
 mod orders;
+mod rename;
 mod rest;
 mod run;
 mod series;
@@ -23,7 +19,7 @@ mod unfilled;
 pub use fill::Priming;
 
 use crate::core::Refused;
-use crate::files::{Fault, Lost};
+use crate::files::{Fault, Lost, SenderRename};
 use crate::otlp::series::SeriesKey;
 use crate::otlp::Outcome;
 use crate::slot::Slot;
@@ -49,6 +45,7 @@ pub enum Order {
     Checkpoint,
     Quarantine(String),
     Lift(String),
+    RenameSender(SenderRename),
     Amend(Amend),
 }
 
@@ -68,7 +65,11 @@ pub enum Done {
     Flushed { requests: u64 },
     /// The answer of the book.
     Answered(Outcome),
-    /// The error is a series with parked posts of a quarantined sender; then nothing was changed.
+    /// So many series have another sender.
+    Renamed { series: u64 },
+    /// Nothing is renamed, since this sender is quarantined.
+    NotRenamed { quarantined: String },
+    /// Nothing is changed where one of the series has posts of a quarantined sender, which are kept back.
     Amended(Result<(), SeriesKey>),
 }
 

@@ -20,6 +20,7 @@ impl Keeper {
             }
             Order::Quarantine(sender) => self.quarantine(sender).await,
             Order::Lift(sender) => self.lift(sender).await,
+            Order::RenameSender(rename) => self.rename_sender(rename).await,
             Order::Amend(amend) => self.amend(amend).await,
         }
     }

@@ -6,6 +6,7 @@ mod forget;
 mod moved;
 mod primed;
 mod processes;
+mod rename;
 mod runs;
 mod shares;
 mod stall;

@@ -74,7 +74,7 @@ pub struct Acts {
 /// An action, as it is recorded.
 #[derive(Clone, Debug, PartialEq, Eq)]
 pub struct Asked {
-    /// `quarantine`, `release`, `dead-letters drop`, `dead-letters resend`, `close`, `reopen`, `adjust`, `rewind`, `forget`, `new sink`.
+    /// `quarantine`, `release`, `dead-letters drop`, `dead-letters resend`, `close`, `reopen`, `adjust`, `rewind`, `forget`, `senders rename`, `new sink`.
     pub what: &'static str,
     /// Its object: a sender, a key, a period, an adjustment, a series or a sink.
     pub of: String,

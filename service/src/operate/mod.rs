@@ -40,6 +40,7 @@ pub use totals::{Times, Totals};
 pub use units::{Undelivered, Unit, Units};
 pub(crate) use web::is_ours;
 
+use crate::files::SenderRename;
 use crate::intake::connections::Handler;
 use crate::intake::Budget;
 use crate::late::LateData;
@@ -127,6 +128,10 @@ impl Route {
             ["flush"] => (Method::POST, Route::Order(Command::Flush)),
             ["quarantine", sender] => (Method::POST, Route::Order(Command::Quarantine(decoded(sender)))),
             ["release", sender] => (Method::POST, Route::Order(Command::Release(decoded(sender)))),
+            ["senders", from, "rename", to] => {
+                let rename = SenderRename { from: decoded(from), to: decoded(to) };
+                (Method::POST, Route::Order(Command::RenameSender(rename)))
+            }
             ["report"] => (Method::GET, Route::Report),
             ["metrics"] => (Method::GET, Route::Metrics),
             ["totals"] => (Method::GET, Route::Totals),

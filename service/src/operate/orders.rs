@@ -4,6 +4,7 @@
 use super::reach::{Answer, Command};
 use super::{reply, Desk, Unit, TEXT};
 use crate::command::values::{bytes_shown, counted};
+use crate::files::SenderRename;
 use crate::otlp::Reason;
 use crate::slot::is_sender;
 use crate::work::blocking;
@@ -57,6 +58,7 @@ impl Desk {
         match self.in_all_slots(who, command).await {
             Ok(answers) => match command {
                 Command::Quarantine(sender) | Command::Release(sender) => of_sender(sender, command, answers),
+                Command::RenameSender(rename) => renamed(rename, &answers),
                 Command::Flush | Command::Find(_) => together(&answers),
             },
             Err(not_all) => not_all,
@@ -107,8 +109,22 @@ fn of_sender(sender: &str, command: &Command, mut all: Vec<(u16, Answer)>) -> An
     Answer::told(200, &format!("nothing of {sender} is known yet: {what}"))
 }
 
-/// Puts the answers of all shards together: a failure comes first, then a success, since what a shard can't do another
-/// may have done before.
+/// Of a new name for a sender: how many series have it, in all slots.
+fn renamed(rename: &SenderRename, all: &[(u16, Answer)]) -> Answer {
+    if let Some((_, refused)) = all.iter().find(|(_, answer)| answer.status != 200) {
+        return refused.clone();
+    }
+    let SenderRename { from, to } = rename;
+    let series: u64 = all.iter().filter_map(|(_, answer)| answer.says()["series"].as_u64()).sum();
+    let told = match series {
+        0 => format!("no series is {from}'s: nothing of it was taken yet, or it is renamed already"),
+        1 => format!("1 series of {from} is {to}'s now"),
+        more => format!("{more} series of {from} are {to}'s now"),
+    };
+    Answer::told(200, &told)
+}
+
+/// One answer: what one slot could not do is not done, and what another had done before is.
 fn together(all: &[(u16, Answer)]) -> Answer {
     if let [(_, only)] = all {
         return only.clone();
@@ -135,6 +151,21 @@ fn requests(answer: &Answer) -> Option<u64> {
 #[cfg(test)]
 mod tests {
     use super::*;
+
+    #[test]
+    fn a_new_name_says_how_many_series_have_it_and_which_slot_refuses() {
+        let rename = SenderRename { from: "A".into(), to: "B".into() };
+        let of = |answers: &[(u16, &str)]| {
+            let all = (0..).zip(answers);
+            let all: Vec<_> = all.map(|(slot, (status, body))| (slot, Answer::new(*status, *body))).collect();
+            let told = renamed(&rename, &all);
+            (told.status, told.message())
+        };
+        let (none, two) = ((200, r#"{"series":0}"#), (200, r#"{"series":2}"#));
+        assert_eq!(of(&[two, none, two]), (200, "4 series of A are B's now".into()));
+        assert_eq!(of(&[none]).1, "no series is A's: nothing of it was taken yet, or it is renamed already");
+        assert_eq!(of(&[two, (409, r#"{"message":"B is quarantined"}"#)]), (409, "B is quarantined".into()));
+    }
 
     #[test]
     fn what_slots_say_is_one_answer() {

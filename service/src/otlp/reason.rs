@@ -93,7 +93,7 @@ reasons! {
     OutOfOrder "duplicate_or_late" Request(400, "duplicate or late"),
         "it begins before its series ends, and is no repeat of what the last two posts had: the sender's clock was set back, it sends a series twice, or what is old comes after what is newer";
     OtherWriter "other_writer" Request(400, "other writer"),
-        "OTEL_RESOURCE_ATTRIBUTES=service.instance.id=NAME, another name for each process";
+        "OTEL_RESOURCE_ATTRIBUTES=service.instance.id=NAME, another name for each process; or, if only the sender's name has changed, totxegun senders rename OLD NEW";
     Quarantined "quarantined" Request(403, "quarantined"), "totxegun release NAME once the sender is repaired";
     WrongShape "wrong_shape" Request(400, "wrong shape"),
         "the sender writes what is no OTLP: totxegun explain FILE on a captured body";

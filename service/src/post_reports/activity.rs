@@ -30,6 +30,8 @@ pub struct OfSender {
     pub refused: BTreeMap<Reason, OfReason>,
     /// By reason, the metric that the log named last for rejected points.
     pub rejected: BTreeMap<Reason, String>,
+    /// Who has the series for which a post of it was refused last.
+    pub owner: Option<String>,
 }
 
 /// Posts of a sender that were refused for one reason.
@@ -75,18 +77,18 @@ impl SenderActivity {
     /// Notes that a point of a sender was rejected, with its metric if that is known.
     pub fn note_rejected(&self, sender: &str, reason: Reason, metric: Option<&str>) {
         let mut all = locked(&self.0);
-        if !all.contains_key(sender) {
-            make_room(&mut all);
-        }
-        let of = all
-            .entry(sender.to_string())
-            .or_insert_with(|| OfSender { last: seconds(), ..OfSender::default() });
+        let of = of_sender(&mut all, sender);
         if let Some(metric) = metric {
             of.rejected.insert(reason, shown(metric, TEXT));
         }
     }
 
-    /// The senders that posted last, the last one first.
+    /// Notes who has a series that a sender has posted to.
+    pub fn note_owner(&self, sender: &str, owner: &str) {
+        of_sender(&mut locked(&self.0), sender).owner = Some(owner.to_string());
+    }
+
+    /// Those that posted last, the last one first.
     pub fn last(&self, most: usize) -> Vec<(String, OfSender)> {
         let all = locked(&self.0);
         let mut last: Vec<(&String, &OfSender)> = all.iter().collect();
@@ -106,7 +108,15 @@ impl SenderActivity {
     }
 }
 
-/// Forgets the senders that posted longest ago, several at a time, if there are too many: names can be made up.
+/// What is known of a sender, who may not be known yet.
+fn of_sender<'a>(all: &'a mut AHashMap<String, OfSender>, sender: &str) -> &'a mut OfSender {
+    if !all.contains_key(sender) {
+        make_room(all);
+    }
+    all.entry(sender.to_string()).or_insert_with(|| OfSender { last: seconds(), ..OfSender::default() })
+}
+
+/// Names come from outside: who posted longest ago is forgotten where there are too many, several at a time.
 fn make_room(all: &mut AHashMap<String, OfSender>) {
     if all.len() < MOST {
         return;

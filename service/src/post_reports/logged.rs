@@ -1,6 +1,6 @@
 //! Log lines about posts and points that were not taken: one an hour for each sender and reason.
 
-use super::texts::{metric, not_taken, reason, SERIES_SHOWN};
+use super::texts::{metric, not_taken, of_owner, reason, SERIES_SHOWN};
 use super::{Owner, Reporter};
 use crate::log::{shown, OnceAnHour};
 use crate::otlp::series::SeriesKey;
@@ -154,20 +154,14 @@ impl Reporter {
 
     /// Logs that a sender posts to another sender's series, once an hour for each series.
     pub(super) fn tell_owner(&self, sender: &str, series: SeriesKey, owner: &Owner) {
-        if locked(&self.logged).series.get_mut(&series).is_some() {
-            return;
-        }
         let Some(owner) = owner(&series) else {
             return;
         };
+        self.activity.note_owner(sender, &owner);
         if locked(&self.logged).series.is_due(&series) {
-            tracing::warn!(
-                sender,
-                owner,
-                series = shown(&series.0, SERIES_SHOWN),
-                "posts are refused because the series is another sender's: give each process its own name and \
-                 service.instance.id"
-            );
+            let advice = of_owner(sender, &owner);
+            let series = shown(&series.0, SERIES_SHOWN);
+            tracing::warn!(sender, owner, series, advice, "posts are refused because the series is another sender's");
         }
     }
 }

@@ -12,7 +12,7 @@ mod texts;
 
 pub use activity::{OfReason, OfSender, SenderActivity};
 pub use options::ReportOptions;
-pub(crate) use texts::{late, named, of_another, of_twice, twice, Interval, SERIES_SHOWN};
+pub(crate) use texts::{late, named, of_another, of_owner, of_twice, twice, whose, Interval, SERIES_SHOWN};
 
 use crate::intake::{Hears, Taker};
 use crate::metrics::Metrics;

@@ -192,7 +192,7 @@ async fn who_posts_to_another_s_series_is_told_which_it_is() {
     assert_eq!(
         answered(&second, &metric).await,
         "other writer: point 1: `m` {route=/} is another sender's, so 1970-01-01T00:00:00.000000Z to 1970-01-01T00:00:00.000000Z is \
-         not counted: give each process its own service.instance.id"
+         not counted: give each process its own service.instance.id, or, if only this sender's name has changed, have it renamed"
     );
     let none = reported(other_writer_at(2), None, ReportOptions::default());
     assert_eq!(answered(&none, &metric).await, "other writer: point 2");

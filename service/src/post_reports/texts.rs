@@ -1,7 +1,7 @@
 //! The texts about points that are not taken, and about series of other senders.
 
 use crate::log::{all_shown, cut, of_nanoseconds, shown};
-use crate::otlp::{point_at, second_at, Causes, Explained, OffClock, Profile, Reason};
+use crate::otlp::{point_at, second_at, Causes, Explained, OffClock, Profile, Reason, NO_NAME};
 
 /// How much is shown of a metric's name, and of a series' key, in characters.
 const NAME_SHOWN: usize = 100;
@@ -75,7 +75,10 @@ pub(crate) fn twice(named: &str, interval: Interval) -> String {
 /// About a point of another sender's series with this name.
 pub(crate) fn of_another(named: &str, interval: Interval) -> String {
     let not_counted = not_counted(interval);
-    format!(": {named} is another sender's{not_counted}: give each process its own service.instance.id")
+    format!(
+        ": {named} is another sender's{not_counted}: give each process its own service.instance.id, or, if only this sender's name has \
+         changed, have it renamed"
+    )
 }
 
 /// The interval that is not counted; empty if it is unknown.
@@ -91,4 +94,23 @@ pub(crate) fn named(point: &Explained) -> String {
     let name = shown(&point.metric, NAME_SHOWN);
     let attributes = shown(&point.attributes, ATTRIBUTES_SHOWN);
     format!("`{name}` {{{attributes}}}")
+}
+
+/// What an operator can do about a sender that posts to a series of `owner`.
+pub(crate) fn of_owner(sender: &str, owner: &str) -> String {
+    let before = match owner {
+        NO_NAME => "it posted without a name before".to_string(),
+        owner => format!("{owner} was its name before"),
+    };
+    format!(
+        "if {before}, `totxegun senders rename {owner} {sender}`; if they are two, give each process a service.instance.id of its own"
+    )
+}
+
+/// The owner of a series, as a text.
+pub(crate) fn whose(owner: &str) -> String {
+    match owner {
+        NO_NAME => "that of posts without a name".to_string(),
+        owner => format!("{owner}'s"),
+    }
 }

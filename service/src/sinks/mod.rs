@@ -14,6 +14,7 @@ mod otlp;
 mod owners;
 pub mod periods;
 pub mod postgres;
+mod renamed;
 mod retention;
 mod rewind;
 pub(crate) mod roots;
@@ -28,6 +29,7 @@ pub(crate) use otlp::Client;
 pub use otlp::{header_of, Access};
 pub use owners::{KnowsOwners, Owners};
 use periods::{Deed, Told};
+pub use renamed::RenameSender;
 pub use retention::Retention;
 pub use rewind::Rewind;
 pub use roots::ClientFiles;
@@ -90,7 +92,12 @@ impl Fate {
     }
 }
 
-/// How many requests one transaction of a database takes at most.
+/// Whether a request has no points, and changes what a database knows of series.
+fn is_instruction(body: &[u8]) -> bool {
+    Rewind::of(body).is_some() || RenameSender::of(body).is_some()
+}
+
+/// How many requests are one transaction of a database, at most.
 const TOGETHER: usize = 1000;
 
 /// A request of the outbox, with its key.

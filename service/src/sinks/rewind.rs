@@ -10,8 +10,8 @@ use serde_json::json;
 
 /// How the body of a rewind begins and ends. The book's own requests begin with `resourceMetrics`.
 const BEGIN: &str = r#"{"rewind":"#;
-const END: &str = r#","resourceMetrics":[]}"#;
-/// The most bytes of keys in one request, except for a single longer key.
+pub(super) const END: &str = r#","resourceMetrics":[]}"#;
+/// The most bytes of keys in one, but for a longer key.
 const LONGEST: usize = if cfg!(test) { 100 } else { 1 << 20 };
 
 /// These series end at `to`, in nanoseconds since 1970, if they ended later.
@@ -27,18 +27,7 @@ pub struct Rewind {
 impl Rewind {
     /// The requests that rewind these series.
     pub fn requests(series: &[SeriesKey], to: u64) -> Vec<Vec<u8>> {
-        let (mut requests, mut length) = (Vec::<Rewind>::new(), 0);
-        for key in series {
-            length += key.0.len();
-            match requests.last_mut().filter(|_| length <= LONGEST) {
-                Some(last) => last.series.push(key.0.to_string()),
-                None => {
-                    length = key.0.len();
-                    requests.push(Rewind { to, series: vec![key.0.to_string()] });
-                }
-            }
-        }
-        requests.iter().map(Rewind::body).collect()
+        in_requests(series).map(|series| Rewind { to, series }.body()).collect()
     }
 
     fn body(&self) -> Vec<u8> {
@@ -54,6 +43,22 @@ impl Rewind {
     pub(super) fn keys(&self) -> impl Iterator<Item = SeriesKey> + '_ {
         self.series.iter().map(|key| SeriesKey(key.as_str().into()))
     }
+}
+
+/// The keys of these series, by the requests that have them.
+pub(super) fn in_requests(series: &[SeriesKey]) -> impl Iterator<Item = Vec<String>> {
+    let (mut requests, mut length) = (Vec::<Vec<String>>::new(), 0);
+    for key in series {
+        length += key.0.len();
+        match requests.last_mut().filter(|_| length <= LONGEST) {
+            Some(last) => last.push(key.0.to_string()),
+            None => {
+                length = key.0.len();
+                requests.push(vec![key.0.to_string()]);
+            }
+        }
+    }
+    requests.into_iter()
 }
 
 #[cfg(test)]

@@ -58,6 +58,7 @@ fn help_names_each_command_and_option() {
         "flush",
         "quarantine",
         "release",
+        "senders",
         "dead-letters",
         "close",
         "reopen",

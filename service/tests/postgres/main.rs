@@ -14,6 +14,7 @@ mod owners;
 mod periods;
 mod points;
 mod readers;
+mod renamed;
 mod rewind;
 mod rivals;
 mod server;

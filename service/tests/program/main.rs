@@ -14,6 +14,7 @@ mod memory;
 mod numbers;
 mod pages;
 mod reload;
+mod renamed;
 mod repeats;
 mod sender_attribute;
 mod shares;
@@ -55,7 +56,8 @@ fn owners_and_frontiers_outlive_kills_and_other_numbers_of_books() {
             let other = service.post("other", &points(&[sender], end + 10, 1)).unwrap();
             let wanted = format!(
                 "other writer: point 0: `{sender}` {{}} is another sender's, so 1970-01-01T00:00:00.000000Z to \
-                 1970-01-01T00:00:00.000000Z is not counted: give each process its own service.instance.id"
+                 1970-01-01T00:00:00.000000Z is not counted: give each process its own service.instance.id, or, if only this \
+                 sender's name has changed, have it renamed"
             );
             assert_eq!(other, refused(&wanted));
         }

@@ -211,7 +211,7 @@ fn a_sync_of_nothing_waits_for_the_standby_too() {
     syncing.join().unwrap();
 }
 
-/// Else each beat would break all connections off while the server waits for another standby.
+/// Otherwise each heartbeat would break off all connections while the server waits for another standby.
 #[test]
 fn a_beat_waits_for_a_standby_of_a_server_that_is_there() {
     let Some(server) = Server::start("") else { return };
@@ -229,7 +229,7 @@ fn a_beat_waits_for_a_standby_of_a_server_that_is_there() {
     assert!(beating.join().unwrap());
 }
 
-/// Else the writes of all slots would be broken off every few seconds while one is opened and no standby is there.
+/// Otherwise, while a shard is opened and there is no standby, the writes of all shards would be broken off every few seconds.
 #[test]
 fn who_asks_how_many_copies_there_are_breaks_no_connection_of_those_that_wait_for_one() {
     let Some(server) = Server::start("") else { return };

@@ -259,7 +259,7 @@ fn of_two_owners_of_one_term_the_first_neither_opens_the_slot_nor_gives_it_away(
     assert!(second.drive(3, 1).is_ok() && first.drive(3, 1).is_err());
 }
 
-/// Whose beats wait for longer is gone for the others, and a page of an operator is not shown meanwhile. A server that is not silent
+/// An instance whose heartbeats wait longer counts as gone, and an operator's page is not shown meanwhile. A server that is not silent
 /// to others may be waiting for its standby.
 #[test]
 fn a_question_to_a_silent_server_ends_soon_and_the_next_one_is_asked_anew() {

@@ -86,6 +86,7 @@ impl Outbox {
                 new: Keys::default(),
                 owners: Vec::new(),
                 recent: Vec::new(),
+                renamed: None,
             }
         };
         self.put_group(&mut writer, group, &waits.bodies)

@@ -4,6 +4,7 @@ use super::keys::Keys;
 use super::table::Heard;
 use super::Recent;
 use crate::runs::Run;
+use serde::{Deserialize, Serialize};
 use std::ops::Range;
 use std::sync::Arc;
 
@@ -13,7 +14,7 @@ pub type UnitOfMetric = (String, String);
 #[derive(Debug)]
 pub enum Change {
     Group {
-        group: Group,
+        group: Box<Group>,
         count: u64,
         segment: u64,
         items: Range<u64>,
@@ -51,6 +52,15 @@ pub struct Group {
     pub owners: Owners,
     /// The digests of the last posts, by series id; also for series of quarantined senders, which are in no group yet.
     pub recent: Vec<(u32, Recent)>,
+    /// A sender that has another name from here on.
+    pub renamed: Option<SenderRename>,
+}
+
+/// All series of one sender belong to another one.
+#[derive(Clone, Debug, PartialEq, Eq, Serialize, Deserialize)]
+pub struct SenderRename {
+    pub from: String,
+    pub to: String,
 }
 
 /// What a group does to a series.

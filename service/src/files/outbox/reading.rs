@@ -161,7 +161,8 @@ impl Reading {
         let Items::Whole { journal, ends, from, to } = items else {
             return Err(wrong());
         };
-        let EndsRead { ends, new, owners, recent } = rows::ends_of(&ends, series).ok_or_else(wrong)?;
+        let EndsRead { ends, new, owners, recent, renamed } =
+            rows::ends_of(&ends, series).ok_or_else(wrong)?;
         let group = Group {
             first: head.first,
             epoch: head.epoch.as_str().into(),
@@ -172,8 +173,9 @@ impl Reading {
             new,
             owners,
             recent,
+            renamed,
         };
-        Ok(Change::Group { group, count: head.count, segment: self.number, items: from..to })
+        Ok(Change::Group { group: Box::new(group), count: head.count, segment: self.number, items: from..to })
     }
 
     fn apply(&self, state: &mut State, at: u64, kind: u8, bytes: &[u8]) -> Result<(), Fault> {

@@ -15,7 +15,7 @@
 //! Packed means deflated; what is packed is JSON, except bodies. A series has the id that the snapshot gives it, or the
 //! next free one from the commit that first has it.
 
-use super::changes::{Change, End, Group, Owners};
+use super::changes::{Change, End, Group, Owners, SenderRename};
 use super::keys::{each_part, Keys};
 use super::parts::put_long;
 use super::snapshot::{RecentRow, RunRow};
@@ -68,6 +68,8 @@ struct Ends<N> {
     new: N,
     runs: Vec<RunRow>,
     recent: Vec<RecentRow>,
+    #[serde(default, skip_serializing_if = "Option::is_none")]
+    renamed: Option<SenderRename>,
 }
 
 /// Rows of new series, written one by one because their keys are long.
@@ -194,6 +196,7 @@ fn ends(group: &Group) -> Ends<NewRows<'_>> {
         new: NewRows(&group.new.texts, new, &group.owners),
         runs: group.ends.iter().filter_map(run).collect(),
         recent: group.recent.iter().filter_map(|(id, recent)| RecentRow::of(*id, *recent)).collect(),
+        renamed: group.renamed.clone(),
     }
 }
 
@@ -240,11 +243,12 @@ pub struct EndsRead {
     pub new: Keys,
     pub owners: Owners,
     pub recent: Vec<(u32, Recent)>,
+    pub renamed: Option<SenderRename>,
 }
 
 /// What a group did, given the series that were known before it.
 pub fn ends_of(bytes: &[u8], series: &Table) -> Option<EndsRead> {
-    let Ends { known, new, runs, recent } = unpacked::<Ends<NewRead>>(bytes)?;
+    let Ends { known, new, runs, recent, renamed } = unpacked::<Ends<NewRead>>(bytes)?;
     let runs = runs.into_iter().map(|row| (row.0, row));
     let mut runs: HashMap<u32, RunRow> = runs.collect();
     let mut of = |(id, end)| {
@@ -255,7 +259,7 @@ pub fn ends_of(bytes: &[u8], series: &Table) -> Option<EndsRead> {
     let new_ends = (series.next_id()..).zip(new.ends);
     let ends = known.into_iter().chain(new_ends).map(&mut of).collect();
     let recent = recent.into_iter().map(|row| (row.0, row.recent())).collect();
-    let read = EndsRead { ends, new: new.keys, owners: new.owners, recent };
+    let read = EndsRead { ends, new: new.keys, owners: new.owners, recent, renamed };
     (are_known && runs.is_empty()).then_some(read)
 }
 

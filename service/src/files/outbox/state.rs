@@ -150,7 +150,7 @@ impl State {
                     let (first, epoch, since) = (group.first, group.epoch.clone(), group.since);
                     self.wait(Batch { first, count, epoch, since, segment, at: items.start, end: items.end });
                 }
-                self.advance(group);
+                self.advance(*group);
             }
             Change::Acknowledge { number, length } => self.acknowledge(number, length),
             Change::Quarantine(sender) => drop(self.facts.quarantined.insert(sender)),
@@ -216,6 +216,9 @@ impl State {
             if let Some(KnownSeries { series, .. }) = self.series.at_mut(id) {
                 series.recent = series.recent.then(recent);
             }
+        }
+        if let Some(renamed) = group.renamed {
+            self.series.rename_owner(&renamed);
         }
     }
 

@@ -3,6 +3,7 @@
 //!
 //! A digest is enough, as it is for the sinks: nobody can make two keys with the same SHA-256.
 
+use super::changes::SenderRename;
 use super::keys::Keys;
 use super::texts::Texts;
 use super::Series;
@@ -172,7 +173,17 @@ impl Table {
         self.numbering
     }
 
-    /// The shared copy of an owner's name.
+    /// The series of one owner belong to another one.
+    pub fn rename_owner(&mut self, renamed: &SenderRename) {
+        let to = self.shared(&renamed.to);
+        for known in self.known.iter_mut().flatten() {
+            if known.series.owner.as_deref() == Some(&*renamed.from) {
+                known.series.owner = Some(to.clone());
+            }
+        }
+    }
+
+    /// An owner's name.
     pub fn shared(&mut self, owner: &str) -> Arc<str> {
         if let Some(known) = self.owners.get(owner) {
             return known.clone();

@@ -69,6 +69,7 @@ impl Outbox {
                 new,
                 owners,
                 recent,
+                renamed: None,
             }
         };
         let unowned = group.unowned();
@@ -87,7 +88,7 @@ impl Outbox {
         let (bytes, count) = (rows::group(&group, packed), packed.len() as u64);
         self.write(writer, &bytes.records, |begin, segment| {
             let items = begin + bytes.items.start as u64..begin + bytes.items.end as u64;
-            Change::Group { group, count, segment, items }
+            Change::Group { group: Box::new(group), count, segment, items }
         })
     }
 

@@ -20,11 +20,11 @@ impl Run {
     }
 }
 
-async fn begin(path: &Path) -> Run {
+pub(super) async fn begin(path: &Path) -> Run {
     Run::begin_in(Folder::open(path, Durability::Process).unwrap(), settings()).await
 }
 
-fn refusal(outcome: Outcome) -> String {
+pub(super) fn refusal(outcome: Outcome) -> String {
     outcome.refusal().unwrap_or_default().to_string()
 }
 
@@ -148,15 +148,15 @@ async fn a_series_goes_from_delta_to_cumulative_once_it_is_forgotten() {
 /// Copies of the folder from before each call of the disk, with how many posts had been answered, and whether the order
 /// had.
 #[derive(Default)]
-struct Kills {
-    at: Mutex<Vec<(usize, bool)>>,
-    are_made: AtomicBool,
-    posts: AtomicUsize,
-    is_answered: AtomicBool,
+pub(super) struct Kills {
+    pub at: Mutex<Vec<(usize, bool)>>,
+    pub are_made: AtomicBool,
+    pub posts: AtomicUsize,
+    pub is_answered: AtomicBool,
 }
 
 impl Kills {
-    fn make(&self, data: &Path) {
+    pub fn make(&self, data: &Path) {
         if !self.are_made.load(SeqCst) {
             return;
         }

@@ -152,7 +152,8 @@ async fn ordered(unit: &Unit, amend: Amend) -> Option<Result<(), Answer>> {
             Err(Answer::told(409, &format!("{} {why}", named(&one))))
         }
         Done::Answered(outcome) => Err(outcome.into()),
-        Done::Flushed { .. } => return None, // the keeper does not answer `Amend` so
+        // No keeper says so.
+        Done::Flushed { .. } | Done::Renamed { .. } | Done::NotRenamed { .. } => return None,
     })
 }
 

@@ -65,8 +65,13 @@ mod tests {
         let hostile = "<script>alert(1)</script>";
         let slot = SlotStatus { trouble: Some(hostile.into()), tries: 1, ..SlotStatus::default() };
         let metric = Some(hostile.into());
-        let rejected =
-            RejectedStatus { sender: hostile.into(), reason: Reason::Gauge, points: 1_234, metric };
+        let rejected = RejectedStatus {
+            sender: hostile.into(),
+            reason: Reason::Gauge,
+            points: 1_234,
+            metric,
+            owner: None,
+        };
         let status = Status {
             unavailable: Some(hostile.into()),
             sink: hostile.into(),

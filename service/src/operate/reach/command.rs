@@ -1,6 +1,7 @@
 //! What a command does in one shard, at the instance that has it.
 
 use super::Desk;
+use crate::files::SenderRename;
 use crate::keeper::{Done, Order};
 use crate::operate::amend::Sought;
 use crate::operate::{Asked, Unit};
@@ -20,7 +21,8 @@ pub enum Command {
     /// Of this sender.
     Quarantine(String),
     Release(String),
-    /// Finds the series that are meant.
+    RenameSender(SenderRename),
+    /// Which series are meant.
     Find(Sought),
 }
 
@@ -104,6 +106,9 @@ impl Command {
         Some(match self {
             Command::Quarantine(sender) => Asked::new("quarantine", sender),
             Command::Release(sender) => Asked::new("release", sender),
+            Command::RenameSender(rename) => {
+                Asked::new("senders rename", format!("{} to {}", rename.from, rename.to))
+            }
             Command::Flush | Command::Find(_) => return None,
         })
     }
@@ -128,6 +133,7 @@ impl Desk {
                 let is_known = self.knows(&unit, &sender).await;
                 ordered(&unit, Order::Lift(sender)).await.map(|answer| answer.of_sender(is_known))
             }
+            Command::RenameSender(rename) => ordered(&unit, Order::RenameSender(rename)).await,
             Command::Find(sought) => Some(sought.found_in(&unit).await),
         }
     }
@@ -147,7 +153,12 @@ async fn ordered(unit: &Unit, order: Order) -> Option<Answer> {
     match unit.orders.order(order).await? {
         Done::Flushed { requests } => Some(Answer::new(200, json!({ "requests": requests }).to_string())),
         Done::Answered(outcome) => Some(outcome.into()),
-        // Only `amend` gives such orders.
+        Done::Renamed { series } => Some(Answer::new(200, json!({ "series": series }).to_string())),
+        Done::NotRenamed { quarantined } => {
+            let why = "is quarantined, and its posts are kept back under its name: release it first, by `totxegun release";
+            Some(Answer::told(409, &format!("{quarantined} {why} {quarantined}`")))
+        }
+        // `amend` gives such orders itself.
         Done::Amended(_) => None,
     }
 }

@@ -4,7 +4,7 @@ use super::Status;
 use crate::log::seconds;
 use crate::operate::Desk;
 use crate::otlp::Reason;
-use crate::post_reports::OfSender;
+use crate::post_reports::{of_owner, whose, OfSender};
 use serde::{Deserialize, Serialize};
 use std::collections::HashMap;
 
@@ -29,6 +29,9 @@ pub struct RefusedStatus {
     pub last_seconds: u64,
     /// The text of its answer.
     pub answer: String,
+    /// Who has the series, if that is why.
+    #[serde(default, skip_serializing_if = "Option::is_none")]
+    pub owner: Option<String>,
 }
 
 /// The points of a sender that were rejected for one reason.
@@ -40,6 +43,22 @@ pub struct RejectedStatus {
     /// The metric of one of these points, if it is known.
     #[serde(default, skip_serializing_if = "Option::is_none")]
     pub metric: Option<String>,
+    /// Who has the series, if that is why.
+    #[serde(default, skip_serializing_if = "Option::is_none")]
+    pub owner: Option<String>,
+}
+
+/// Who has the series, if that is the reason.
+fn owner_of(of: &OfSender, reason: Reason) -> Option<String> {
+    of.owner.clone().filter(|_| reason == Reason::OtherWriter)
+}
+
+/// What an operator can do about a refusal.
+pub fn advice(sender: &str, reason: Reason, owner: Option<&str>) -> String {
+    match owner {
+        Some(owner) => format!("the series is {}: {}", whose(owner), of_owner(sender, owner)),
+        None => reason.advice().to_string(),
+    }
 }
 
 #[derive(Debug, Serialize, Deserialize)]
@@ -94,13 +113,14 @@ impl SenderStatus {
 }
 
 fn refused(senders: &[(String, OfSender)], now: u64) -> First<RefusedStatus> {
-    let all = senders.iter().flat_map(|(sender, of)| {
-        of.refused.iter().map(move |(reason, of)| RefusedStatus {
+    let all = senders.iter().flat_map(|(sender, of_sender)| {
+        of_sender.refused.iter().map(move |(reason, of)| RefusedStatus {
             sender: sender.clone(),
             reason: *reason,
             posts: of.posts,
             last_seconds: now.saturating_sub(of.last),
             answer: of.text.clone(),
+            owner: owner_of(of_sender, *reason),
         })
     });
     let mut all: Vec<RefusedStatus> = all.collect();
@@ -111,8 +131,10 @@ fn refused(senders: &[(String, OfSender)], now: u64) -> First<RefusedStatus> {
 fn rejected(all: Vec<(String, Reason, u64)>, senders: &[(String, OfSender)]) -> First<RejectedStatus> {
     let senders: HashMap<&str, &OfSender> = senders.iter().map(|(sender, of)| (&**sender, of)).collect();
     let of = |(sender, reason, points): (String, Reason, u64)| {
-        let metric = senders.get(&*sender).and_then(|of| of.rejected.get(&reason)).cloned();
-        RejectedStatus { sender, reason, points, metric }
+        let of = senders.get(&*sender);
+        let metric = of.and_then(|of| of.rejected.get(&reason)).cloned();
+        let owner = of.and_then(|of| owner_of(of, reason));
+        RejectedStatus { sender, reason, points, metric, owner }
     };
     let mut all: Vec<RejectedStatus> = all.into_iter().map(of).collect();
     all.sort_by_key(|of| std::cmp::Reverse(of.points));
@@ -141,6 +163,36 @@ mod tests {
         assert_eq!(first(&senders), Reason::BadSender);
         let all = refused(&senders, 10);
         assert_eq!((all.first.len(), all.more), (MOST, 2));
+    }
+
+    /// Else it is told to change what is right: a sender whose name has changed is the same process.
+    #[test]
+    fn a_refusal_for_another_s_series_names_whose_it_is() {
+        let by_name = |owner: &str| {
+            let reasons = [(Reason::OtherWriter, OfReason::default()), (Reason::Full, OfReason::default())];
+            let of = OfSender { refused: reasons.into(), owner: Some(owner.into()), ..OfSender::default() };
+            vec![("B".to_string(), of)]
+        };
+        let senders = by_name("-");
+        let owners = |all: &First<RefusedStatus>| {
+            let mut owners: Vec<_> = all.first.iter().map(|of| (of.reason, of.owner.clone())).collect();
+            owners.sort();
+            owners
+        };
+        let wanted = [(Reason::OtherWriter, Some("-".to_string())), (Reason::Full, None)];
+        let mut wanted = wanted.to_vec();
+        wanted.sort();
+        assert_eq!(owners(&refused(&senders, 1)), wanted);
+        let rejected = rejected(vec![("B".into(), Reason::OtherWriter, 3)], &by_name("A"));
+        assert_eq!(rejected.first[0].owner.as_deref(), Some("A"));
+        for (owner, part) in [
+            ("A", "the series is A's: if A was its name before, `totxegun senders rename A B`; if they are two"),
+            ("-", "the series is that of posts without a name: if it posted without a name before, `totxegun senders rename - B`"),
+        ] {
+            let told = advice("B", Reason::OtherWriter, Some(owner));
+            assert!(told.starts_with(part), "{told}");
+        }
+        assert_eq!(advice("B", Reason::Full, None), Reason::Full.advice());
     }
 
     #[test]

@@ -1,5 +1,6 @@
 //! The status in words: what `totxegun status` prints and the overview page shows.
 
+use super::posts::advice;
 use super::{held, quarantined, ClusterStatus, DatabaseStatus, First, Limit};
 use super::{InstanceStatus, LimitsStatus, SlotStatus, Status, Stock};
 use crate::command::values::{bytes_shown, counted, grouped, seconds_shown, sender_shown, senders_shown};
@@ -248,7 +249,7 @@ fn refused(status: &Status) -> Section {
             grouped(of.posts),
             seconds_shown(of.last_seconds),
             of.answer.clone(),
-            of.reason.advice().to_string(),
+            advice(&of.sender, of.reason, of.owner.as_deref()),
         ]
     })
 }
@@ -256,7 +257,8 @@ fn refused(status: &Status) -> Section {
 fn rejected(status: &Status) -> Section {
     let heads = &["sender", "reason", "points#", "one metric", "what to do"];
     Section::of("Points not taken", heads, &status.rejected, |of| {
-        let (reason, advice) = (of.reason.label().to_string(), of.reason.advice().to_string());
+        let advice = advice(&of.sender, of.reason, of.owner.as_deref());
+        let reason = of.reason.label().to_string();
         let metric = of.metric.clone().unwrap_or_default();
         vec![sender_shown(&of.sender), reason, grouped(of.points), metric, advice]
     })

@@ -12,15 +12,15 @@ use std::fmt::Write;
 
 pub type Labels = BTreeMap<String, String>;
 
-/// What the page itself says of a series. An attribute of such a name is shown as `exported_NAME`.
+/// Labels that the page sets itself. An attribute of such a name becomes `exported_NAME`.
 const OURS: [&str; 8] =
     ["job", "instance", "le", "otel_scope_name", "otel_scope_version", METRIC, SENDER, SERIES];
 
 /// The metric's name as it was sent: several names may become the same one.
 const METRIC: &str = "otel_metric_name";
-/// Whose series it is, if that is asked for.
+/// The sender of the series, if the request asks for it.
 const SENDER: &str = "otel_sender";
-/// Which series it is: attributes of several may come to the same labels.
+/// The `identity` of the series: attributes of several series may become the same labels.
 const SERIES: &str = "otel_series";
 /// How many bytes of the digest are used. They are enough that nobody finds two series with the same ones.
 const IDENTITY: usize = 16;

@@ -32,14 +32,14 @@ use tokio::time::timeout;
 /// How long to wait while another reader has the page.
 const PATIENCE: Duration = Duration::from_secs(10);
 
-/// Whether a page has the sender of each series.
+/// Whether each series has a label with its sender.
 #[derive(Clone, Copy, PartialEq)]
 enum Senders {
     Labels,
     LeftOut,
 }
 
-/// The sink that is read.
+/// Reads the sink.
 pub struct Totals {
     source: Address,
     times: Times,

@@ -15,7 +15,7 @@ mod tls_tests;
 pub use access::Access;
 pub(crate) use connect::Client;
 
-use super::{Answer, Fate, Forwarded, Keys, Rewind, Sink};
+use super::{is_instruction, Answer, Fate, Forwarded, Keys, Sink};
 use crate::files::Tenure;
 use crate::otlp::{protobuf_of_forwarded, Encoding};
 use crate::work::blocking;
@@ -91,8 +91,8 @@ impl OtlpSink {
     }
 
     async fn send(&self, request: &Forwarded) -> Fate {
-        if Rewind::of(&request.body).is_some() {
-            return Fate::Taken; // a receiver keeps no ends of series
+        if is_instruction(&request.body) {
+            return Fate::Taken; // a receiver knows no ends of series, and no senders
         }
         let access = self.access.clone();
         let more = match blocking(move || access.read_headers()).await {

@@ -181,7 +181,12 @@ statements! {
         update totxegun.series_totals as t
         set last_end_ns = known.last_end_ns, floor_ns = known.last_end_ns, life = $3::int8
         from known where t.series = known.series",
-    /// The current time, and what is closed.
+    /// Writes down another sender of these series.
+    rename_sender: "with known as materialized (
+            select id from totxegun.series where digest = any($1::bytea[]) order by id for no key update
+        )
+        update totxegun.series set sender = $2::text from known where series.id = known.id",
+    /// The time that it is, and what is closed.
     closed: CLOSED,
     hours_over: HOURS_OVER,
 }

@@ -16,7 +16,7 @@ use crate::sinks::periods::Closed;
 use crate::sinks::sql::{
     self, closed_of, Adding, Content, Late, OfSeries, Outcome, Place, Request, Sent, Stored, Taken,
 };
-use crate::sinks::{Forwarded, KnowsOwners, Rewind};
+use crate::sinks::{Forwarded, KnowsOwners, RenameSender, Rewind};
 use tokio_postgres::types::ToSql;
 use tokio_postgres::{Row, Statement, Transaction};
 
@@ -116,6 +116,11 @@ impl sql::Transaction for Writing<'_> {
         let (to, slot, number) = (Numeric::from(rewind.to), i32::from(of.slot), Numeric::from(of.number));
         let columns: [&(dyn ToSql + Sync); 6] = [&digests, &to, &life, &slot, &of.epoch, &number];
         self.rows(&self.statements.rewind, &columns).await.map(drop)
+    }
+
+    async fn rename_sender(&mut self, rename: &RenameSender) -> Result<(), NotTaken> {
+        let digests: Vec<Vec<u8>> = rename.keys().map(|key| key.digest().to_vec()).collect();
+        self.rows(&self.statements.rename_sender, &[&digests, &rename.to]).await.map(drop)
     }
 }
 

@@ -25,7 +25,7 @@ pub(super) use sums::Sums;
 
 use super::left_out::{LeftOut, OTHER_REQUEST};
 use super::periods::Closed;
-use super::{Forwarded, Rewind};
+use super::{is_instruction, Forwarded, RenameSender, Rewind};
 use crate::otlp::series::ForwardedPoint;
 use ends::Coming;
 use std::collections::{BTreeMap, BTreeSet};
@@ -80,6 +80,9 @@ pub(super) trait Transaction {
         of: &Forwarded,
         rewind: &Rewind,
     ) -> Result<(), NotTaken<Self::Fault>>;
+
+    /// Writes down the new sender of these series, those of them that are there.
+    async fn rename_sender(&mut self, rename: &RenameSender) -> Result<(), NotTaken<Self::Fault>>;
 }
 
 /// Where the rows of requests are.
@@ -186,6 +189,9 @@ async fn take_one<T: Transaction>(
     if let Some(rewind) = Rewind::of(&of.body) {
         transaction.rewind(place.life, of, &rewind).await?;
     }
+    if let Some(rename) = RenameSender::of(&of.body) {
+        transaction.rename_sender(&rename).await?;
+    }
     Ok(Outcome::New(left))
 }
 
@@ -193,8 +199,8 @@ async fn take_together<T: Transaction>(
     transaction: &mut T,
     requests: Vec<Request<'_>>,
 ) -> Result<bool, NotTaken<T::Fault>> {
-    // A rewind has its place in the order.
-    if requests.is_empty() || requests.iter().any(|one| Rewind::of(&one.of.body).is_some()) {
+    // An instruction has its place between the others.
+    if requests.is_empty() || requests.iter().any(|one| is_instruction(&one.of.body)) {
         return Ok(requests.is_empty());
     }
     match transaction.make_requests(&requests).await? {

@@ -13,7 +13,7 @@ use crate::sinks::left_out::shown;
 use crate::sinks::periods::Closed;
 use crate::sinks::sql::totals::SeriesTotal;
 use crate::sinks::sql::{self, Adding, Late, OfSeries, Place, Request, Stored, Taken};
-use crate::sinks::{Forwarded, KnowsOwners, Rewind};
+use crate::sinks::{Forwarded, KnowsOwners, RenameSender, Rewind};
 use rusqlite::{params, Transaction};
 use std::collections::{BTreeMap, BTreeSet, HashMap};
 use std::sync::Arc;
@@ -124,6 +124,14 @@ impl sql::Transaction for Writing<'_> {
             if let (Some(series), Some(total)) = (series, total) {
                 total.rewound(life, rewind.to).write(&self.transaction, series)?;
             }
+        }
+        Ok(())
+    }
+
+    async fn rename_sender(&mut self, rename: &RenameSender) -> Result<(), NotTaken> {
+        let update = "update series set sender = ?2 where digest = ?1";
+        for key in rename.keys() {
+            cached::run(&self.transaction, update, params![key.digest(), rename.to])?;
         }
         Ok(())
     }

@@ -350,7 +350,8 @@ async fn each_reason_is_told_with_its_first_point() {
     let outcome = posted(&slot, 'A', body(&points), false).await;
     let Outcome::Taken { rejected, .. } = &outcome else { panic!("{outcome:?}") };
     let why = "2 points are refused: other writer: point 1: `B1` {} is another sender's, so BEGIN to BEGIN is not counted: give each \
-               process its own service.instance.id; 2 points are refused: duplicate or late: point 2, frontier 11: `A1` {} begins before \
+               process its own service.instance.id, or, if only this sender's name has changed, have it renamed; 2 points are refused: \
+               duplicate or late: point 2, frontier 11: `A1` {} begins before \
                what its series has (until BEGIN), and is no repeat of the last two posts, so BEGIN to BEGIN is not counted: set the \
                sender's clock, or give each process its own service.instance.id";
     let why = why.replace("BEGIN", "1970-01-01T00:00:00.000000Z");
