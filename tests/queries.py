@@ -159,6 +159,8 @@ class Plain:
         yield 7, self.quantiles(HOURS, lambda one, _: one.shop)
         yield 8, self.quantiles(november, lambda _, hour: str(at(hour).date()))
         yield 9, self.greatest_first(self.sums("shop.orders", november, lambda one, _: one.instance))
+        in_berlin = [hour for hour in HOURS if (at(hour) + datetime.timedelta(hours=1)).strftime("%Y-%m") == "2026-11"]
+        yield 11, sorted(self.sums("shop.revenue", in_berlin, lambda one, _: one.shop).items())
 
     @staticmethod
     def greatest_first(sums: dict[Any, int]) -> list[tuple[Any, int]]:
@@ -590,7 +592,7 @@ def main() -> int:
     count = int(sys.argv[2]) if len(sys.argv) > 2 else SERIES
     checks = Checks()
     wanted = dict(Plain(range(1, count + 1)).answers())
-    checks.same("the page has ten questions", list(range(1, 11)), sorted(statements()))
+    checks.same("the page has eleven questions", list(range(1, 12)), sorted(statements()))
     with tempfile.TemporaryDirectory() as folder:
         try_lite(checks, program, folder, count, wanted)
         bill_lite(checks, program, folder)

@@ -4,6 +4,7 @@
 //! which is in no row.
 
 use super::ask::Address as Operate;
+use super::time_zone::{self, TimeZone};
 use super::{client, series, values};
 use crate::operate::LateSum;
 use crate::sinks::periods::{Closed, Period};
@@ -23,13 +24,15 @@ const COLUMNS: &str =
 
 #[derive(Args)]
 pub struct Options {
-    /// A month in UTC: 2026-11
+    /// A month: 2026-11
     #[arg(long, value_name = "MONTH", required_unless_present = "day", value_parser = period(Period::is_month, "month: write 2026-11"))]
     month: Option<Period>,
-    /// A day in UTC: 2026-11-05
+    /// A day: 2026-11-05
     #[arg(long, value_name = "DAY", conflicts_with = "month", value_parser = period(Period::is_day, "day: write 2026-11-05"))]
     day: Option<Period>,
-    /// Prints a head, then a row for each series, with commas between cells
+    #[command(flatten)]
+    zone: TimeZone,
+    /// Prints a head and a row for each series, with commas between cells
     #[arg(long, required_unless_present = "json")]
     csv: bool,
     /// Prints a line with a JSON object for each series
@@ -55,6 +58,7 @@ impl Options {
         let Some(period) = self.month.as_ref().or(self.day.as_ref()) else {
             bail!("give --month or --day");
         };
+        let period = &self.zone.of(period)?;
         let mut out = Out {
             to: BufWriter::new(std::io::stdout().lock()),
             head: self.csv.then(|| format!("{COLUMNS}\n")),
@@ -75,7 +79,7 @@ impl Options {
 
 /// Says on standard error what the service refused of the period, which is in no row.
 fn tell_of_late(period: &Period, at: &Operate) {
-    let path = format!("/late/{period}");
+    let path = time_zone::path("late", period, None);
     match client::read::<Vec<LateSum>>(at, Method::GET, &path) {
         Ok(sums) if sums.is_empty() => {
             crate::complain(format_args!("{period}: nothing of it was refused as late or another sender's"));

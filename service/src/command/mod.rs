@@ -27,6 +27,7 @@ mod serve;
 mod status;
 mod store;
 mod table;
+mod time_zone;
 mod token;
 mod totals;
 pub(crate) mod values;
@@ -86,6 +87,8 @@ enum Command {
     Reopen {
         /// The period, as it was closed
         period: Period,
+        #[command(flatten)]
+        zone: time_zone::TimeZone,
         #[command(flatten)]
         at: ask::Address,
     },
@@ -184,7 +187,7 @@ impl Command {
             Command::DeadLetters(command) => Ok(command.run()?),
             Command::Late(options) => Ok(options.run()?),
             Command::Close(options) => Ok(options.run()?),
-            Command::Reopen { period, at } => Ok(periods::open(&period, &at)?),
+            Command::Reopen { period, zone, at } => Ok(periods::open(&period, &zone, &at)?),
             Command::Adjust(options) => Ok(options.run()?),
             Command::Rewind { of, to, at } => Ok(ask::change(&at, &of.path(&format!("/rewind/{to}")))?),
             Command::Forget { of, at } => Ok(ask::change(&at, &of.path("/forget"))?),
@@ -316,6 +319,8 @@ mod tests {
             ("senders rename a", "<NEW>"),
             ("senders rename a/b c", "<OLD>"),
             ("close 2026-13", "2026-13"),
+            ("close 2026-11 --time-zone Berlin", "no time zone Berlin is known here"),
+            ("export --month 2026-11 --csv --time-zone ../x", "--time-zone"),
             ("close 2026-11 --flush --force", "--force"),
             ("reopen november", "no period"),
             ("adjust 7 2026-11-05T13 1.5 --reason x", "'1.5'"),

@@ -1,5 +1,6 @@
 //! `totxegun close` and `reopen`: periods of the sink, for which bills are made.
 
+use super::time_zone::{self, TimeZone};
 use super::{ask, ask::Address, client};
 use crate::operate::{FLUSHED, FORCE};
 use crate::sinks::periods::Period;
@@ -16,6 +17,8 @@ const LOOK: Duration = Duration::from_millis(200);
 pub struct Close {
     /// A month 2026-11, a day 2026-11-05 or an hour 2026-11-05T13, in UTC, that has ended
     period: Period,
+    #[command(flatten)]
+    zone: TimeZone,
     /// Flushes first, and waits until the sink has all that was posted so far
     #[arg(long, conflicts_with = "force")]
     flush: bool,
@@ -28,25 +31,21 @@ pub struct Close {
 
 impl Close {
     pub fn run(self) -> Result<Vec<u8>> {
+        let period = self.zone.of(&self.period)?;
         if self.flush {
             deliver(&self.at)?;
         }
-        let query = match (self.flush, self.force) {
-            (true, _) => format!("?{FLUSHED}"),
-            (false, true) => format!("?{FORCE}"),
-            (false, false) => String::new(),
+        let how = match (self.flush, self.force) {
+            (true, _) => Some(FLUSHED),
+            (false, true) => Some(FORCE),
+            (false, false) => None,
         };
-        ask::change(&self.at, &format!("/close/{}{query}", written(&self.period)))
+        ask::change(&self.at, &time_zone::path("close", &period, how))
     }
 }
 
-pub fn open(period: &Period, at: &Address) -> Result<Vec<u8>> {
-    ask::change(at, &format!("/reopen/{}", written(period)))
-}
-
-/// The period in a path.
-fn written(period: &Period) -> String {
-    period.to_string().replace(' ', "T")
+pub fn open(period: &Period, zone: &TimeZone, at: &Address) -> Result<Vec<u8>> {
+    ask::change(at, &time_zone::path("reopen", &zone.of(period)?, None))
 }
 
 /// Flushes, and waits until no request waits.

@@ -124,8 +124,8 @@ impl Desk {
         sums.await.map(Sums::listed).map_err(|why| format!("late data can't be read: {why}"))
     }
 
-    pub(super) async fn late_of(&self, period: &str) -> Answer {
-        let period: Period = match period.parse() {
+    pub(super) async fn late_of(&self, period: Result<Period, String>) -> Answer {
+        let period = match period {
             Ok(period) => period,
             Err(why) => return Answer::told(400, &why),
         };

@@ -47,13 +47,14 @@ use crate::late::LateData;
 use crate::metrics::Metrics;
 use crate::post_reports::SenderActivity;
 use crate::shares::Shares;
-use crate::sinks::periods::Deed;
+use crate::sinks::periods::{Deed, Period};
 use crate::sinks::Sink;
 use hyper::header::{HeaderValue, ALLOW, CONTENT_TYPE, LOCATION};
 use hyper::{Body, Method, Request, Response, StatusCode, Uri};
 use letters::OfLetter;
 use pages::Page;
 use percent_encoding::percent_decode_str;
+use periods::period_of;
 use query::Query;
 use reach::{Answer, Command};
 use std::sync::Arc;
@@ -272,16 +273,18 @@ impl Desk {
             },
             Route::Letters => self.letters().await.into(),
             Route::Late => self.late(query).await.into(),
-            Route::LateOf(period) => self.late_of(&period).await.into(),
+            Route::LateOf(period) => self.late_of(period_of(&period, query)).await.into(),
             Route::Adjust => self.adjust(actor, body).await.into(),
             Route::Close(period) => {
                 let (force, flushed) = (query.has(FORCE), query.has(FLUSHED));
-                let asked = Asked::new("close", &period).with("--force", force).with("--flush", flushed);
-                self.settle(actor, asked, period.parse().map(Deed::Close), force || flushed).await.into()
+                let period = period_of(&period, query);
+                let asked = asked_period("close", &period).with("--force", force).with("--flush", flushed);
+                self.settle(actor, asked, period.map(Deed::Close), force || flushed).await.into()
             }
             Route::Open(period) => {
-                let asked = Asked::new("reopen", &period);
-                self.settle(actor, asked, period.parse().map(Deed::Open), true).await.into()
+                let period = period_of(&period, query);
+                let asked = asked_period("reopen", &period);
+                self.settle(actor, asked, period.map(Deed::Open), true).await.into()
             }
             Route::Amend(to) => self.amend(actor, to.as_deref(), query).await.into(),
             Route::Page(page) => self.page(page, query).await,
@@ -289,7 +292,12 @@ impl Desk {
     }
 }
 
-/// Decodes a percent-encoded part of a path. A part that is not UTF-8 names nothing that exists.
+/// What is written down of a period, with its zone; of one that is none nothing is.
+fn asked_period(what: &'static str, period: &Result<Period, String>) -> Asked {
+    Asked::new(what, period.as_ref().map(ToString::to_string).unwrap_or_default())
+}
+
+/// A part of a path that names something: it may be percent-encoded. What is no text names nothing.
 fn decoded(part: &str) -> String {
     percent_decode_str(part).decode_utf8_lossy().into_owned()
 }

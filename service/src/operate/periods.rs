@@ -2,6 +2,7 @@
 //! it does not flush by itself: whoever bills has to know what is missing.
 
 use super::late_sums::not_counted;
+use super::query::Query;
 use super::reach::Answer;
 use super::status::held;
 use super::status::Status;
@@ -13,6 +14,18 @@ use std::sync::Arc;
 pub const FORCE: &str = "force";
 /// The same, from a client that has flushed and waited: what waits now came after that.
 pub const FLUSHED: &str = "flush";
+
+/// The zone of a period in a query; of UTC where there is none.
+const TIME_ZONE: &str = "time-zone";
+
+/// A period that a path names, by the clocks of the zone that its query names.
+pub(super) fn period_of(text: &str, query: Query<'_>) -> Result<Period, String> {
+    let period: Period = text.parse()?;
+    match query.has(TIME_ZONE) {
+        true => period.in_zone(&query.value(TIME_ZONE)?.parse()?),
+        false => Ok(period),
+    }
+}
 
 impl Desk {
     /// Closes or reopens a period; with `is_anyway` also if something waits that may belong to it.

@@ -60,6 +60,23 @@ fn a_path_may_be_percent_encoded() {
 }
 
 #[test]
+fn a_period_is_of_the_zone_that_is_asked_for() {
+    let of = |text, query| periods::period_of(text, Query(query));
+    assert_eq!(of("2026-11", "flush").unwrap().to_string(), "2026-11");
+    let berlin = of("2026-11", "time-zone=Europe%2FBerlin&flush").unwrap();
+    assert_eq!((berlin.to_string().as_str(), berlin.from), ("2026-11 Europe/Berlin", 498_191));
+    for (text, query, part) in [
+        ("2026-11", "time-zone=Asia/Kolkata", "whole hours"),
+        ("2026-11-05T13", "time-zone=Europe/Berlin", "hours are of UTC"),
+        ("2026-11", "time-zone=", "is no time zone"),
+        ("november", "time-zone=Europe/Berlin", "no period"),
+    ] {
+        let why = of(text, query).unwrap_err();
+        assert!(why.contains(part), "{why}");
+    }
+}
+
+#[test]
 fn nothing_else_is_a_path() {
     for path in [
         "",

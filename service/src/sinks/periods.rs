@@ -9,8 +9,10 @@
 //! after the other, and a close is there or not.
 
 mod period;
+mod zone;
 
 pub use period::{hour_shown, seconds_of, Period};
+pub use zone::Zone;
 
 use crate::log::utc;
 use crate::sinks::sql::totals::SeriesTotal;

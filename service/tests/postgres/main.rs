@@ -20,6 +20,7 @@ mod rivals;
 mod server;
 mod speed;
 mod together;
+mod zones;
 
 use model::both;
 use server::{histogram, sum, sum_named, Server};

@@ -9,6 +9,7 @@ use crate::log::{seconds, utc};
 use crate::operate::query::Query;
 use crate::operate::status::Shown;
 use crate::operate::totals::{identity, Totals};
+use crate::sinks::periods::Zone;
 use crate::sinks::sql::exact::Exact;
 use crate::sinks::sql::totals::Hour;
 use crate::sinks::sql::totals::{text, Histogram, SeriesTotal};
@@ -30,11 +31,14 @@ struct Wanted {
     attribute: String,
     /// The series by its `identity`.
     id: String,
+    /// By whose clocks hours are shown; empty for UTC.
+    time_zone: String,
 }
 
 impl Desk {
     pub(super) async fn series_page(&self, query: Query<'_>) -> String {
         let wanted = Wanted::of(query);
+        let time_zone = wanted.time_zone.clone();
         let status = self.status();
         let mut html = Html::default();
         form(&mut html, &wanted);
@@ -48,7 +52,8 @@ impl Desk {
                 Ok(found) => {
                     found.write(&mut html);
                     if let Some(one) = found.one() {
-                        last_hours(&mut html, totals, one).await;
+                        let zone = zone(&mut html, &identity(one), &time_zone);
+                        last_hours(&mut html, totals, one, &zone).await;
                     }
                 }
                 Err(why) => {
@@ -73,7 +78,8 @@ impl Wanted {
     fn of(query: Query<'_>) -> Wanted {
         let value = |key: &str| query.value(key).unwrap_or_else(|_| char::REPLACEMENT_CHARACTER.into());
         let trimmed = |key: &str| value(key).trim().to_string();
-        Wanted { name: trimmed("name"), attribute: trimmed("attribute"), id: value("id") }
+        let [name, attribute, time_zone] = ["name", "attribute", "time-zone"].map(trimmed);
+        Wanted { name, attribute, id: value("id"), time_zone }
     }
 
     fn found(self, series: Vec<SeriesTotal>) -> FoundRows {
@@ -197,20 +203,35 @@ fn buckets(html: &mut Html, histogram: &Histogram) {
         .end_section();
 }
 
-/// Plots the last hours: how many values of a histogram, the sum of other series. Nothing if the sink has no hours yet.
-async fn last_hours(html: &mut Html, totals: &Totals, series: &SeriesTotal) {
+/// Asks for a time zone, and reads the one that was asked for.
+fn zone(html: &mut Html, id: &str, asked: &str) -> Zone {
+    html.markup("<form action=series><input type=hidden name=id value=\"").text(id);
+    html.markup("\"><label>Time zone <input name=time-zone placeholder=\"Europe/Berlin\" value=\"")
+        .text(asked);
+    html.markup("\"></label><button>Show hours</button></form>\n");
+    match asked {
+        "" => Zone::utc(),
+        asked => asked.parse().unwrap_or_else(|why| {
+            html.markup("<p class=\"note bad\">").text(why).markup("</p>");
+            Zone::utc()
+        }),
+    }
+}
+
+/// What came in each of the last hours: of a histogram how many values, else their sum. Nothing where the sink has no hours.
+async fn last_hours(html: &mut Html, totals: &Totals, series: &SeriesTotal, zone: &Zone) {
     let from = (seconds() / HOUR + 1).saturating_sub(HOURS);
     match totals.hours(series.digest, from).await {
         Ok(None) => {}
-        Ok(Some(hours)) => plot_of_hours(html, &hours, from),
+        Ok(Some(hours)) => plot_of_hours(html, &hours, from, zone),
         Err(why) => {
             html.markup("<p class=\"note bad\">The hours can't be read: ").text(why).markup("</p>");
         }
     }
 }
 
-fn plot_of_hours(html: &mut Html, hours: &[Hour], from: u64) {
-    let hour = |hour: u64| utc(hour * HOUR)[..16].to_string();
+fn plot_of_hours(html: &mut Html, hours: &[Hour], from: u64, zone: &Zone) {
+    let hour = |hour: u64| zone.shown(hour * HOUR)[..16].to_string();
     let of = |wanted: u64| hours.iter().find(|hour| hour.hour == wanted);
     let bar = |wanted: u64| {
         let value = of(wanted).map_or(Exact::default(), |hour| hour.count.unwrap_or(hour.total));
@@ -225,7 +246,11 @@ fn plot_of_hours(html: &mut Html, hours: &[Hour], from: u64) {
         vec![hour(one.hour), grouped(one.total), count]
     });
     let rows: Vec<_> = rows.collect();
-    let heads = ["hour (UTC)", "total#", "count#"];
+    let is_utc = *zone == Zone::utc();
+    if !is_utc {
+        html.markup("<p class=note>Hours are by the clocks of ").text(zone).markup(".</p>");
+    }
+    let heads = [if is_utc { "hour (UTC)" } else { "hour" }, "total#", "count#"];
     html.table("What came in each hour, the last first", &heads, &rows, &[]).end_section();
 }
 
@@ -287,7 +312,7 @@ mod tests {
         let hours = [(1000, 5, None), (1047, 7000, Some(Exact(3)))];
         let hours = hours.map(|(hour, total, count)| Hour { hour, total: Exact(total), count });
         let mut html = Html::default();
-        plot_of_hours(&mut html, &hours, 1000);
+        plot_of_hours(&mut html, &hours, 1000, &Zone::utc());
         let text = html.into_text();
         assert_eq!(text.matches("<rect").count(), 48);
         assert!(
@@ -298,6 +323,23 @@ mod tests {
         let marks = ["02-11 16:00", "02-12 04:00", "02-12 16:00", "02-13 04:00", "02-13 16:00"];
         let marks = marks.map(|mark| format!("<span>{mark}</span>")).concat();
         assert!(text.contains(&format!("<div class=axis>{marks}</div>")), "{text}");
+    }
+
+    #[test]
+    fn hours_are_those_of_the_zone_that_is_asked_for() {
+        let hours = [Hour { hour: 1000, total: Exact(5), count: None }];
+        let mut html = Html::default();
+        let berlin = zone(&mut html, "1", "Europe/Berlin");
+        plot_of_hours(&mut html, &hours, 1000, &berlin);
+        assert_eq!(zone(&mut html, "1", "<Atlantis>"), Zone::utc());
+        let text = html.into_text();
+        for part in [
+            "by the clocks of Europe/Berlin.",
+            "<title>1970-02-11 17:00: 5</title>",
+            "`&lt;Atlantis&gt;` is no time zone",
+        ] {
+            assert!(text.contains(part), "{part} in {text}");
+        }
     }
 
     #[test]

@@ -9,6 +9,7 @@ mod ends;
 pub mod exact;
 pub mod export;
 mod fault;
+mod local;
 pub mod reading;
 mod request;
 mod settle;

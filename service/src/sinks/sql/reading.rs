@@ -3,6 +3,7 @@
 
 use super::exact::Exact;
 use super::export::{Each, Line, Times, What};
+use super::local;
 use super::settle::{closed_of, CLOSED, NO_HORIZON};
 use super::totals::{Histogram, Hour, SeriesTotal};
 use crate::otlp::series::{Digest, SeriesKey};
@@ -196,21 +197,26 @@ pub fn read(sink: &Address, what: &What, each: Each<'_>) -> Result<Closed> {
     let (times, view, order) = match what {
         What::Totals => {
             let order = "order by of.name, cast(of.attributes as text), cast(of.resource as text), of.series";
-            ("first_start, last_end", "totals", order.to_string())
+            ("first_start, last_end", "totals".to_string(), order.to_string())
+        }
+        What::Of(period) if period.zone().is_some() => {
+            ("null, null", local::rows(period), "order by of.name, of.series".to_string())
         }
         What::Of(period) => {
             let (view, time, at) = match period.is_month() {
-                true => ("by_month", "month", format!("{period}-01")),
-                false => ("by_day", "day", period.to_string()),
+                true => ("by_month", "month", format!("{}-01", period.date())),
+                false => ("by_day", "day", period.date().to_string()),
             };
-            ("null, null", view, format!("where {time} = '{at}' order by of.name, of.series"))
+            ("null, null", view.to_string(), format!("where {time} = '{at}' order by of.name, of.series"))
         }
     };
     let query = format!(
         "select of.series, identity, points, total, adjustments, total_adjusted, count, of.buckets, {times}, sender
         from {view} as of join series on series.id = of.series {order}"
     );
-    opened.each(&query, |row| line(&row), each)?;
+    let mut adding = local::Adding::new(each);
+    opened.each(&query, |row| line(&row), |line| adding.add(line))?;
+    adding.end()?;
     let rows = opened.all(CLOSED, Ok)?;
     of_place(&opened.place, closed_of(&rows))
 }

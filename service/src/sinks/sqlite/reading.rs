@@ -54,6 +54,9 @@ impl sql::Reader for Reader {
 
     /// A month or a day is deleted as a whole, with its last hour.
     fn has(&self, period: &Period, hours_from: i64) -> bool {
+        if period.zone().is_some() {
+            return period.from >= hours_from; // it is read by hours
+        }
         let (day, first) = (day_of(period.from), day_of(hours_from));
         match period.is_month() {
             true => month_of(day) >= month_of(first),
