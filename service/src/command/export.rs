@@ -6,10 +6,11 @@
 use super::ask::Address as Operate;
 use super::time_zone::{self, TimeZone};
 use super::{client, series, values};
-use crate::operate::LateSum;
+use crate::operate::{begun, LateSum};
 use crate::sinks::periods::{Closed, Period};
 use crate::sinks::sql::export::{Line, What};
 use crate::sinks::sql::reading;
+use crate::sinks::sql::BegunBefore;
 use crate::sinks::Address;
 use anyhow::{bail, Context, Result};
 use clap::Args;
@@ -72,12 +73,20 @@ impl Options {
         let sink = sink(self.sink.as_ref(), &self.at)?;
         let closed = reading::read(&sink, &What::Of(period.clone()), &mut each)?;
         out.end(period, &closed)?;
+        tell_of_begun(period, reading::begun_before(&sink, period)?);
         tell_of_late(period, &self.at);
         Ok(())
     }
 }
 
-/// Says on standard error what the service refused of the period, which is in no row.
+/// On standard error, what counts in the period, and began before it.
+fn tell_of_begun(period: &Period, all: Vec<BegunBefore>) {
+    for one in &all {
+        crate::complain(format_args!("{period}: counted in it, though it began before: {}", begun(one)));
+    }
+}
+
+/// On standard error, what of the period was refused and is in no row: the service knows it.
 fn tell_of_late(period: &Period, at: &Operate) {
     let path = time_zone::path("late", period, None);
     match client::read::<Vec<LateSum>>(at, Method::GET, &path) {

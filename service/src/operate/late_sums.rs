@@ -18,7 +18,7 @@ const HOUR: u64 = 3_600_000_000_000;
 
 /// How many sums a text names, and how much of a series' name it shows, in characters.
 const SHOWN: usize = 5;
-const NAME_SHOWN: usize = 200;
+pub(super) const NAME_SHOWN: usize = 200;
 
 /// The sum of the points of one series that one sender posted and that were refused for one reason.
 #[derive(Clone, Debug, PartialEq, Eq, Serialize, Deserialize)]

@@ -31,7 +31,7 @@ pub use adjust::{AskedAdjustment, ADJUSTMENTS};
 pub use late_sums::LateSum;
 pub use letters::Resent;
 pub use named::Named;
-pub use periods::{FLUSHED, FORCE};
+pub use periods::{begun, FLUSHED, FORCE};
 pub use reach::Others;
 pub use status::{DatabaseStatus, Pulse, Status};
 pub use store_health::StoreHealth;

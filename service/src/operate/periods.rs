@@ -1,13 +1,16 @@
 //! Closes and reopens periods of the sink. A close is refused while something waits that may belong to the period, and
 //! it does not flush by itself: whoever bills has to know what is missing.
 
-use super::late_sums::not_counted;
+use super::late_sums::{not_counted, NAME_SHOWN};
+use super::named::named;
 use super::query::Query;
 use super::reach::Answer;
 use super::status::held;
 use super::status::Status;
 use super::{Actor, Asked, Desk};
+use crate::log::{of_nanoseconds, shown};
 use crate::sinks::periods::{Deed, Period, Told};
+use crate::sinks::sql::BegunBefore;
 use std::sync::Arc;
 
 /// Closes a period although something waits that may belong to it.
@@ -60,6 +63,7 @@ impl Desk {
         let mut more = status.map_or_else(String::new, |status| kept_back(&status));
         if let Deed::Close(period) = &deed {
             more += &self.refused_of(period).await;
+            more += &self.begun_before(period).await;
         }
         self.settled(&who, &deed, &more).await
     }
@@ -74,7 +78,23 @@ impl Desk {
         format!("; refused, and not counted in it: {told} (`totxegun late`, `totxegun adjust --late KEY`)")
     }
 
-    /// Has the sink carry out a deed. If that succeeds, `and` is added to the answer.
+    /// What counts in a period, and began before it.
+    async fn begun_before(&self, period: &Period) -> String {
+        let Some(totals) = &self.totals else { return String::new() };
+        let told = match totals.begun_before(period).await {
+            Ok(all) if all.is_empty() => return String::new(),
+            Ok(all) => {
+                let mut told: Vec<String> = all.iter().take(SHOWN).map(begun).collect();
+                let more = all.len().saturating_sub(SHOWN);
+                told.extend((more > 0).then(|| format!("and {more} more")));
+                told.join("; ")
+            }
+            Err(why) => format!("that is not known: {why}"),
+        };
+        format!("; counted in it, though it began before: {told} (table long_intervals; `totxegun adjust` moves a part)")
+    }
+
+    /// What the sink says of a deed; of one that is done this is said too.
     pub(super) async fn settled(&self, who: &str, deed: &Deed, and: &str) -> Answer {
         match self.sink.settle(who, deed).await {
             Told::Done(told) => Answer::told(200, &(told + and)),
@@ -84,8 +104,22 @@ impl Desk {
     }
 }
 
-/// Why the sink may still get something: posts that are not flushed, requests that wait, or a shard that can't be
-/// asked.
+/// How many intervals a text has.
+const SHOWN: usize = 5;
+
+/// An interval that began before its period, in a line.
+pub fn begun(of: &BegunBefore) -> String {
+    let value = of.value.map_or_else(|| "values without a sum".to_string(), |value| value.to_string());
+    let (series, sender) =
+        (shown(&named(&of.series), NAME_SHOWN), of.sender.as_deref().unwrap_or("an unknown sender"));
+    format!(
+        "{value} of {series} by {sender} from {} to {}",
+        of_nanoseconds(of.start_ns),
+        of_nanoseconds(of.end_ns)
+    )
+}
+
+/// What was taken of senders and goes to the sink, but is not there yet.
 fn not_in_the_sink(status: &Status) -> Option<String> {
     if let Some((slot, why)) = status.unknown() {
         return Some(format!("slot {slot} can't be asked, and may have some ({why})"));

@@ -8,6 +8,7 @@ mod hours;
 mod intervals;
 mod kept;
 mod lives;
+mod long;
 mod lost;
 mod model;
 mod owners;

@@ -3,6 +3,7 @@
 mod acts;
 mod amend;
 mod another;
+mod begun;
 mod held;
 mod instance;
 mod late;

@@ -17,8 +17,10 @@ pub use page::Times;
 use super::query::Query;
 use super::{message, reply, Desk, PROMETHEUS};
 use crate::otlp::series::Digest;
+use crate::sinks::periods::Period;
 use crate::sinks::sql::reading;
 use crate::sinks::sql::totals::{Hour, SeriesTotal};
+use crate::sinks::sql::BegunBefore;
 use crate::sinks::Address;
 use crate::work::blocking;
 use hyper::{Body, Response};
@@ -70,7 +72,13 @@ impl Totals {
         self.asked(|sink| reading::booked(sink).map_err(said)).await
     }
 
-    /// Has `make` turn all totals into something.
+    /// The intervals that count in a period, and began before it.
+    pub(super) async fn begun_before(&self, period: &Period) -> Result<Vec<BegunBefore>, String> {
+        let period = period.clone();
+        self.asked(move |sink| reading::begun_before(sink, &period).map_err(said)).await
+    }
+
+    /// What is made of all totals.
     pub(super) async fn read<T: Send + 'static>(
         &self,
         make: impl FnOnce(Vec<SeriesTotal>) -> Result<T, String> + Send + 'static,

@@ -117,7 +117,21 @@ pub(super) fn late_rows<'a>(adding: &'a Adding<'a, Known>) -> impl Iterator<Item
     })
 }
 
-/// Rows of `metric_hours`.
+/// Rows of `long_intervals`.
+pub(super) fn long_rows<'a>(adding: &'a Adding<'a, Known>) -> impl Iterator<Item = NewRow<'a>> {
+    adding.long().map(move |(hour, point)| {
+        row(move |write| {
+            let value = match &point.value {
+                Value::Sum(value) => Some(i128::from(*value)),
+                Value::Histogram { sum, .. } => sum.map(i128::from),
+            };
+            let (start, end) = (Numeric::from(point.start), Numeric::from(point.end));
+            write(&[&adding.stored.row.id, &(hour as i32), &start, &end, &value.map(Numeric)])
+        })
+    })
+}
+
+/// Rows of `metric_hour`.
 pub(super) fn metric_rows<'a>(all: &'a [Adding<'a, Known>]) -> Vec<NewRow<'a>> {
     let of_row = |((metric, hour), sums): ((&'a [u8], i64), Sums)| {
         row(move |write| {

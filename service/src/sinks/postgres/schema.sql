@@ -231,6 +231,15 @@ create table totxegun.late_hours ( -- What came for an hour that was closed. It 
 );
 create index on totxegun.late_hours (hour);
 
+create table totxegun.long_intervals ( -- A row for each interval of over an hour: all that it counted is in the hour in which it ends; kept for --keep-hours
+    series bigint not null, -- The number of its series
+    hour integer not null, -- The hour in which it is counted, in hours since 1970
+    start_ns numeric(20) not null, -- Its start, in nanoseconds since 1970
+    end_ns numeric(20) not null, -- Its end, in nanoseconds since 1970
+    value numeric -- What was counted; for a histogram its sum, null if the point had none
+);
+create index on totxegun.long_intervals (hour);
+
 create table totxegun.adjustments ( -- A row for each adjustment, by hand or of late data. It changes nothing that was counted
     id bigint generated always as identity primary key, -- Its number, in the order in which they were made
     series bigint not null, of_hour integer not null,

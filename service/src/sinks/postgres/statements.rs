@@ -134,6 +134,7 @@ statements! {
         on conflict (series, of_hour, hour) do update set ",
         added!()
     ),
+    long_intervals: "insert into totxegun.long_intervals select * from unnest($1::totxegun.long_intervals[])",
     metric_hours: "insert into totxegun.metric_hours as h select * from unnest($1::totxegun.metric_hours[])
         on conflict (metric, hour) do update set
             points = h.points + excluded.points, total = h.total + excluded.total, count = h.count + excluded.count",

@@ -3,7 +3,7 @@
 use super::fault::Fault;
 use super::fence::Fence;
 use super::periods;
-use super::point_rows::{hour_rows, interval_row, last_hour, late_rows, metric_rows, total_row};
+use super::point_rows::{hour_rows, interval_row, last_hour, late_rows, long_rows, metric_rows, total_row};
 use super::schema::KNOWN;
 use super::series::Known;
 use super::session::Session;
@@ -186,7 +186,9 @@ impl Writing<'_> {
         }
         let late = all.iter().flat_map(late_rows).collect();
         self.write_rows(&self.statements.late_hours, late).await?;
-        // Last of all, since other services wait for these rows.
+        let long = all.iter().flat_map(long_rows).collect();
+        self.write_rows(&self.statements.long_intervals, long).await?;
+        // Behind all else, since other services wait for these rows.
         self.write_rows(&self.statements.metric_hours, metric_rows(all)).await
     }
 

@@ -6,6 +6,7 @@ use super::export::{Each, Line, Times, What};
 use super::local;
 use super::settle::{closed_of, CLOSED, NO_HORIZON};
 use super::totals::{Histogram, Hour, SeriesTotal};
+use super::BegunBefore;
 use crate::otlp::series::{Digest, SeriesKey};
 use crate::sinks::periods::{deleted, hour_shown, seconds_of, Closed, Period};
 use crate::sinks::{postgres, sqlite, Address};
@@ -184,7 +185,16 @@ pub fn booked(sink: &Address) -> Result<HashSet<String>> {
     Ok(opened.all(query, |row| row.text(0).map(String::from))?.into_iter().collect())
 }
 
-/// Hands on each line, in one order, so that the same rows give the same bytes. Returns what is closed.
+/// The intervals that count in a period, and began before it; none while there is no file.
+pub fn begun_before(sink: &Address, period: &Period) -> Result<Vec<BegunBefore>> {
+    if matches!(sink, Address::Sqlite(path) if !path.exists()) {
+        return Ok(Vec::new());
+    }
+    let Some(mut opened) = Opened::of(sink, LONG)? else { return Ok(Vec::new()) };
+    opened.all(&BegunBefore::query(period), |row| BegunBefore::of(&row))
+}
+
+/// Each line, in one order, so that the same rows are the same bytes; and what is closed.
 pub fn read(sink: &Address, what: &What, each: Each<'_>) -> Result<Closed> {
     let Some(mut opened) = Opened::of(sink, LONG)? else { return Ok(Closed::default()) };
     if let What::Of(period) = what {

@@ -190,6 +190,16 @@ create table late_hours ( -- What came for an hour that was closed. It is also c
 ) without rowid;
 create index late_by_hour on late_hours (hour);
 
+create table long_intervals ( -- A row for each interval of over an hour: all that it counted is in the hour in which it ends; kept for --keep-hours
+    id integer primary key, -- Its number, in the order in which they were taken
+    series integer not null references series, -- The number of its series
+    hour integer not null, -- The hour in which it is counted, in hours since 1970
+    start_ns not null, -- Its start, in nanoseconds since 1970
+    end_ns not null, -- Its end, in nanoseconds since 1970
+    value -- What was counted; for a histogram its sum, null if the point had none
+);
+create index long_intervals_by_hour on long_intervals (hour);
+
 create table adjustments ( -- A row for each adjustment, by hand or of late data. It changes nothing that was counted
     id integer primary key, -- Its number, in the order in which they were made
     series integer not null references series, of_hour integer not null,

@@ -77,7 +77,7 @@ fn intervals(transaction: &Transaction, until: u64, step: usize) -> rusqlite::Re
     Ok(done > 0)
 }
 
-const BY_TIME: [&str; 5] = [
+const BY_TIME: [&str; 6] = [
     "delete from hours where (hour, metric, series) in
      (select hour, metric, series from hours where hour < ?1 limit ?2)",
     "delete from metric_hours where (hour, metric) in
@@ -88,6 +88,7 @@ const BY_TIME: [&str; 5] = [
      (select month, metric, series from months where month < ?1 limit ?2)",
     "delete from late_hours where (series, of_hour, hour) in
      (select series, of_hour, hour from late_hours where hour < ?1 limit ?2)",
+    "delete from long_intervals where id in (select id from long_intervals where hour < ?1 limit ?2)",
 ];
 
 /// Deletes hours, days and months that ended by `until`: first from the views, then their rows. The last hour stays:
@@ -108,7 +109,7 @@ fn hours(transaction: &Transaction, until: u64, step: usize) -> rusqlite::Result
     }
     let from = from.max(so_far);
     let (day, month) = (day_of(from), month_of(day_of(from)));
-    for (delete, before) in BY_TIME.into_iter().zip([from, from, day, month, from]) {
+    for (delete, before) in BY_TIME.into_iter().zip([from, from, day, month, from, from]) {
         let few = params![before, step as i64];
         if cached::run(transaction, delete, few)? > 0 {
             return Ok(true);

@@ -103,6 +103,7 @@ impl sql::Transaction for Writing<'_> {
             }
             total.write(&self.transaction, ids.series)?;
         }
+        self.long_intervals(all)?;
         Ok(Hours::of(all).write(&self.transaction, hours_from)?)
     }
 
@@ -145,6 +146,27 @@ impl Row {
 }
 
 impl Writing<'_> {
+    fn long_intervals(&self, all: &[Adding<'_, Row>]) -> rusqlite::Result<()> {
+        let insert =
+            "insert into long_intervals (series, hour, start_ns, end_ns, value) values (?1, ?2, ?3, ?4, ?5)";
+        for adding in all {
+            for (hour, point) in adding.long() {
+                let (series, start, end) =
+                    (adding.stored.row.ids.series, Unsigned(point.start), Unsigned(point.end));
+                match &point.value {
+                    Value::Sum(value) => {
+                        cached::run(&self.transaction, insert, params![series, hour, start, end, value])?
+                    }
+                    Value::Histogram { sum, .. } => {
+                        let row = params![series, hour, start, end, sum.map(Unsigned)];
+                        cached::run(&self.transaction, insert, row)?
+                    }
+                };
+            }
+        }
+        Ok(())
+    }
+
     pub(super) fn commit(self) -> rusqlite::Result<HashMap<Digest, SeriesIds>> {
         self.transaction.commit().map(|()| self.new)
     }

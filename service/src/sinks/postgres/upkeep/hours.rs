@@ -59,6 +59,7 @@ pub(super) async fn delete(client: &Client, kept: Option<Duration>) -> Result<()
         some_of("past_days", &is_before("day * 86400")), // these are in no view any more
         some_of("metric_hours", "hour < $1::int4"),
         some_of("late_hours", "hour < $1::int4"),
+        some_of("long_intervals", "hour < $1::int4"),
     ];
     for step in &steps {
         while client.execute(step, &[&from, &STEP]).await? == STEP as u64 {}
