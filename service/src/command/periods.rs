@@ -2,8 +2,9 @@
 
 use super::time_zone::{self, TimeZone};
 use super::{ask, ask::Address, client};
+use crate::log::seconds;
 use crate::operate::{FLUSHED, FORCE};
-use crate::sinks::periods::Period;
+use crate::sinks::periods::{hour_shown, Period};
 use anyhow::{bail, Result};
 use clap::Args;
 use hyper::Method;
@@ -12,6 +13,8 @@ use std::time::{Duration, Instant};
 /// How long requests that wait may take to reach the sink.
 const DELIVERED: Duration = Duration::from_secs(60);
 const LOOK: Duration = Duration::from_millis(200);
+/// As a rule all is there by then.
+const SOON: Duration = Duration::from_secs(1);
 
 #[derive(Args)]
 pub struct Close {
@@ -32,6 +35,7 @@ pub struct Close {
 impl Close {
     pub fn run(self) -> Result<Vec<u8>> {
         let period = self.zone.of(&self.period)?;
+        has_ended(&period)?;
         if self.flush {
             deliver(&self.at)?;
         }
@@ -48,14 +52,37 @@ pub fn open(period: &Period, zone: &TimeZone, at: &Address) -> Result<Vec<u8>> {
     ask::change(at, &time_zone::path("reopen", &zone.of(period)?, None))
 }
 
-/// Flushes, and waits until no request waits.
+/// Said before it is waited for a flush. The sink looks at its own clock again.
+fn has_ended(period: &Period) -> Result<()> {
+    let now = (seconds() / 3600).cast_signed();
+    if period.to > now {
+        bail!(
+            "{period} ends at {} UTC, and it is {}: what has not ended can't be closed",
+            hour_shown(period.to),
+            hour_shown(now)
+        );
+    }
+    Ok(())
+}
+
+/// Flushes, and waits until nothing of it waits. What it waits for is said before it has waited for long.
 fn deliver(at: &Address) -> Result<()> {
     client::ask(at, Method::POST, "/flush")?;
-    let begun = Instant::now();
+    let (begun, mut is_told) = (Instant::now(), false);
     loop {
         let status = client::status(at)?;
         let waiting = status.waiting();
         let unknown = status.unknown();
+        if waiting > 0 && !is_told && begun.elapsed() > SOON {
+            is_told = true;
+            crate::complain(format_args!(
+                "{} for {}; the close waits for that for up to {} s: {}",
+                ask::waiting_shown(waiting),
+                status.sink,
+                DELIVERED.as_secs(),
+                status.trouble().unwrap_or("they are being delivered")
+            ));
+        }
         if waiting == 0 && unknown.is_none() {
             return Ok(());
         }
