@@ -8,8 +8,21 @@ use crate::sinks::Address;
 use anyhow::Result;
 use clap::Args;
 
-const COLUMNS: [&str; 10] =
-    ["name", "attributes", "kind", "unit", "points", "total", "count", "first start", "last end", "resource"];
+/// `series` is the number that commands take in place of the name; `total adjusted` is the total with all adjustments.
+const COLUMNS: [&str; 12] = [
+    "series",
+    "name",
+    "attributes",
+    "kind",
+    "unit",
+    "points",
+    "total",
+    "total adjusted",
+    "count",
+    "first start",
+    "last end",
+    "resource",
+];
 
 #[derive(Args)]
 pub struct Options {
@@ -46,20 +59,69 @@ pub fn run(options: &Options) -> Result<Vec<u8>> {
 }
 
 fn shown(line: &Line) -> [String; COLUMNS.len()] {
-    let points = line.points.to_string();
+    let (number, points) = (line.series.to_string(), line.points.to_string());
     let (first_start, last_end) =
         line.times.as_ref().map_or(("", ""), |times| (&times.first_start, &times.last_end));
     let all = [
+        &*number,
         &*line.name,
         line.attributes.get(),
         line.kind.shown(),
         &line.unit,
         &points,
         &line.total,
+        &line.total_adjusted,
         line.count.as_deref().unwrap_or_default(),
         first_start,
         last_end,
         line.resource.get(),
     ];
     all.map(|text| if text.is_empty() { "-".into() } else { text.into() })
+}
+
+#[cfg(test)]
+mod tests {
+    use super::*;
+    use crate::sinks::sql::totals::Kind;
+    use serde_json::value::RawValue;
+
+    /// Else whoever looks here bills what was counted twice, and has no number for `totxegun adjust`.
+    #[test]
+    fn what_is_billed_stands_beside_what_was_counted() {
+        let raw = |text: &str| RawValue::from_string(text.into()).unwrap();
+        let line = Line {
+            series: 7,
+            name: "shop.revenue".into(),
+            kind: Kind::Monotonic,
+            unit: "ct".into(),
+            attributes: raw(r#"{"shop":"s2"}"#),
+            resource: raw("{}"),
+            scope_name: String::new(),
+            scope_version: String::new(),
+            scope_attributes: raw("{}"),
+            points: 3,
+            total: "700".into(),
+            corrections: "-250".into(),
+            billed: "450".into(),
+            count: None,
+            bounds: None,
+            buckets: None,
+            times: None,
+        };
+        let wanted = [
+            "7",
+            "shop.revenue",
+            r#"{"shop":"s2"}"#,
+            "monotonic",
+            "ct",
+            "3",
+            "700",
+            "450",
+            "-",
+            "-",
+            "-",
+            "{}",
+        ];
+        assert_eq!(shown(&line), wanted);
+    }
 }
