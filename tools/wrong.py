@@ -40,7 +40,7 @@ PROGRAM = f"{FOLDER}/service/target/debug/totxegun"
 CARGO = f"{FOLDER}/tools/cargo"
 # What is copied of service/, and what the build of its program and tests reads beside it.
 PARTS = ("Cargo.toml", "Cargo.lock", "build.rs", "rustfmt.toml", "clippy.toml", "src", "tests")
-BESIDE = ("VERSION", "docs/FORMATS.md")
+BESIDE = ("VERSION", "docs/FORMATS.md", "docs/OPERATING.md")
 # The library that a copy is linked with.
 BOOK = os.path.abspath(os.environ.get("TOTXEGUN_BOOK") or f"{ROOT}/book")
 # How often a test is run at most. The load has another seed each time, after its seconds.

@@ -36,14 +36,16 @@ impl Options {
     pub fn run(self) -> Result<Vec<u8>> {
         let mut path = format!("/late?limit={}", self.limit);
         let Options { series, sender, reason, since, until, .. } = &self;
+        let mut asked = Vec::new();
         for (name, value) in
             [("series", series), ("sender", sender), ("reason", reason), ("since", since), ("until", until)]
         {
             if let Some(value) = value {
+                asked.push(format!("--{name} {value}"));
                 path += &format!("&{name}={}", utf8_percent_encode(value, NON_ALPHANUMERIC));
             }
         }
-        let late = client::shown(&self.shown, &path, |late: Value| table(&late))?;
+        let late = client::shown(&self.shown, &path, |late: Value| table(&late, &asked))?;
         if let Ok(status) = client::status(&self.shown.at) {
             tell_of_others(&status);
         }
@@ -64,10 +66,17 @@ fn tell_of_others(status: &Status) {
     }
 }
 
-fn table(late: &Value) -> String {
+/// `asked` is what chooses points.
+fn table(late: &Value, asked: &[String]) -> String {
     let points = late["points"].as_array().map(Vec::as_slice).unwrap_or_default();
     if points.is_empty() {
-        return "no point that a series refused is kept\n".into();
+        return match asked {
+            [] => "no point that a series refused is kept\n".into(),
+            asked => {
+                let asked = asked.join(" ");
+                format!("no point that a series refused is kept for {asked}: without that all are listed\n")
+            }
+        };
     }
     let mut table = Table::new(&[
         "key",
@@ -130,5 +139,20 @@ fn what_the_series_has(point: &Value) -> String {
         (Some(end), _) => format!("all until {end}"),
         (None, Some(sender)) => format!("is {sender}'s"),
         (None, None) => "is another's".into(),
+    }
+}
+
+#[cfg(test)]
+mod tests {
+    use super::*;
+
+    /// Else whoever has a name wrong believes that nothing was refused.
+    #[test]
+    fn what_was_asked_for_is_named_if_nothing_is_of_it() {
+        let none = serde_json::json!({"more": 0, "points": []});
+        assert_eq!(table(&none, &[]), "no point that a series refused is kept\n");
+        let asked = ["--sender nobody".to_string(), "--reason other_writer".to_string()];
+        let wanted = "no point that a series refused is kept for --sender nobody --reason other_writer: without that all are listed\n";
+        assert_eq!(table(&none, &asked), wanted);
     }
 }

@@ -87,7 +87,7 @@ mod tests {
 
     /// Else whoever looks here bills what was counted twice, and has no number for `totxegun adjust`.
     #[test]
-    fn what_is_billed_stands_beside_what_was_counted() {
+    fn the_adjusted_total_is_shown_beside_what_was_counted() {
         let raw = |text: &str| RawValue::from_string(text.into()).unwrap();
         let line = Line {
             series: 7,
@@ -102,7 +102,7 @@ mod tests {
             points: 3,
             total: "700".into(),
             corrections: "-250".into(),
-            billed: "450".into(),
+            total_adjusted: "450".into(),
             count: None,
             bounds: None,
             buckets: None,

@@ -6,7 +6,7 @@
 //!
 //! - `request`: the way of a post; `posted` parses it, `numbers` has the numbers of series.
 //! - `apart`: posts with refused points; `duplicates`: which of these were taken before; `refused_points`: what is
-//!   answered and kept of the others.
+//!   answered and kept of the others; `long_ago`: warns of old points.
 //! - `cumulative`: the conversion of cumulative points; `never`: posts that are refused for good.
 //! - `verdict`: the answer, and when it may be given.
 //! - `phase`: whether posts are taken; `disk_stall`: whether the disk answers; `slots`: where posts of each shard go.
@@ -15,6 +15,7 @@ mod apart;
 mod cumulative;
 mod disk_stall;
 mod duplicates;
+mod long_ago;
 mod never;
 mod numbers;
 mod phase;
@@ -76,6 +77,8 @@ pub struct Slot {
     pub(crate) shares: Arc<Shares>,
     /// The senders whose duplicates were logged within the hour.
     duplicates: Arc<Mutex<OnceAnHour<String>>>,
+    /// The senders whose points that ended long ago were logged within the hour.
+    long_ago: Arc<Mutex<OnceAnHour<String>>>,
     late: Arc<LateData>,
     /// None if posts are read by the settings that all shards share.
     reading: Option<Arc<Reading>>,
@@ -94,6 +97,7 @@ pub struct Shared {
     readers: Arc<Readers>,
     numbers: Arc<numbers::Numbers>,
     duplicates: Arc<Mutex<OnceAnHour<String>>>,
+    long_ago: Arc<Mutex<OnceAnHour<String>>>,
 }
 
 impl Shared {
@@ -106,6 +110,7 @@ impl Shared {
             readers: Arc::new(Readers::new(READERS)),
             numbers: Arc::default(),
             duplicates: Arc::new(Mutex::new(OnceAnHour::new(REMEMBERED))),
+            long_ago: Arc::new(Mutex::new(OnceAnHour::new(REMEMBERED))),
         }
     }
 
@@ -162,6 +167,7 @@ impl Slot {
             noted_runs: cumulative::NotedRuns::new(),
             shares: shared.shares.clone(),
             duplicates: shared.duplicates.clone(),
+            long_ago: shared.long_ago.clone(),
             late: shared.late.clone(),
             keeping: Arc::default(),
         })

@@ -261,6 +261,7 @@ impl Slot {
         // neither.
         let journalled = Journalled::taken(posted, &self.journal);
         drop(book);
+        self.tell_long_ago(&posted.read);
         self.shares.came(&posted.read.post.sender, new_series, series_of(&posted.read));
         Ok(Put { journalled, is_in_book: true, points: posted.read.points(), duplicates: 0 })
     }

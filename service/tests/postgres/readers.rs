@@ -63,7 +63,42 @@ async fn without_a_right_to_make_roles_all_goes_on() {
     panic!("the role is not let in");
 }
 
-/// Otherwise each page of totals would be a line in the server's log, like a crash of a client.
+/// The SQL of docs/OPERATING.md, "PostgreSQL as the sink".
+fn statements_of_page() -> Vec<String> {
+    let page = std::fs::read_to_string(concat!(env!("CARGO_MANIFEST_DIR"), "/../docs/OPERATING.md")).unwrap();
+    let section =
+        page.split("\n### PostgreSQL as the sink\n").nth(1).unwrap().split("\n### ").next().unwrap();
+    let blocks = section.split("```sql\n").skip(1).map(|rest| rest.split("```").next().unwrap().to_string());
+    blocks.collect()
+}
+
+/// Else an operator who types what the page says gets an error, and a bill that nobody may read.
+#[tokio::test(flavor = "multi_thread")]
+async fn what_the_page_says_makes_a_role_that_reads() {
+    let Some(server) = Server::start() else { return };
+    let [make, grant] = &statements_of_page()[..] else { panic!("{:?}", statements_of_page()) };
+    let of_here = |sql: &str| {
+        let sql = sql.replace("USER", "service").replace("DB", "sums").replace("ROLE;", "clerk;");
+        sql.replace("'..'", "'p'")
+    };
+    for line in of_here(make).lines() {
+        server.ask(line);
+    }
+    server.ask("create role clerk login password 'q'");
+    let sink = open(&server.by_tcp("service:p", "sums"));
+    taken(&*sink, 1, sum("a", 1, 2, 5)).await;
+    server.ask(&of_here(grant));
+    let granted = "select has_schema_privilege('clerk', 'totxegun', 'usage')";
+    for _ in 0..500 {
+        if server.ask_of("sums", granted) == "t" {
+            break;
+        }
+        tokio::time::sleep(Duration::from_millis(20)).await;
+    }
+    assert_eq!(server.ask_of("sums", "set role clerk; select total from totxegun.totals"), "5");
+}
+
+/// Else each page of totals is a line in the server's log, as of a client that crashed.
 #[tokio::test(flavor = "multi_thread")]
 async fn who_reads_leaves_no_transaction_open() {
     let Some(server) = Server::start() else { return };

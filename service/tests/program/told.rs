@@ -206,3 +206,21 @@ fn a_disk_without_room_is_told() {
     service.drain();
     assert_eq!(service.end(), Some(0));
 }
+
+/// Without --max-age a clock that begins in 1970 counts, and nothing else would say so.
+#[test]
+fn a_point_that_ended_long_ago_is_taken_with_a_warning() {
+    let place = Place::new();
+    let service = place.serve();
+    for end in [100, 200] {
+        assert_eq!(service.post("A", &points(&["a"], end, 5)).unwrap().0, 200);
+    }
+    let line =
+        "a point of A is taken that ended at 1970-01-01 00:00:00, over a year before the service's clock";
+    until("the log says so", || place.log().contains(line));
+    assert_eq!(place.log().matches(line).count(), 1, "once an hour");
+    let now = std::time::SystemTime::now().duration_since(std::time::UNIX_EPOCH).unwrap().as_nanos() as u64;
+    assert_eq!(service.post("B", &points(&["b"], now, 5)).unwrap().0, 200);
+    assert!(!place.log().contains("a point of B is taken"), "{}", place.log());
+    assert_eq!(service.end(), Some(0));
+}
