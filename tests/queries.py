@@ -519,7 +519,8 @@ class Bill:
         for line in again:
             said = self.totxegun(line)[0]
             self.checks.true(f"{self.what}: counted elsewhere", "since its own hour is closed" in said, said)
-        rows = [[f"{self.months[0]}-05 13:00", "s2", 0, 125], [f"{self.months[0]}-28 23:00", "s3", 40, 0]]
+        zone = "Z" if self.what == "SQLite" else ""
+        rows = [[f"{self.months[0]}-05 13:00{zone}", "s2", 0, 125], [f"{self.months[0]}-28 23:00{zone}", "s3", 40, 0]]
         self.same("what is late", rows, self.of_today(late), wait=True)
         self.same("the closed month is as it was", wanted, bill)
         self.exports(close[-1])

@@ -382,7 +382,7 @@ def try_namesake(checks: Checks, program: str, folder: str, store: Store, sink: 
     later = Instance(program, f"{folder}/other", "a", store, sink.address)
     later.start()
     checks.true("the later one ends", wait_until(lambda: not later.is_running(), IN_THE_END), later.last_lines())
-    checks.true("by a status, and a line", later.process.returncode == 2 and "the name a was there before" in later.last_lines(),
+    checks.true("by a status, and a line", later.process.returncode == 2 and "already uses the name a" in later.last_lines(),
                 [later.process.returncode, later.last_lines()])
     checks.same("no slot was taken", terms, store.ask("select sum(term) from totxegun_store.slot"))
     checks.true("the other goes on", one.is_ready() and one.posted(request("r3", 1))[0] == 200, one.last_lines())

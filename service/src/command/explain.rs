@@ -254,7 +254,7 @@ mod tests {
             "answered 200: points outside the profile: 1 gauge: see docs/OPERATING.md, \"Senders\""
         );
         assert!(lines[2].starts_with("unless the running service refuses it"), "{text}");
-        assert!(lines[4].starts_with("taken    sum    a       route=/"), "{text}");
+        assert!(lines[4].starts_with("taken     sum    a       route=/"), "{text}");
         assert!(lines[5].contains("gauges are not added up"), "{text}");
     }
 

@@ -101,7 +101,7 @@ mod tests {
             scope_attributes: raw("{}"),
             points: 3,
             total: "700".into(),
-            corrections: "-250".into(),
+            adjustments: "-250".into(),
             total_adjusted: "450".into(),
             count: None,
             bounds: None,

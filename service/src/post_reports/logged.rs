@@ -95,7 +95,7 @@ impl Reporter {
             let told = not_taken(reason, points, first, off);
             self.activity.note_rejected(sender, reason, first.map(|point| &*point.metric));
             let (reason, metric) = (reason.label(), first.map(metric));
-            tracing::warn!(sender, reason, points, metric, told, "points are rejected");
+            tracing::warn!(sender, reason, points, metric, told, "points are not taken");
         }
     }
 
@@ -107,7 +107,7 @@ impl Reporter {
         for (points, why) in parts {
             if locked(&self.logged).refusals.is_due(&(sender.to_string(), why.reason)) {
                 let (answer, reason) = (shown(&why.message, ANSWER_SHOWN), why.reason.label());
-                tracing::warn!(sender, reason, points, answer, "series refuse points of a post");
+                tracing::warn!(sender, reason, points, answer, "points of a post are refused");
             }
         }
     }
@@ -142,7 +142,7 @@ impl Reporter {
             }
             let (told, reason) = (reason(&point), point.cause.map(Reason::label));
             if reasons.insert(told.clone()) {
-                tracing::warn!(sender, reason, told, "points are rejected");
+                tracing::warn!(sender, reason, told, "a point is not taken");
             }
             reasons.len() >= self.options.now().log_rejected
         });

@@ -219,7 +219,10 @@ async fn a_post_with_a_series_twice_over_one_time_is_told_so() {
     );
     // The refused point is the first one, or another post has come further.
     for outcome in [late(1, 2), late(2, 3)] {
-        let begin = format!("{}: `m` {{route=/}} begins before 1970-01-01T", outcome.message().unwrap());
+        let begin = format!(
+            "{}: `m` {{route=/}} begins before what its series has (until 1970-01-01T",
+            outcome.message().unwrap()
+        );
         let said = answered(&reported(outcome, None, ReportOptions::default()), &metric).await;
         assert!(said.starts_with(&begin), "{said}");
     }
@@ -265,14 +268,15 @@ struct Lines(Arc<Mutex<Vec<String>>>);
 
 impl tracing::field::Visit for Lines {
     fn record_debug(&mut self, field: &tracing::field::Field, value: &dyn std::fmt::Debug) {
-        if field.name() == "message" {
-            locked(&self.0).push(format!("{value:?}"));
+        if let Some(line) = locked(&self.0).last_mut() {
+            *line += &format!("{}={value:?} ", field.name());
         }
     }
 }
 
 impl<S: tracing::Subscriber> tracing_subscriber::Layer<S> for Lines {
     fn on_event(&self, event: &tracing::Event<'_>, _: tracing_subscriber::layer::Context<'_, S>) {
+        locked(&self.0).push(String::new());
         event.record(&mut self.clone());
     }
 }
@@ -306,11 +310,11 @@ fn who_is_refused_behind_a_thousand_others_is_told_of() {
     tell("shop-1");
     tell("shop-1");
     let told = locked(&lines.0)[flood..].to_vec();
-    let begins = ["a post of shop-1 is refused with 400", "points of shop-1 are not taken"];
-    assert!(
-        told.len() == 2 && begins.iter().zip(&told).all(|(begin, line)| line.starts_with(begin)),
-        "{told:?}"
-    );
+    let parts = [["message=a post is refused", "status=400"], ["message=points are not taken", "points=1"]];
+    assert_eq!(told.len(), parts.len(), "{told:?}");
+    for (parts, line) in parts.iter().zip(&told) {
+        assert!(parts.iter().all(|part| line.contains(part)) && line.contains("sender=\"shop-1\""), "{line}");
+    }
     assert!((2..=REMEMBERED).contains(&reporter.activity.count()));
 }
 
@@ -334,13 +338,16 @@ fn each_reason_for_which_points_are_not_taken_is_told_of_once_with_a_metric() {
     }
     let told = locked(&lines.0).clone();
     let begins = [
-        "points of a are not taken: 3 gauges, the first of gauge `g`: gauges are not added up",
-        "points of a are not taken: 1 double, the first of sum `EUR`: ",
-        "points of a are not taken: 2 cumulative points that went down: a counter may not go down",
+        "told=\"3 gauges, the first of gauge `g`: gauges are not added up",
+        "told=\"1 double, the first of sum `EUR`: ",
+        "told=\"2 cumulative points that went down: a counter may not go down",
     ];
     assert_eq!(told.len(), begins.len(), "{told:?}");
     for begin in begins {
-        assert!(told.iter().any(|line| line.starts_with(begin)), "{begin} in {told:?}");
+        assert!(
+            told.iter().any(|line| line.contains(begin) && line.contains("sender=\"a\"")),
+            "{begin} in {told:?}"
+        );
     }
     let of_a = &reported.reporter.activity.last(9)[0].1;
     let metric = |reason| of_a.rejected.get(&reason).map(String::as_str);

@@ -286,7 +286,7 @@ mod tests {
             ("//u:secret@h/d?sslmode=allow", "`sslmode=prefer` and `allow`"),
             ("//u:secret@h/d?sslrootcert=/a", "add `sslmode=require`"),
             ("//u:secret@h/d?sslmode=require&sslcert=/a", "`sslkey`"),
-            ("//u:secret@h/d?sslmode=require&sslrootcert=", "no name"),
+            ("//u:secret@h/d?sslmode=require&sslrootcert=", "not named in UTF-8"),
             ("//u@/d?host=/run/pg&sslmode=require", "no TLS"),
             ("//u:secret@h:x/d", "port"),
             ("//u:secret@127.0.0.1/d?sslmode=require", "name of a host"),

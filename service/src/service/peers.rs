@@ -95,7 +95,7 @@ mod tests {
         ] {
             let why = refusal(peer, at).unwrap_or_default();
             assert!(why.starts_with(&format!("--peer {peer} is {at} on this machine")), "{why}");
-            assert!(why.contains("in /etc/hosts") && why.contains("localhost"), "{why}");
+            assert!(why.contains("/etc/hosts must not") && why.contains("localhost"), "{why}");
         }
     }
 

@@ -198,7 +198,7 @@ async fn all_senders_together_have_no_more_series_than_the_service() {
     assert_eq!(service.post("C", &names("c", 5)).await, Ok(()));
     assert_eq!(service.post("C", &[names("c", 5), names("d", 1)].concat()).await, full(100));
     let told = Outcome::from(Over::All { all: 100, most: 100 });
-    let message = "too many series: there are 100, and at most 100";
+    let message = "too many series: there are 100, and --max-series is 100";
     assert_eq!(told, Outcome::refused(Reason::TooManySeries, message));
 }
 

@@ -123,10 +123,10 @@ mod tests {
             (&chain[..], &other[..], "does not belong to the first certificate"),
             (b"", &key, "--tls-cert has no certificate"),
             (&key, &key, "--tls-cert has no certificate"),
-            (&chain, &chain, "--tls-key has no key"),
+            (&chain, &chain, "--tls-key has no unencrypted key"),
             (&chain, &secret, "no unencrypted key"),
             (broken, &key, "is not X.509"),
-            (&chain[..chain.len() / 2], &key, "--tls-cert is no PEM"),
+            (&chain[..chain.len() / 2], &key, "--tls-cert is not PEM"),
         ] {
             assert!(refused(chain, key).contains(why), "{why}: {}", refused(chain, key));
         }

@@ -30,7 +30,8 @@ fn spans(random: &mut Random) -> Vec<Point> {
     all
 }
 
-const BY_HOUR: &str = "select name, hour, hour.points, hour.total, hour.count, hour.without_sum, hour.buckets
+const BY_HOUR: &str =
+    "select name, hour, hours.points, hours.total, hours.count, hours.without_sum, hours.buckets
     from totxegun.hours join totxegun.series on series.id = hours.series order by 1, 2";
 
 /// The query of a view, which has no `without_sum`, and no count for sums.

@@ -7,13 +7,14 @@ use std::sync::{Arc, Mutex};
 use tracing::field::{Field, Visit};
 use tracing_subscriber::layer::{Context, Layer, SubscriberExt};
 
-/// Keeps the texts of warnings.
+/// Keeps warnings, each with its fields.
 #[derive(Clone, Default)]
 struct Warnings(Arc<Mutex<Vec<String>>>);
 
 impl<S: tracing::Subscriber> Layer<S> for Warnings {
     fn on_event(&self, event: &tracing::Event<'_>, _: Context<'_, S>) {
         if *event.metadata().level() == tracing::Level::WARN {
+            self.0.lock().unwrap().push(String::new());
             event.record(&mut self.clone());
         }
     }
@@ -21,8 +22,8 @@ impl<S: tracing::Subscriber> Layer<S> for Warnings {
 
 impl Visit for Warnings {
     fn record_debug(&mut self, field: &Field, value: &dyn Debug) {
-        if field.name() == "message" {
-            self.0.lock().unwrap().push(format!("{value:?}"));
+        if let Some(text) = self.0.lock().unwrap().last_mut() {
+            *text += &format!(" {}={value:?}", field.name());
         }
     }
 }
@@ -43,12 +44,13 @@ async fn a_schema_that_is_renamed_or_dropped_is_told_of() {
         taken(&*sink, 2, sum("a", 200, 300, 5)).await;
     }
     let [renamed] = told().try_into().expect("one warning");
-    assert!(renamed.contains("is not there, and before has its tables: a fresh one is made"), "{renamed}");
+    let is_lost = |told: &str| told.contains("the schema totxegun is lost: a fresh one is made");
+    assert!(is_lost(&renamed) && renamed.contains("is not there, and before has its tables"), "{renamed}");
     server.ask("drop schema before cascade; drop schema totxegun cascade");
     let again = sink.deliver(&super::request(3, sum("a", 300, 400, 5))).await;
     if again != totxegun::sinks::Fate::Taken {
         taken(&*sink, 3, sum("a", 300, 400, 5)).await;
     }
     let [dropped] = told().try_into().expect("one warning");
-    assert!(dropped.contains("the schema totxegun is gone: a fresh one is made"), "{dropped}");
+    assert!(is_lost(&dropped) && dropped.contains("how=\"is gone\""), "{dropped}");
 }

@@ -293,14 +293,14 @@ async fn a_close_comes_between_two_deliveries() {
     let sink = open(&address);
     tokio::time::sleep(std::time::Duration::from_millis(700)).await;
     done(&*sink, Deed::Close(period(hour, 1))).await;
-    let closed = of_hour("hour");
+    let closed = of_hour("hours");
     tokio::time::sleep(std::time::Duration::from_millis(700)).await;
     stop.store(true, std::sync::atomic::Ordering::Relaxed);
     let mut all = 0;
     for service in services {
         all += service.await.unwrap();
     }
-    assert_eq!(of_hour("hour"), closed);
+    assert_eq!(of_hour("hours"), closed);
     let late = server.ask("select coalesce(sum(total), 0) from totxegun.late");
     assert_eq!(
         closed.parse::<u64>().unwrap() + late.parse::<u64>().unwrap(),

@@ -81,14 +81,14 @@ fn what_needs_a_restart_is_named_and_a_fault_changes_nothing() {
         ("thread = 2\n", "no setting `thread`"),
         (
             "sender-points = 7\ntokens = \"/none\"\n",
-            "can't be used, and stay as they were: --tokens can't be used",
+            "can't be used, and stay as they were reason=\"--tokens can't be used",
         ),
         ("sender-points = 7\n[sink]\ngzip = true\n", "are for a sink of OTLP"),
     ] {
         said(fault, wanted);
     }
     assert!(service.metrics().contains("totxegun_stale_files{option=\"--config\"} 1"));
-    said("threads = 2\nlog-level = \"error\"\n", "SIGHUP: log-level, sender-points changed");
+    said("threads = 2\nlog-level = \"error\"\n", "count from now on settings=\"log-level, sender-points\"");
     assert_eq!(many(99), 200);
     let stale = service.metrics();
     assert!(stale.contains("totxegun_stale_files{option=\"--config\"} 0"), "{stale}");

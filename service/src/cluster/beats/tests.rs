@@ -344,7 +344,7 @@ async fn of_two_processes_of_one_name_the_later_one_ends() {
     until(|| store.rows.lock().unwrap().0.contains_key("a")).await;
     let later = start_at(&store, "a", FAST);
     let ended = timeout(SOON, later.runs).await.unwrap().unwrap().unwrap_err();
-    assert!(ended.to_string().contains("the name a was there before"), "{ended}");
+    assert!(ended.to_string().contains("already uses the name a"), "{ended}");
     until(|| !a.cluster.status().has_namesake).await;
     until(|| (0..SLOTS).all(|slot| a.cluster.whose(slot) == Whose::Here { term: 1 })).await;
     assert!(!a.runs.is_finished());

@@ -218,7 +218,7 @@ async fn who_stalls_is_left_after_ten_seconds_and_said_and_holds_up_no_other() {
     }
     assert!((WITHIN..WITHIN * 2).contains(&began.elapsed()));
     let [unanswering] = &forward.unanswering()[..] else { panic!() };
-    assert_eq!((&unanswering.address, &*unanswering.why), (&stalls, "it has not answered in time"));
+    assert_eq!((&unanswering.address, &*unanswering.why), (&stalls, "no answer in time"));
     assert!((WITHIN..WITHIN * 2).contains(&unanswering.time));
 }
 
@@ -373,7 +373,7 @@ async fn a_question_of_operators_goes_to_who_has_the_secret_and_its_answer_comes
     let refused = ask("of others", "x").await.unwrap_err();
     assert!(refused.contains("secret"), "{refused}");
     let strange = ask("of all", "another version").await.unwrap_err();
-    assert!(strange.contains("another version"), "{strange}");
+    assert!(strange.contains("is not from an instance"), "{strange}");
     let (address, _) = strange_to_all().await;
     let forward = receiver(peer.whose(), secret("of all"));
     let late = forward.put_question(&address, Vec::new(), Duration::from_millis(200)).await;

@@ -113,7 +113,9 @@ fn a_fault_is_said_with_its_file() {
         said("flush-interval = \"ten\""),
         "`flush-interval`: write a whole number and ms, s, m, h or d: 10s"
     );
-    assert!(said("[sink]\naddress = \"nats://h\"").starts_with("`sink.address`: no sink is known"));
+    assert!(
+        said("[sink]\naddress = \"nats://h\"").starts_with("`sink.address`: `nats:` is not a kind of sink")
+    );
     assert!(said("durability = \"never\"").starts_with("`durability`: "));
     let none = parsed(&["totxegun", "serve", "--config", "/none"]).err().unwrap();
     assert!(none.starts_with("--config /none can't be read: "), "{none}");

@@ -370,7 +370,11 @@ async fn of_what_is_taken_in_part_the_rest_alone_is_kept_where_it_is_known() {
     let tried = run(&memory, vec![part]).await;
     let dead = memory.dead.lock().expect("dead");
     assert_eq!((dead[0].0.as_str(), dead[0].2.as_slice()), ("2-e-1-partial", &b"the rest"[..]));
-    assert!(dead[0].1.contains("2 points, kept here") && dead[0].1.contains("overlaps"), "{}", dead[0].1);
+    assert!(
+        dead[0].1.contains("2 points, which are kept here") && dead[0].1.contains("overlaps"),
+        "{}",
+        dead[0].1
+    );
     assert_eq!(*memory.acknowledged.lock().expect("acknowledged"), [1]);
     assert_eq!(tried.outcome("partial"), 1);
 }

@@ -43,7 +43,7 @@ async fn make_anew(client: &mut Client, server: &Server, was_there: bool) -> Res
         transaction.batch_execute(SCHEMA).await?;
         explain(&transaction).await?;
         days::make(&mut transaction).await?;
-        tracing::info!(%server, version = KNOWN, "the schema totxegun was created");
+        tracing::info!(%server, version = KNOWN, "the schema totxegun was made");
     }
     Ok(transaction.commit().await?)
 }
@@ -80,7 +80,7 @@ async fn tell_of_lost(client: &impl GenericClient, server: &Server, was_there: b
     tracing::warn!(
         %server,
         how,
-        "the schema totxegun was lost: a new one is created, which lacks everything that was delivered so far"
+        "the schema totxegun is lost: a fresh one is made, which lacks what was delivered so far"
     );
     Ok(())
 }

@@ -132,7 +132,7 @@ pub(super) fn agree(trial: &Trial) {
     }
     assert_eq!(names(trial, "totals_by_hour"), names(trial, "by_hour"));
     let without = |table: &str| trial.ask(&format!("select sum(without_sum) from {table}"));
-    for table in ["hour", "day", "month"] {
+    for table in ["hours", "days", "months"] {
         assert_eq!(without(table), without("series_totals"), "{table}");
     }
 }
