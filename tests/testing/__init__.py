@@ -1,8 +1,8 @@
-"""What the commands of this folder share, and those of bench/ and demo/ too."""
+"""Modules that the commands of tests/, bench/ and demo/ share."""
 import os
 import sys
 
 TESTS = os.path.dirname(os.path.dirname(os.path.realpath(__file__)))
 ROOT = os.path.dirname(TESTS)
-# Modules of other folders, behind this one's.
+# Modules of other folders are found too, but a module of this folder wins if two have one name.
 sys.path += [f"{ROOT}/tools", f"{ROOT}/demo"]

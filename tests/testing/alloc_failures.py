@@ -1,4 +1,4 @@
-"""Runs a program while growths of its memory are refused, by the preloaded library fail_alloc.c."""
+"""Runs a program while the preloaded library fail_alloc.c makes its allocations fail. A growth is a call that asks for more memory."""
 from __future__ import annotations
 
 import concurrent.futures
@@ -18,7 +18,7 @@ SECONDS = 60
 
 
 class Run(NamedTuple):
-    """How a run ended, what it wrote, and how many growths it had and were refused."""
+    """A run's exit status and output, how many growths it made, and how many of them failed."""
 
     status: int | str
     out: bytes
@@ -28,7 +28,7 @@ class Run(NamedTuple):
 
 
 class Refusing:
-    """The library, built into a folder, which also takes the counts of each thread's runs."""
+    """The library, compiled into a folder. It also keeps the counts that each thread's last run left there."""
 
     def __init__(self, folder: str) -> None:
         self.folder = folder
@@ -41,12 +41,12 @@ class Refusing:
         return os.path.join(self.folder, f"counts{threading.get_ident()}")
 
     def environment(self, growth: int, form: str) -> dict[str, str]:
-        """With the growth 0 none is refused, and all are counted."""
+        """The environment of a run in which this growth fails. Growth 0 lets every growth succeed and only counts them."""
         return dict(os.environ, LD_PRELOAD=self.library, REFUSE_GROWTH=str(growth),
                     REFUSE_FORM=form, REFUSE_COUNTS=self.counts_path())
 
     def counts(self) -> tuple[int, int] | tuple[None, None]:
-        """The counts that the last run of this thread left; a run that was cut off leaves none."""
+        """The counts that the last run of this thread left, or (None, None) if the run was killed."""
         path = self.counts_path()
         try:
             with open(path) as file:
@@ -57,8 +57,8 @@ class Refusing:
         return (int(found[1]), int(found[2])) if found else (None, None)
 
     def counted(self, words: Sequence[str], given: bytes) -> list[tuple[int, bytes]]:
-        """What a run without a refusal writes to standard output, piece by piece, each with how many growths
-        there were before it was written."""
+        """The standard output of a run in which no growth fails, as the pieces that were written, each with the number
+        of growths before it."""
         path = os.path.join(self.folder, f"writes{threading.get_ident()}")
         environment = dict(self.environment(0, "alone"), REFUSE_WRITES=path)
         done = subprocess.run(words, input=given, stdout=subprocess.PIPE, timeout=SECONDS, env=environment, check=True)
@@ -79,21 +79,21 @@ class Refusing:
 
 
 def plain(words: Sequence[str], given: bytes) -> Run:
-    """A run without the library."""
+    """Runs the program without the library."""
     done = subprocess.run(words, input=given, capture_output=True, timeout=SECONDS)
     return Run(done.returncode, done.stdout, done.stderr, None, 0)
 
 
 def program_named(words: Sequence[str], more: str = "") -> str:
-    """The program that a script is called with, where these words begin with one."""
+    """The path of the program on the command line; ends the script with its usage if there is none."""
     if not words or not os.access(words[0], os.X_OK) or (len(words) > 1 and not more):
         sys.exit(f"usage: {sys.argv[0]} PROGRAM{more}")
     return words[0]
 
 
 def in_turn(run_once: Callable[[int, str], Run]) -> None:
-    """Makes a run for each growth of the full run and each form, side by side, and then for later growths
-    until a run meets no refusal."""
+    """Makes one run for each growth of a complete run and each form, in parallel. Then goes on with later growths until
+    none fails in a run."""
     growths = run_once(0, "alone").growths or 0
     for form in FORMS:
         with concurrent.futures.ThreadPoolExecutor(os.cpu_count()) as pool:
@@ -105,7 +105,7 @@ def in_turn(run_once: Callable[[int, str], Run]) -> None:
 
 
 class Counts:
-    """How many runs there were, and how they ended."""
+    """Counts runs and how they ended."""
 
     def __init__(self, what: str) -> None:
         self.what = what
@@ -114,7 +114,7 @@ class Counts:
         self.ways: dict[str, int] = {}
 
     def add(self, run: Run, way: str | None, fault: object = None) -> None:
-        """Counts a run: by the way in which it ended, or, where that is none, as one of this fault."""
+        """Counts a run under the way in which it ended, or, if `way` is None, as a failure that is printed."""
         with self.lock:
             self.runs += 1
             if run.refused is None or run.refused:
@@ -126,7 +126,7 @@ class Counts:
                 self.ways[way] = self.ways.get(way, 0) + 1
 
     def end(self) -> int:
-        """The status of the script, and its last lines."""
+        """Prints the last lines of the script and returns its exit status."""
         ways = ", ".join(f"{count} {way}" for way, count in sorted(self.ways.items()))
         print(f"{self.what}: {ways}")
         passed = self.runs - self.failed

@@ -1,12 +1,12 @@
-"""Checks: a line for each, and a last one that counts those that passed and failed."""
+"""Checks: prints a line for each check, and a last line that counts passes and failures."""
 import threading
 
-# The status of a script that left something out for want of a program.
+# The exit status of a script that left a part out because a program is not installed.
 LEFT_OUT = 77
 
 
 class Checks:
-    """How many checks passed and failed. Threads share it."""
+    """Counts checks that passed and failed. Threads may share it."""
 
     def __init__(self) -> None:
         self.lock = threading.Lock()
@@ -29,14 +29,14 @@ class Checks:
         self.true(what, least <= seconds <= most, f"{seconds:.1f} seconds")
 
     def has(self, what: str, *missing: str) -> bool:
-        """Whether nothing is missing; else says in one line what is left out."""
+        """Returns whether nothing is missing; if something is, prints one line that says what is left out."""
         if missing:
             self.left_out = True
             print(f"left out: {what}, missing: {' '.join(missing)}", flush=True)
         return not missing
 
     def end(self) -> int:
-        """The status of the script, and its last line."""
+        """Prints the last line of the script and returns its exit status."""
         if self.passed or self.failed or not self.left_out:
             print(f"{self.passed} passed, {self.failed} failed", flush=True)
         if self.failed:

@@ -1,4 +1,4 @@
-"""A copy of the repository, as it lies here, in a folder of its own."""
+"""A copy of the working tree, with its uncommitted changes, in another folder."""
 import os
 import shutil
 import subprocess
@@ -7,7 +7,7 @@ from testing import ROOT
 
 
 class Clone:
-    """The repository with what is changed here, committed."""
+    """A new repository in `folder` with one commit: all tracked and untracked files of this one, as they are now."""
 
     def __init__(self, folder: str) -> None:
         self.folder = folder

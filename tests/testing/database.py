@@ -10,7 +10,7 @@ import tempfile
 import time
 from typing import Any
 
-# PostgreSQL does not run as root.
+# PostgreSQL refuses to run as root.
 NOBODY = 65534
 SECONDS = 60
 TOTALS = """
@@ -19,7 +19,7 @@ select coalesce(json_agg(json_build_object('name', name, 'attributes', attribute
 
 
 def initdb() -> str | None:
-    """The path of the latest PostgreSQL's initdb, which Debian keeps out of PATH; nothing where there is none."""
+    """The path of the latest PostgreSQL's initdb, which Debian does not put on PATH; None if PostgreSQL is not installed."""
     found = sorted(glob.glob("/usr/lib/postgresql/*/bin/initdb"), key=lambda path: int(re.search(r"\d+", path)[0]))
     return found[-1] if found else shutil.which("initdb")
 
@@ -32,7 +32,7 @@ def end(process: subprocess.Popen[bytes] | None, number: int = signal.SIGTERM) -
 
 
 class Database:
-    """A PostgreSQL server in a new folder, reached by a Unix socket alone."""
+    """A PostgreSQL server in a new folder. It listens on a Unix socket only."""
 
     def __init__(self) -> None:
         self.programs = os.path.dirname(initdb())
@@ -67,18 +67,18 @@ class Database:
             time.sleep(0.1)
 
     def crash(self) -> None:
-        """All of its processes, at once: it recovers from its log when it is started."""
+        """Stops all of its processes at once, without a checkpoint, so that the next start has to recover from the log."""
         end(self.process, signal.SIGQUIT)
 
     def ask(self, query: str) -> str | None:
-        """The only value of an answer, or None where it can't be asked now."""
+        """The single value of a query's answer, or None if the server does not answer."""
         try:
             return self.run("psql", "-h", self.folder, "-U", "postgres", "-XAtq", "-c", query).strip()
         except RuntimeError:
             return None
 
     def totals(self) -> list[Any]:
-        """The totals of each series, as the programs write their own."""
+        """The totals of each series, in the form in which the demo's programs write their own."""
         answer = self.ask(TOTALS)
         totals: list[Any] = json.loads(answer) if answer else []
         return totals

@@ -1,5 +1,4 @@
-"""The built gateway over loopback: a client that reads whole answers, and a back end that is given its
-answers."""
+"""Runs the built gateway over loopback, with a client that reads whole answers and a back end with scripted answers."""
 import itertools
 import json
 import os
@@ -14,13 +13,13 @@ NO_MEMORY = (b"HTTP/1.1 503 Service Unavailable\r\nContent-Type: application/jso
              b"Content-Length: 23\r\nConnection: close\r\n\r\n{\"message\":\"no memory\"}")
 
 
-# Below the ports that the system gives to clients, so that none of them takes a gateway's.
+# These ports are below the range from which the kernel gives ports to clients, so no client can take a gateway's port.
 PORTS = itertools.count(20_000 + os.getpid() % 1000 * 10)
 PORTS_LOCK = threading.Lock()
 
 
 def free_port() -> int:
-    """A port that nobody listens on, and that no other call of this process gives."""
+    """A port on which nobody listens and which no other call in this process has returned."""
     while True:
         with PORTS_LOCK:
             port = next(PORTS)
@@ -34,14 +33,14 @@ def free_port() -> int:
 
 
 def posted(body: bytes, sender: str = "A") -> bytes:
-    """A request that posts a body."""
+    """A request that posts this body."""
     head = (f"POST /v1/metrics HTTP/1.1\r\nContent-Type: application/json\r\nx-sender: {sender}\r\n"
             f"Content-Length: {len(body)}\r\n\r\n")
     return head.encode() + body
 
 
 def point(start: int, end: int, value: int, name: str = "a") -> bytes:
-    """A body with one point of the monotonic sum of this name."""
+    """A body with one point of the monotonic sum `name`."""
     one = {"asInt": str(value), "startTimeUnixNano": str(start), "timeUnixNano": str(end)}
     total = {"aggregationTemporality": 1, "isMonotonic": True, "dataPoints": [one]}
     scope = {"metrics": [{"name": name, "sum": total}]}
@@ -54,13 +53,13 @@ def ordered(line: str) -> bytes:
 
 
 def response(status: bytes, kind: bytes, body: bytes, allow: bytes = b"") -> bytes:
-    """The bytes of a response, by its status line."""
+    """A response with this status line, media type and body."""
     return (b"HTTP/1.1 " + status + b"\r\nContent-Type: " + kind + b"\r\nContent-Length: "
             + str(len(body)).encode() + b"\r\n" + allow + b"Connection: close\r\n\r\n" + body)
 
 
 class Gateway:
-    """A gateway that serves so many connections, with these options more."""
+    """A gateway process that ends after this many connections."""
 
     def __init__(self, program: str, backend: int, connections: int, environment: dict[str, str] | None = None,
                  options: Sequence[str] = ()) -> None:
@@ -71,20 +70,19 @@ class Gateway:
                                         env=environment)
 
     def connect(self) -> socket.socket | None:
-        """A connection, once the gateway listens, or None where it has ended."""
+        """A connection to the gateway, made as soon as it listens, or None if the process has ended."""
         until = time.monotonic() + SECONDS
         while time.monotonic() < until:
             try:
                 return socket.create_connection(("127.0.0.1", self.port), SECONDS)
-            except ConnectionError:  # Nobody listens, or whoever did has ended.
+            except ConnectionError:  # Nobody listens yet, or the process has ended.
                 if self.process.poll() is not None:
                     return None
                 time.sleep(0.002)
         return None
 
     def ask(self, *pieces: bytes) -> bytes | str:
-        """Sends a request, each piece of it in a packet of its own, and returns what is read meanwhile up to the end, or what went
-        wrong."""
+        """Sends each piece in a packet of its own, and returns the whole answer or a text with the error. It reads while it sends."""
         connection = self.connect()
         if connection is None:
             return "no connection"
@@ -100,7 +98,7 @@ class Gateway:
                 sender.join(SECONDS)
 
     def end(self) -> tuple[int | str, bytes, bytes]:
-        """The status, and what was printed."""
+        """The exit status and what the process printed."""
         try:
             out, err = self.process.communicate(timeout=SECONDS)
             return self.process.returncode, out, err
@@ -115,7 +113,7 @@ def send(connection: socket.socket, pieces: Sequence[bytes]) -> None:
         for piece in pieces:
             connection.sendall(piece)
     except OSError:
-        pass  # The gateway may be done with it; the answer is what counts.
+        pass  # The gateway may close before it has read everything; the checks look at its answer.
 
 
 def read_all(connection: socket.socket) -> bytes:
@@ -126,8 +124,7 @@ def read_all(connection: socket.socket) -> bytes:
 
 
 class BackEnd:
-    """A back end that answers each request by the next of these answers, and 200 after them. An answer None
-    is a connection that is closed without one."""
+    """A back end that sends these answers in order, and 200 after the last. None closes the connection without an answer."""
 
     def __init__(self, answers: Iterable[bytes | None] = ()) -> None:
         self.answers = list(answers)
@@ -155,7 +152,7 @@ class BackEnd:
             self.answer(connection)
 
     def answer(self, connection: socket.socket) -> None:
-        """Reads a whole request, keeps its body and answers it."""
+        """Reads a whole request, keeps it, and answers."""
         connection.settimeout(SECONDS)
         request = request_of(connection)
         if is_whole(request):
@@ -165,19 +162,19 @@ class BackEnd:
                 connection.sendall(answered(answer))
 
     def answer_to(self, body: bytes) -> bytes | None:
-        """Keeps the body, and gives the next answer."""
+        """Keeps the body and returns the next answer."""
         self.bodies.append(body)
         return self.answers.pop(0) if self.answers else b"200 OK\r\n"
 
     def close(self) -> None:
-        """Ends the thread before the listener is closed, whose number another could have by then."""
+        """Ends the thread before closing the listener. Otherwise the thread might accept on a file descriptor that was reused."""
         self.listener.shutdown(socket.SHUT_RDWR)
         self.thread.join(SECONDS)
         self.listener.close()
 
 
 def request_of(connection: socket.socket) -> bytes:
-    """The bytes of a request, whose head has its Content-Length, or of what came of it."""
+    """Reads a request until its Content-Length is reached, or until the connection closes."""
     text = b""
     while not is_whole(text):
         piece = connection.recv(65536)
@@ -188,7 +185,7 @@ def request_of(connection: socket.socket) -> bytes:
 
 
 def answered(lines: bytes) -> bytes:
-    """The bytes of an answer without a body, by its status and what lines there are behind it."""
+    """A response without a body, of a status and header lines."""
     return b"HTTP/1.1 " + lines + b"Content-Length: 0\r\n\r\n"
 
 
@@ -201,7 +198,7 @@ def is_whole(text: bytes) -> bool:
 
 
 def sent_points(body: bytes) -> list[tuple[int, int, int]]:
-    """Each point of a forwarded body: its value, start and end."""
+    """Each point of a forwarded body as (value, start, end)."""
     points = []
     for resource in json.loads(body)["resourceMetrics"]:
         for scope in resource["scopeMetrics"]:

@@ -1,5 +1,5 @@
-"""Machines of a test: network namespaces behind a router, which is the network of this process. What one sends to another may be
-lost, also one way only."""
+"""Machines of a test: network namespaces joined by a router, which is the network namespace of this process. A test can
+have the router drop packets, also in one direction only."""
 import contextlib
 import os
 import shutil
@@ -11,14 +11,14 @@ from collections.abc import Iterator
 
 import own_network
 
-# Machine N has address N.2 of these networks, the router N.1; what is this process' own has an address that no link has.
+# The network of machine N is 10.77.N.0/24: the machine has .2 and the router .1. This process has an address that is on no link.
 NETWORK = "10.77"
 OWN = f"{NETWORK}.0.1"
-# One that is led to a machine, now to this and now to that one.
+# A virtual address, which the router sends to one machine at a time.
 LED = f"{NETWORK}.250.1"
-# Of the router's rules: those that lose packets come before the one that finds its own addresses.
+# Priorities of routing rules. The rules that drop packets come before the rule that finds the router's own addresses.
 CUT, LOCAL = 10, 1000
-# From an address to another one.
+# A source address and a destination address.
 Way = tuple[str, str]
 
 
@@ -29,7 +29,7 @@ def ip(*words: object) -> None:
 
 
 def on(name: str, *words: str) -> list[str]:
-    """The words that run a command in a namespace."""
+    """The command line that runs a command in a namespace."""
     return ["ip", "netns", "exec", name, *words]
 
 
@@ -40,7 +40,7 @@ def may_have_machines() -> bool:
 
 
 class Machine:
-    """What runs there has its address, and every port of its own."""
+    """A network namespace with an address and all ports of its own."""
 
     def __init__(self, stack: contextlib.ExitStack, name: str, number: int) -> None:
         self.stack, self.name, self.namespace = stack, name, f"totxegun-{os.getpid()}-{name}"
@@ -69,7 +69,7 @@ class Machine:
             file.write(text)
 
     def be_led_to(self) -> None:
-        """From now on what is sent to LED comes here."""
+        """From now on the router sends packets for LED to this machine."""
         ip("-n", self.namespace, "addr", "replace", f"{LED}/32", "dev", "lo")
         ip("route", "replace", f"{LED}/32", "via", self.address)
 
@@ -78,14 +78,14 @@ class Machine:
         return [int(pid) for pid in found.stdout.split()]
 
     def kill(self) -> None:
-        """All of its processes, as `kill -9`."""
+        """Kills all processes in the namespace with SIGKILL."""
         for pid in self.processes():
             with contextlib.suppress(ProcessLookupError):
                 os.kill(pid, signal.SIGKILL)
 
 
 class Router:
-    """It forwards what machines send each other, and what they send to this process, unless that is cut."""
+    """Forwards packets among machines and to this process, unless a test cuts the way."""
 
     def __init__(self, stack: contextlib.ExitStack) -> None:
         own_network.enter()
@@ -105,8 +105,7 @@ class Router:
 
     @contextlib.contextmanager
     def cut(self, *ways: Way) -> Iterator[None]:
-        """What goes one of these ways, from an address to another, is lost without a word. A way that is cut twice at a time is cut
-        until both have ended."""
+        """Drops all packets of these ways while the context lasts. If two contexts cut the same way, it stays cut until both have ended."""
         with contextlib.ExitStack() as ends:
             for way in ways:
                 self.lose(way, 1)
@@ -114,7 +113,7 @@ class Router:
             yield
 
     def lose(self, way: Way, more: int) -> None:
-        """There is one rule of a way: the kernel refuses a second one."""
+        """Counts cuts by way, since the kernel refuses a second rule with the same selector."""
         with self.lock:
             before, after = self.lost[way], self.lost[way] + more
             if bool(before) != bool(after):

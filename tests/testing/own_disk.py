@@ -1,4 +1,4 @@
-"""A file system of its own, which can be frozen: whoever writes to it waits until it goes on. Needs root."""
+"""A file system that a test can freeze: writes to it then block until it is thawed. Needs root."""
 from __future__ import annotations
 
 import contextlib
@@ -11,7 +11,7 @@ MEGABYTES = 2000
 
 
 class OwnDisk:
-    """An ext4 in a file of this folder, mounted beside it."""
+    """An ext4 file system in a file of this folder, mounted next to that file."""
 
     def __init__(self, folder: str, megabytes: int = MEGABYTES) -> None:
         self.file = f"{folder}/disk"
@@ -31,7 +31,7 @@ class OwnDisk:
 
     @contextlib.contextmanager
     def frozen(self) -> Iterator[None]:
-        """It goes on at the end, whatever happened."""
+        """Freezes the file system while the context lasts, and thaws it even if the test fails."""
         run("fsfreeze", "--freeze", self.folder)
         try:
             yield

@@ -1,4 +1,4 @@
-"""Servers of PostgreSQL, on this machine or on others, of which one is the standby of another."""
+"""Pairs of PostgreSQL servers, a primary and its synchronous standby, on this machine or on two machines of a test."""
 from __future__ import annotations
 
 import contextlib
@@ -19,19 +19,19 @@ SETTINGS = ("shared_buffers = 32MB", "wal_keep_size = 128MB", "max_wal_size = 51
             "wal_sender_timeout = 5s", "wal_receiver_timeout = 5s", "wal_retrieve_retry_interval = 500ms", "hot_standby = on",
             "max_connections = 120")
 HOSTS = ("host all all all trust", "host replication all all trust")
-# By its name: with `*` a pg_basebackup counts as a standby, which nobody can promote.
+# The standby has a name here. With `*` a running pg_basebackup would count as a standby, but nobody can promote it.
 NAMED = "synchronous_standby_names = 'standby'"
-# What a program of PostgreSQL may take.
+# The timeout of PostgreSQL's commands, in seconds.
 LIMIT = 120
 
 
 def as_nobody() -> list[str]:
-    """PostgreSQL does not run as root."""
+    """The words that drop root, since PostgreSQL refuses to run as root."""
     return ["setpriv", f"--reuid={NOBODY}", f"--regid={NOBODY}", "--clear-groups"] if os.geteuid() == 0 else []
 
 
 class Server:
-    """A PostgreSQL in a folder of its own."""
+    """A PostgreSQL server in a folder of its own."""
 
     def __init__(self, machine: Machine | None = None) -> None:
         self.programs = os.path.dirname(initdb())
@@ -61,7 +61,7 @@ class Server:
             file.write("\n".join(lines) + "\n")
 
     def be_standby_of(self, primary: Server) -> None:
-        """The primary waits for it from now on."""
+        """Makes this server a synchronous standby: from then on the primary waits for it at each commit."""
         place = f"host={primary.host} port={primary.port} user=postgres application_name=standby"
         if not wait_until(lambda: self.is_copy_of(place), LIMIT):
             raise RuntimeError("the standby can't be made")
@@ -74,7 +74,7 @@ class Server:
             raise RuntimeError("the standby has not come")
 
     def is_copy_of(self, place: str) -> bool:
-        """Where the machine has much to do the primary may end the connection: then it is not."""
+        """Whether the base backup succeeded. On a busy machine the primary may close the connection, and then it did not."""
         subprocess.run(["rm", "-rf", f"{self.folder}/data"], check=True)
         with contextlib.suppress(RuntimeError):
             self.run("pg_basebackup", "-d", place, "-R", "-X", "stream", "-c", "fast", "-D", f"{self.folder}/data")
@@ -85,7 +85,7 @@ class Server:
         return self.ask("select count(*) from pg_stat_replication where sync_state in ('sync', 'quorum')") == "1"
 
     def begin(self) -> None:
-        # Files of a server that was killed: another process may have its number by now.
+        # A killed server leaves these files. The process ID in them may belong to another process by now, and PostgreSQL would not start.
         for left in ("data/postmaster.pid", f".s.PGSQL.{self.port}.lock"):
             with contextlib.suppress(FileNotFoundError):
                 os.unlink(f"{self.folder}/{left}")
@@ -102,25 +102,26 @@ class Server:
                 raise RuntimeError(f"PostgreSQL does not start: {file.read()[-1000:]}")
 
     def has_started(self) -> bool:
-        """It begins again where it has ended: a process that one before it had begun just before a kill may still have its memory."""
+        """Starts the server again if it has ended: a child of the killed server may still hold its shared memory, which
+        makes a start fail."""
         if self.process.poll() is not None:
             self.begin()
         return self.ask("select 1") == "1"
 
     def ask(self, query: str) -> str | None:
-        """The only value of an answer, or None where it can't be asked now."""
+        """The single value of a query's answer, or None if the server does not answer."""
         with contextlib.suppress(RuntimeError, subprocess.TimeoutExpired):
             return self.run("psql", "-h", self.host, "-p", str(self.port), "-U", "postgres", "-XAtq", "-c", query)
         return None
 
     def kinds(self, kind: str) -> list[int]:
-        """Its processes of a kind."""
+        """The process IDs of its children whose command line has `kind` in it."""
         pids = subprocess.run(["ps", "-o", "pid=,args=", "--ppid", str(self.process.pid)], capture_output=True, text=True,
                               check=False).stdout
         return [int(line.split()[0]) for line in pids.splitlines() if kind in line]
 
     def kill(self) -> None:
-        """All at once."""
+        """Kills the server and its children with SIGKILL."""
         if self.process is not None:
             for pid in [self.process.pid, *self.kinds("")]:
                 send(pid, signal.SIGKILL)
@@ -139,7 +140,7 @@ def send(pid: int, number: int) -> None:
 
 
 class Pair:
-    """Two servers, of which one writes."""
+    """Two servers, one of which accepts writes at a time."""
 
     def __init__(self, *machines: Machine, settings: Sequence[str] = ()) -> None:
         self.all = [Server(machine) for machine in machines or (None, None)]
@@ -151,7 +152,7 @@ class Pair:
         self.address = f"postgres://postgres@{places}/postgres"
 
     def lead(self) -> None:
-        """Who asks at one address finds the one that writes."""
+        """Points the virtual address at the primary."""
         if self.primary.machine:
             self.primary.machine.be_led_to()
 
@@ -166,7 +167,7 @@ class Pair:
         self.primary.start()
 
     def promote(self) -> None:
-        """The standby writes from now on."""
+        """Makes the standby the primary."""
         self.standby.run("pg_ctl", "promote", "-w", "-t", str(LIMIT), "-D", f"{self.standby.folder}/data")
         self.primary, self.standby = self.standby, self.primary
         self.lead()

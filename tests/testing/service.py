@@ -1,5 +1,4 @@
-"""What the tests of the service share: the program, senders that repeat until they are answered and note what they were
-told, and what a sink has at the end."""
+"""Parts that tests of the service share: its process, senders that retry and add up what was accepted, and sinks that a test can read."""
 import contextlib
 import gzip
 import http.client
@@ -24,20 +23,20 @@ DELTA = 1
 SECONDS = 60
 BOUNDS = [1, 5, 25]
 JSON, PROTOBUF = "application/json", "application/x-protobuf"
-# What is answered where all points are taken, now or before: in JSON, and in protobuf.
+# The bodies of an answer that rejects no point, neither a new one nor a duplicate: in JSON, and in protobuf.
 WHOLE = (b"{}", b"")
-# Answers after which a post is repeated.
+# Statuses after which a sender retries.
 AGAIN = (403, 429, 502, 503, 504)
-# Of a monotonic sum a whole number, of a histogram (buckets, sum); a point's name, start, end and value.
+# A value is a whole number for a monotonic sum and (buckets, sum) for a histogram. A point is a name, a start, an end and a value.
 Value = int | tuple[tuple[int, ...], float]
 Point = tuple[str, int, int, Value]
-# A body with its headers, and a status with the body, or with why there is none.
+# A post is a body with its headers. An answer is a status with its body, or None with the reason why there is no answer.
 Post = tuple[bytes, dict[str, str]]
 Answer = tuple[int | None, bytes]
 
 
 class AtSocket(http.client.HTTPConnection):
-    """A connection to a socket of this machine."""
+    """An HTTP connection over a Unix socket."""
 
     def __init__(self, path: str, seconds: float = 20) -> None:
         super().__init__("localhost", timeout=seconds)
@@ -51,7 +50,7 @@ class AtSocket(http.client.HTTPConnection):
 
 def ask(port: int | str, method: str, path: str, body: bytes | str = b"", headers: Mapping[str, str] | None = None,
         seconds: float = 20, host: str = "127.0.0.1") -> Answer:
-    """The status and the body of an answer, or (None, why). In the place of a port there may be a socket's path."""
+    """The status and body of an answer, or (None, reason). `port` may be the path of a Unix socket."""
     connection = AtSocket(port, seconds) if isinstance(port, str) else http.client.HTTPConnection(host, port, timeout=seconds)
     try:
         connection.request(method, path, body, headers or {})
@@ -64,7 +63,7 @@ def ask(port: int | str, method: str, path: str, body: bytes | str = b"", header
 
 
 def wait_until(what: Callable[[], object], seconds: float = SECONDS) -> bool:
-    """Whether it came true within so many seconds. It is asked more rarely the longer it takes: to ask may cost a process."""
+    """Returns whether `what` came true in time. The pause between two tries grows, since a try may start a process."""
     until, pause = time.monotonic() + seconds, 0.01
     while not what():
         if time.monotonic() > until:
@@ -75,7 +74,7 @@ def wait_until(what: Callable[[], object], seconds: float = SECONDS) -> bool:
 
 
 def is_stopped(pid: int) -> bool:
-    """Whether all threads of a process are stopped, or it is gone."""
+    """Whether all threads of a process are stopped. A process that is gone counts as stopped."""
     with contextlib.suppress(OSError):
         for thread in os.listdir(f"/proc/{pid}/task"):
             with open(f"/proc/{pid}/task/{thread}/stat", encoding="utf-8") as file:
@@ -89,8 +88,8 @@ def is_stopped(pid: int) -> bool:
 
 
 class Service:
-    """The service on a folder, which may be killed and started again; `before` are words that run it elsewhere, where `host`
-    is its address."""
+    """A process of the service on a data folder, which a test can kill and start again. The words `before` run it on
+    another machine, whose address is `host`."""
 
     def __init__(self, program: str, data: str, sink: str, *options: str, host: str = "127.0.0.1",
                  ports: tuple[int, int] | None = None, before: Sequence[str] = ()) -> None:
@@ -100,7 +99,8 @@ class Service:
         places += [] if host.startswith("127.") else ["--behind-proxy"]
         places += [] if "--listen-grpc" in options else ["--listen-grpc", "off"]
         self.words = [*before, program, "serve", "--data", data, "--sink", sink, *places, *options]
-        # Points of these tests end in 1970. An earlier version knows no such setting.
+        # Points of these tests end in 1970, so a finite age would delete their intervals. Old versions do not know the
+        # setting, hence only if a database needs it.
         self.settings = {} if sink.startswith("http") else {"TOTXEGUN_KEEP_INTERVALS": "forever"}
         self.log = f"{data}.log"
         elsewhere = [word.removeprefix("unix:") for word in options if word.startswith("unix:")]
@@ -125,24 +125,24 @@ class Service:
         return self.asked("GET", "/readyz", 2)[0] == 200
 
     def wait_ready(self, seconds: float = SECONDS) -> bool:
-        """Whether it took posts within so many seconds; not where it ended."""
+        """Whether the service accepted posts in time; False at once if the process ends."""
         return wait_until(lambda: not self.is_running() or self.is_ready(), seconds) and self.is_running()
 
     def signal(self, number: int) -> None:
-        """SIGSTOP is waited for: until one of its threads has it, the others go on."""
+        """Sends a signal. After SIGSTOP it waits until all threads have stopped, since the others run on until one of them receives it."""
         if self.is_running():
             self.process.send_signal(number)
             if number == signal.SIGSTOP:
                 wait_until(lambda: is_stopped(self.process.pid), 5)
 
     def kill(self) -> None:
-        """As `kill -9`."""
+        """Kills the process with SIGKILL."""
         if self.process is not None:
             self.signal(signal.SIGKILL)
             self.process.wait()
 
     def end(self, seconds: float = SECONDS) -> tuple[int | None, float]:
-        """By SIGTERM: the status and how many seconds it took, or None where it did not end in time."""
+        """Ends the process by SIGTERM; returns its status and the seconds it took. The status is None if it had to be killed."""
         begun = time.monotonic()
         self.signal(signal.SIGTERM)
         try:
@@ -152,7 +152,7 @@ class Service:
             return None, time.monotonic() - begun
 
     def order(self, path: str, seconds: float = SECONDS) -> int | None:
-        """An operator's order; its status."""
+        """Sends an operator's order and returns the status."""
         return self.asked("POST", path, seconds)[0]
 
     def status(self) -> Any:
@@ -160,23 +160,24 @@ class Service:
         return json.loads(body) if status == 200 else None
 
     def is_drained(self) -> bool:
-        """Whether the sink has all that was flushed."""
+        """Whether the service is ready and the outbox of each slot is empty."""
         status = self.status()
         return status is not None and status["ready"] and all(slot["waiting"] == 0 for slot in status["slots"])
 
     def has_delivered_all(self, seconds: float = SECONDS) -> bool:
-        """Whether the sink has all that was taken: who was just started takes no order yet, and has nothing flushed that could wait."""
+        """Flushes and waits until the sink has everything. A process that has just started refuses the order, and with
+        nothing flushed `is_drained` alone would hold at once."""
         return wait_until(lambda: self.order("/flush") == 200, seconds) and wait_until(self.is_drained, seconds)
 
     def faults(self) -> list[str]:
-        """What must never be, as the service counts it: the lines of its metrics that are not 0."""
+        """The lines of `totxegun_faults_total` that are not 0, which must never happen."""
         status, page = self.asked("GET", "/metrics")
         lines = page.decode().splitlines() if status == 200 else ["no metrics"]
         return [line for line in lines if line.startswith("totxegun_faults_total") and not line.endswith(" 0")] or (
             lines if status != 200 else [])
 
     def last_lines(self, count: int = 12) -> str:
-        """The end of what it wrote, for a check that failed."""
+        """The end of the log, to be shown for a failed check."""
         with open(self.log, encoding="utf-8", errors="replace") as file:
             return "".join(file.readlines()[-count:])
 
@@ -186,7 +187,7 @@ class Service:
 
 
 def added(total: Value | None, value: Value) -> Value:
-    """A total, None at the beginning, with a value more."""
+    """A total (None at the beginning) with a value added."""
     if total is None:
         return value
     if isinstance(total, int) and isinstance(value, int):
@@ -216,7 +217,7 @@ def metrics_in_json(points: Sequence[Point]) -> list[Any]:
 
 
 def in_json(points: Sequence[Point]) -> bytes:
-    """A request with these points."""
+    """A JSON request with these points."""
     return json.dumps({"resourceMetrics": [{"scopeMetrics": [{"metrics": metrics_in_json(points)}]}]}).encode()
 
 
@@ -260,7 +261,7 @@ def in_protobuf(points: Sequence[Point]) -> bytes:
 
 
 def by_resource(kind: str, groups: Mapping[str, Sequence[Point]]) -> bytes:
-    """A request in JSON or protobuf of several resources: the points of each by its `service.instance.id`."""
+    """A request with several resources, each named by its `service.instance.id`, in JSON or protobuf."""
     if kind == JSON:
         key = "service.instance.id"
         resources = [{"resource": {"attributes": [{"key": key, "value": {"stringValue": name}}]},
@@ -274,7 +275,7 @@ def by_resource(kind: str, groups: Mapping[str, Sequence[Point]]) -> bytes:
 
 
 def forwarded_points(body: bytes) -> Iterator[Point]:
-    """The points of a request that was forwarded, in JSON."""
+    """The points of a JSON request that the service sent to the sink."""
     for resource in json.loads(body)["resourceMetrics"]:
         for scope in resource["scopeMetrics"]:
             for metric in scope["metrics"]:
@@ -290,7 +291,7 @@ def forwarded_value(one: Any) -> Value:
 
 
 def overlaps(points: Iterable[Point]) -> list[str]:
-    """The names of the series of which two spans overlap: something was taken twice."""
+    """The names of series with two intervals that overlap, which means that something was counted twice."""
     last: dict[str, int] = {}
     found: set[str] = set()
     for name, start, end, _ in sorted(points):
@@ -301,7 +302,7 @@ def overlaps(points: Iterable[Point]) -> list[str]:
 
 
 def differences(wanted: Mapping[str, object], found: Mapping[str, object]) -> list[str]:
-    """A few of the series that differ, or an empty list."""
+    """Descriptions of the first series that differ; empty if none does."""
     names = [name for name in sorted(wanted.keys() | found.keys()) if wanted.get(name) != found.get(name)]
     return [f"{name}: senders were told {wanted.get(name)}, the sink has {found.get(name)}" for name in names[:5]]
 
@@ -311,14 +312,14 @@ def differences(wanted: Mapping[str, object], found: Mapping[str, object]) -> li
 
 
 class Listening(Protocol):
-    """What a sender has to know of a service."""
+    """What a sender needs from a service."""
 
     listen: int
 
 
 class Sender:
-    """Posts points of its own series, each post until it is answered, on a connection that is kept. `told` is what it was
-    told is taken, added up by series."""
+    """Posts points of its own series over a connection that it keeps, and retries each post until it is answered.
+    `told` has the accepted points, added up by series."""
 
     def __init__(self, service: Listening, number: int | str, seed: object = 0, seconds: float = 3) -> None:
         self.service, self.host = service, "127.0.0.1"
@@ -330,11 +331,12 @@ class Sender:
         self.told: dict[str, Value] = {}
         self.surprises: list[Answer] = []
         self.posts = self.repeats = 0
-        # The last post that was answered, for a late repeat.
+        # The last post that was accepted; `late_repeat` sends it again.
         self.last: Post = None
 
     def next_points(self) -> list[Point]:
-        """One to four points: a sum and a histogram at least, spans that begin where the ones before end or later."""
+        """Two or four points, one sum and one histogram for each of one or two numbers. Each interval begins at the end
+        of the one before or later."""
         points: list[Point] = []
         for which in range(self.chance.randrange(1, 3)):
             start = self.time + self.chance.choice([0, 0, 5])
@@ -346,7 +348,7 @@ class Sender:
         return points
 
     def encoded(self, points: Sequence[Point]) -> Post:
-        """A body and its headers: JSON or protobuf, packed or not."""
+        """A body with its headers: JSON or protobuf, compressed or not."""
         kind, write = self.chance.choice([(JSON, in_json), (PROTOBUF, in_protobuf)])
         body, headers = write(points), {"Content-Type": kind, "x-sender": self.name}
         if self.chance.random() < 0.3:
@@ -354,7 +356,7 @@ class Sender:
         return body, headers
 
     def try_once(self, body: bytes, headers: dict[str, str]) -> Answer:
-        """The answer to one attempt, on the kept connection, or (None, why)."""
+        """The answer to one attempt on the kept connection, or (None, reason)."""
         try:
             if self.connection is None:
                 self.connection = http.client.HTTPConnection(self.host, self.service.listen, timeout=self.seconds)
@@ -367,7 +369,7 @@ class Sender:
             return None, type(error).__name__.encode()
 
     def post(self, points: Sequence[Point], between: Callable[[], object] = lambda: None) -> bool:
-        """Repeats a post until it is answered; whether it was taken. `between` is called before each repeat."""
+        """Retries a post until it is answered, and returns whether it was accepted. Calls `between` before each retry."""
         body, headers = self.encoded(points)
         for attempt in range(1_000_000):
             status, text = self.try_once(body, headers)
@@ -390,7 +392,7 @@ class Sender:
         self.last = last
 
     def late_repeat(self) -> Answer:
-        """The answer to a repeat of the last post that was taken. Where none comes in time, TimeoutError."""
+        """The answer to a duplicate of the last accepted post. Raises TimeoutError if none comes in time."""
         until = time.monotonic() + SECONDS
         while self.last:
             answer = self.try_once(*self.last)
@@ -407,13 +409,13 @@ class Sender:
 
 
 def is_whole(answer: Answer) -> bool:
-    """Whether all points are taken, now or before."""
+    """Whether the answer rejects no point."""
     return answer[0] == 200 and answer[1] in WHOLE
 
 
 class Bursts:
-    """When senders post: just before each thing that befalls the service, so that it comes while posts are on their way, and
-    until that is done. Else they wait."""
+    """Decides when senders post: from shortly before each fault until it is over, so that faults meet posts in flight.
+    In between they wait."""
 
     SECONDS = 0.3
 
@@ -422,7 +424,7 @@ class Bursts:
         self.are_on.set()
 
     def before(self, pause: float) -> None:
-        """Waits for so many seconds, of which senders post for the last ones."""
+        """Waits this long. Senders post for the last part of it only."""
         self.are_on.clear()
         time.sleep(max(pause - self.SECONDS, 0))
         self.are_on.set()
@@ -430,7 +432,7 @@ class Bursts:
 
 
 def told_to_all(senders: Iterable[Sender]) -> dict[str, Value]:
-    """What all senders were told is taken."""
+    """What all senders know to be accepted, by series."""
     return {name: total for sender in senders for name, total in sender.told.items()}
 
 
@@ -439,7 +441,7 @@ def told_to_all(senders: Iterable[Sender]) -> dict[str, Value]:
 
 
 class Told(Protocol):
-    """What can be asked of a sink."""
+    """What a test can ask a sink."""
 
     def points(self) -> list[Point]: ...
 
@@ -447,7 +449,7 @@ class Told(Protocol):
 
 
 class Sink(Told, Protocol):
-    """What the two below have, and sinks of other scripts."""
+    """What the two sinks below and the sinks of other scripts have."""
 
     address: str
 
@@ -457,7 +459,7 @@ class Sink(Told, Protocol):
 
 
 class SqliteSink:
-    """The file that the service writes."""
+    """The SQLite database that the service writes."""
 
     def __init__(self, path: str) -> None:
         self.path = path
@@ -474,7 +476,7 @@ class SqliteSink:
                 for name, start, end, value, total, buckets in rows]
 
     def mood(self, moods: Sequence[str]) -> None:
-        """It has none."""
+        """Does nothing: a file always accepts."""
 
     def wrong(self) -> list[str]:
         return []
@@ -484,8 +486,9 @@ class SqliteSink:
 
 
 class OtlpSink:
-    """A sink of OTLP over HTTP that takes each key once. How it answers goes by its moods, one drawn for each request:
-    `well`, `late`, `busy` (503), `refuse` (400), `deny` (401), `silent` (no answer), `lose` (takes, and its answer is lost)."""
+    """An OTLP/HTTP sink that counts each key once. It draws one of its moods for each request: `well`, `late` (answers
+    after 0.3 s), `busy` (503), `refuse` (400), `deny` (401), `silent` (drops the request and the connection), `lose`
+    (accepts, and drops the connection)."""
 
     def __init__(self, seed: object = 0, host: str = "127.0.0.1") -> None:
         self.chance = random.Random(f"sink {seed}")
@@ -501,7 +504,7 @@ class OtlpSink:
             protocol_version = "HTTP/1.1"
 
             def handle(self) -> None:
-                with contextlib.suppress(ConnectionError):  # The service may be killed meanwhile.
+                with contextlib.suppress(ConnectionError):  # The service may be killed during a request.
                     super().handle()
 
             def do_POST(self) -> None:
@@ -539,7 +542,7 @@ class OtlpSink:
         request.wfile.write(b"{}")
 
     def look_at(self, key: str | None, body: bytes) -> None:
-        """A key comes with the same bytes each time."""
+        """Checks that each request with the same key has the same bytes."""
         if not key:
             self.broken.append("a request without a key")
         elif self.seen.setdefault(key, zlib.crc32(body)) != zlib.crc32(body):

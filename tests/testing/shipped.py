@@ -1,5 +1,5 @@
-"""What scripts share that run programs and the files of operate/: programs that are ended in every case, copies of the
-shipped files, a small disk, and questions to a gateway."""
+"""Parts of scripts that run programs with the files of operate/: processes that always end, edited copies of those
+files, a small disk, and requests to a gateway."""
 import contextlib
 import ctypes
 import http.client
@@ -19,19 +19,19 @@ from testing.service import wait_until
 
 OPERATE = f"{ROOT}/operate"
 CONNECTIONS = 1_000_000
-# Of <sched.h>.
+# From <sched.h>.
 CLONE_NEWNS = 0x20000
 os.environ["PATH"] += ":/usr/sbin:/sbin"
 
 
 def missing(programs: Iterable[str], *files: str) -> list[str]:
-    """Which of these programs and files are not there."""
+    """Those of these programs and files that do not exist."""
     return [word for word in programs if not shutil.which(word)] + [file for file in files if not os.path.exists(file)]
 
 
 def run_script(seconds: int, work: Callable[..., None], names: Sequence[str] = ("PROGRAM",)) -> NoReturn:
-    """Runs work(program, .., checks, stack) for a script whose first arguments are programs, and ends all that it started:
-    also where it fails, is stopped, or is not done in so many seconds, which fails."""
+    """Runs `work(program, .., checks, stack)` for a script whose first arguments are programs, and exits with its
+    status. Always cleans up. An error, a SIGTERM, or a run longer than `seconds` is a failed check."""
     programs = sys.argv[1:len(names) + 1]
     if len(programs) < len(names) or not all(os.access(program, os.X_OK) for program in programs):
         sys.exit(f"usage: {sys.argv[0]} {' '.join(names)}")
@@ -48,19 +48,19 @@ def run_script(seconds: int, work: Callable[..., None], names: Sequence[str] = (
                 work(*[os.path.abspath(program) for program in programs], checks, stack)
             finally:
                 signal.alarm(0)
-    except (OSError, subprocess.SubprocessError) as error:  # A TimeoutError is an OSError.
+    except (OSError, subprocess.SubprocessError) as error:  # TimeoutError is an OSError too.
         checks.same("the script goes on", "no error", f"{type(error).__name__}: {error}")
     sys.exit(checks.end())
 
 
 def listens(port: int) -> bool:
-    """By the kernel's table: a connection would be one that a gateway counts."""
+    """Reads the kernel's table, because the gateway would count a test connection."""
     with open("/proc/net/tcp") as table:
         return f":{port:04X} 00000000:0000 0A" in table.read()
 
 
 def folder(stack: contextlib.ExitStack) -> str:
-    """A new folder, which other users can read."""
+    """A new folder that other users can read."""
     path = tempfile.mkdtemp(prefix="operate-")
     stack.callback(shutil.rmtree, path, ignore_errors=True)
     os.chmod(path, 0o755)
@@ -68,7 +68,7 @@ def folder(stack: contextlib.ExitStack) -> str:
 
 
 def own_disk(stack: contextlib.ExitStack, path: str, size: int | str) -> bool:
-    """Mounts a disk of so many bytes of memory on a folder, which this process and what it starts see alone. Whether it may."""
+    """Mounts a tmpfs of this size on a folder, visible only to this process and those it starts. Returns whether that is permitted."""
     if ctypes.CDLL(None).unshare(CLONE_NEWNS) != 0:
         return False
     mounts = ["--make-rprivate", "/"], ["-t", "tmpfs", "-o", f"size={size}", "tmpfs", path]
@@ -79,14 +79,14 @@ def own_disk(stack: contextlib.ExitStack, path: str, size: int | str) -> bool:
 
 
 def end_group(process: subprocess.Popen[Any]) -> None:
-    """Ends a process that began a group of its own, and all that it started."""
+    """Kills a process that leads a group, with all processes of the group."""
     with contextlib.suppress(ProcessLookupError):
         os.killpg(process.pid, signal.SIGKILL)
     process.wait(SECONDS)
 
 
 def started(stack: contextlib.ExitStack, words: Sequence[str], log: str) -> subprocess.Popen[bytes]:
-    """A process with a group of its own, whose output goes to the end of the file."""
+    """Starts a process with a group of its own; its output is appended to the log."""
     with open(log, "ab") as out:
         process = subprocess.Popen(words, stdout=out, stderr=out, stdin=subprocess.DEVNULL, start_new_session=True)
     stack.callback(end_group, process)
@@ -94,13 +94,13 @@ def started(stack: contextlib.ExitStack, words: Sequence[str], log: str) -> subp
 
 
 def end_gateway(gateway: Gateway) -> None:
-    """Ends it at once, and reads what it printed."""
+    """Kills the gateway and discards its output."""
     gateway.process.kill()
     gateway.process.communicate(timeout=SECONDS)
 
 
 def gateway_at(stack: contextlib.ExitStack, program: str, backend: int, *options: str) -> Gateway:
-    """A gateway that listens."""
+    """Starts a gateway and returns when it listens."""
     gateway = Gateway(program, backend, CONNECTIONS, options=options)
     stack.callback(end_gateway, gateway)
     if not wait_until(lambda: listens(gateway.port) or gateway.process.poll() is not None):
@@ -111,7 +111,7 @@ def gateway_at(stack: contextlib.ExitStack, program: str, backend: int, *options
 
 
 def shipped(name: str, replaced: Mapping[str, str]) -> str:
-    """The text of a file of operate/ with these words replaced, each of which it has to have."""
+    """The text of a file of operate/ with these words replaced. Each must occur in it."""
     with open(f"{OPERATE}/{name}") as file:
         return with_replaced(file.read(), replaced)
 
@@ -126,7 +126,7 @@ def with_replaced(text: str, replaced: Mapping[str, str]) -> str:
 
 def ask(port: int, method: str, path: str, body: bytes | str | None = None,
         headers: Mapping[str, str] | None = None) -> tuple[int, str]:
-    """The status and the text of an answer."""
+    """The status and text of an answer."""
     connection = http.client.HTTPConnection("127.0.0.1", port, timeout=SECONDS)
     with contextlib.closing(connection):
         connection.request(method, path, body, headers or {})
@@ -140,7 +140,7 @@ def posting(sender: str) -> dict[str, str]:
 
 
 def flush_all(port: int) -> None:
-    """Orders flushes until nothing is left."""
+    """Flushes until nothing is left."""
     for _ in range(1000):
         if "nothing" in ask(port, "POST", "/flush")[1]:
             return

@@ -1,4 +1,4 @@
-"""Who has which slot of a store, asked of its database."""
+"""Reads from a store's database which instance owns which slot."""
 import hashlib
 import json
 import time
@@ -7,13 +7,13 @@ from collections.abc import Iterable, Sequence
 from testing.servers import Server
 from testing.service import wait_until
 
-# Whatever a machine has to do beside.
+# In seconds; long enough for a busy machine.
 IN_THE_END = 180
 OWNERS = "select json_object_agg(slot, owner) from totxegun_store.slot"
 
 
 def places(slots: Sequence[int], names: Iterable[str]) -> dict[int, str]:
-    """The instance at which each of these slots belongs, of those of these names: as service/src/cluster/places.rs says."""
+    """The home of each slot among the instances with these names, by the rule of service/src/cluster/places.rs."""
     counts = dict.fromkeys(names, 0)
     each, more = divmod(len(slots), len(counts))
     places: dict[int, str] = {}
@@ -27,13 +27,13 @@ def places(slots: Sequence[int], names: Iterable[str]) -> dict[int, str]:
 
 
 def owners(database: Server) -> dict[int, str]:
-    """Of each slot the instance that has it, or nothing; where the database does not answer none is known."""
+    """The owner of each slot ("" if it has none). Empty if the database does not answer."""
     said = json.loads(database.ask(OWNERS) or "{}")
     return {int(slot): owner for slot, owner in said.items()}
 
 
 def come_to_rest(database: Server, slots: int, names: Iterable[str], seconds: float = IN_THE_END) -> bool:
-    """Waits until each slot is where it belongs, so that none moves by itself any more: whether that came."""
+    """Waits until each slot is owned by its home, after which no slot moves by itself. Returns whether that happened in time."""
     wanted = places(range(slots), names)
 
     def is_so() -> bool:

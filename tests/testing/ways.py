@@ -1,4 +1,4 @@
-"""Ways to post that tests/clients.py tries: each has a series of its own, and counts what it was told is taken."""
+"""Ways to post for tests/clients.py: each client library has a series of its own, and counts what was accepted."""
 import contextlib
 import decimal
 import gzip
@@ -25,16 +25,16 @@ from tooling.files import content
 
 HERE = f"{TESTS}/clients"
 AGAIN = (429, 502, 503, 504)
-# The answer where all was taken.
+# The body of an answer that rejects no point.
 WHOLE = {JSON: b"{}", PROTOBUF: b""}
 PAUSE = 0.05
-# Status, Retry-After and text of an answer; the status is None where none came.
+# Status, Retry-After and body of an answer; the status is None if there is no answer.
 Attempt = tuple[int | None, str | bytes | None, bytes]
-# Of each way that posts from files.
+# How many bodies are written for each way that reads them from files.
 BODIES = 600
 WRK_CONNECTIONS = 2
 MICROSECONDS = 1_000_000
-# Of those that may be missing: what is asked, and what has to be answered.
+# How to see whether an optional program is usable: a command, and what its output must match.
 NODE = (["node", "--version"], re.compile(r"v(1[89]|[2-9]\d)\."))
 JAVA = (["java", "--list-modules"], re.compile(r"java\.net\.http@(.|\n)*jdk\.compiler@"))
 
@@ -44,14 +44,14 @@ def span(place: int) -> tuple[int, int]:
 
 
 def in_seconds(points: Sequence[tuple[str, int, int, float]]) -> bytes:
-    """A request with points of fractions of a second."""
+    """A request whose values are fractions of a second."""
     metrics = [{"name": name, "unit": "s", "sum": {"aggregationTemporality": DELTA, "isMonotonic": True, "dataPoints": [
         {"startTimeUnixNano": str(start), "timeUnixNano": str(end), "asDouble": value}]}} for name, start, end, value in points]
     return json.dumps({"resourceMetrics": [{"scopeMetrics": [{"metrics": metrics}]}]}).encode()
 
 
 def by_library(message: Any, points: Sequence[tuple[str, int, int, int]]) -> bytes:
-    """A request as protobuf's own library writes it, by the class of this message."""
+    """A request serialised by Google's protobuf library."""
     request = message()
     metrics = request.resource_metrics.add().scope_metrics.add().metrics
     for name, start, end, value in points:
@@ -63,8 +63,7 @@ def by_library(message: Any, points: Sequence[tuple[str, int, int, int]]) -> byt
 
 
 class Way(threading.Thread):
-    """Posts points of a series of its own, one post after another, each until it is taken. `encode` writes the points,
-    `stop` ends it."""
+    """A thread that posts points of one series and retries each post until it is accepted. It runs until `stop` is set."""
 
     points_of_a_post = 1
     connections = 0
@@ -81,7 +80,7 @@ class Way(threading.Thread):
         self.surprise: str | None = None
 
     def points(self) -> Sequence[tuple[str, int, int, float]]:
-        """Those of the next post."""
+        """The points of the next post."""
         first = self.taken * self.points_of_a_post
         return [(self.series, *span(first + more), 1 + self.taken % 9) for more in range(self.points_of_a_post)]
 
@@ -99,7 +98,7 @@ class Way(threading.Thread):
             time.sleep(PAUSE)
 
     def post(self, body: bytes) -> None:
-        """Repeats it until it is answered."""
+        """Retries the body until it is answered."""
         while True:
             status, after, text = self.once(body)
             if status is not None and status not in AGAIN:
@@ -110,15 +109,15 @@ class Way(threading.Thread):
             self.surprise = f"{status} {text!r}"
 
     def once(self, body: bytes) -> Attempt:
-        """Status, Retry-After and text of the answer; the status is None where none came."""
+        """Status, Retry-After and body of one attempt; the status is None if there is no answer."""
         raise NotImplementedError
 
     def read(self) -> None:
-        """It has its figures already."""
+        """Does nothing; an external program's figures are read from its file."""
 
 
 class Kept(Way):
-    """http.client on one connection."""
+    """Python's http.client over one connection."""
 
     connection: http.client.HTTPConnection | None = None
 
@@ -136,7 +135,7 @@ class Kept(Way):
 
 
 class InSeconds(Kept):
-    """The same with fractions of a second of so many digits; what becomes of them is counted in microseconds."""
+    """Kept, with values in seconds of this many digits; the expected sum is in microseconds."""
 
     def __init__(self, series: str, port: int, stop: threading.Event, digits: int) -> None:
         super().__init__(series, port, stop, in_seconds)
@@ -158,7 +157,7 @@ class InSeconds(Kept):
 
 
 class Urllib(Way):
-    """urllib makes a connection for each post."""
+    """Python's urllib, which opens a connection for each post."""
 
     def once(self, body: bytes) -> Attempt:
         request = urllib.request.Request(f"http://127.0.0.1:{self.port}/v1/metrics", body, self.headers)
@@ -172,7 +171,7 @@ class Urllib(Way):
 
 
 class Curl(Way):
-    """A curl for each post. With --retry it waits as Retry-After says by itself. `head` has to be in what it was answered."""
+    """One curl process for each post; with --retry, curl itself obeys Retry-After. The response must contain `head`."""
 
     def __init__(self, *words: Any, options: list[str], head: bytes = b"HTTP/1.1 200", **more: Any) -> None:
         super().__init__(*words, **more)
@@ -194,13 +193,13 @@ class Curl(Way):
 
 
 class Large(Curl):
-    """Posts of more than 1 KiB."""
+    """Posts of 20 points, more than 1 KiB."""
 
     points_of_a_post = 20
 
 
 class External:
-    """A way of another program, by what that has written down."""
+    """A way that another program runs. Its figures come from the file that the program writes."""
 
     def __init__(self, series: str, folder: str) -> None:
         self.series, self.path = series, f"{folder}/{series}"
@@ -208,13 +207,13 @@ class External:
         self.surprise: bytes | None = None
 
     def read(self) -> None:
-        with contextlib.suppress(ValueError):  # it is being written
+        with contextlib.suppress(ValueError):  # the program is just writing it
             self.taken, self.sum, self.repeats, self.connections = map(int, content(self.path).split())
         self.surprise = content(f"{self.path}.surprise") or None
 
 
 def own_ways(port: int, stop: threading.Event, message: Any) -> list[Way]:
-    """Those of curl and of Python."""
+    """The ways of curl and of Python."""
     again = ["--retry", "60"]
 
     def protobuf(points: Sequence[Any]) -> bytes:
@@ -236,7 +235,7 @@ def own_ways(port: int, stop: threading.Event, message: Any) -> list[Way]:
 
 
 class Programs:
-    """Node and Java, where they are installed."""
+    """The ways of Node and Java, if they are installed."""
 
     ALL = {"node": (NODE, ["node", f"{HERE}/client.mjs"], ["node.http", "node.fetch"]),
            "java": (JAVA, ["java", "-Xmx128m", "-XX:TieredStopAtLevel=1", f"{HERE}/Client.java"], ["java.default", "java.http1"])}
@@ -259,7 +258,7 @@ class Programs:
                                                       stdout=log, stderr=log)
 
     def end(self) -> dict[str, tuple[int | str, bytes]]:
-        """What each wrote, if it did not end well."""
+        """The status and the end of the log of each program that failed."""
         with open(f"{self.folder}/stop", "wb"):
             pass
         found: dict[str, tuple[int | str, bytes]] = {}
@@ -291,7 +290,7 @@ def write_bodies(folder: str, series: str, message: Any) -> None:
 
 
 class Wrk:
-    """wrk until it is ended: of each series how many posts were taken, how many answers were 503, and how many were another."""
+    """A run of wrk. Counts for each series the accepted posts, the answers 503 and all other answers."""
 
     def __init__(self, port: int, folder: str, name: str) -> None:
         self.path, many = f"{folder}/{name}", str(WRK_CONNECTIONS)

@@ -99,6 +99,7 @@ mod tests {
             scope_name: String::new(),
             scope_version: String::new(),
             scope_attributes: raw("{}"),
+            sender: None,
             points: 3,
             total: "700".into(),
             adjustments: "-250".into(),

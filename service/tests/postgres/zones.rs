@@ -30,7 +30,7 @@ async fn exported(address: &str, period: &Period) -> Exported {
         let mut all = Exported::new();
         let mut each = |line: totxegun::sinks::sql::export::Line| {
             let buckets = line.buckets.map(|list| list.get().to_string());
-            let sums = (line.total, line.corrections, line.billed, line.points, line.count, buckets);
+            let sums = (line.total, line.adjustments, line.total_adjusted, line.points, line.count, buckets);
             assert!(all.insert(line.name.clone(), sums).is_none(), "{} twice", line.name);
             Ok(())
         };
