@@ -1,12 +1,13 @@
 #!/usr/bin/env python3
-"""Checks that the proved library in book/ is the one that book/PROVENANCE names, made of the sources that lie here.
+"""Checks that the library in book/ is the one that book/PROVENANCE names, and that it was proved from the current sources.
 
     tools/book.py --check
 
-It takes a second and needs no prover. PROVENANCE has the library's sum, the digest of each crate and of the files beside them
-that the prover reads, the commit, the toolchain and the result of the gate that proved all of it; `make prove` alone writes
-it. Status 0: the library is as PROVENANCE says, and no source has changed since. Status 1: a line says what differs and what
-to do.
+It takes a second and needs no prover. PROVENANCE has the library's checksum, the digest of each crate and of the files beside
+the crates that the prover reads, the commit, the toolchain, and the result of the gate that proved everything. Only `make prove`
+writes it.
+
+Status 0: library and sources are as PROVENANCE says. Status 1: one line for each difference says what to do.
 """
 import hashlib
 import os
@@ -20,17 +21,17 @@ from tooling.files import content, text_there
 FOLDER = f"{ROOT}/book"
 LIBRARY = f"{FOLDER}/libbook.a"
 PROVENANCE = f"{FOLDER}/PROVENANCE"
-# What `rt ci` reads beside the crates.
+# Files outside the crates that `rt ci` reads.
 BESIDE = ("crates.txt", "HANDLES")
-# What it reads of a crate beside the files of a check: the edits that it tries, and what a program is run on.
+# What `rt ci` reads of a crate: the parts that a check reads, the must-fail edits, and data for a program's run.
 OF_GATE = (*PARTS, "must-fail", "data")
 OF_RUN = ("stdin", "stdout", "args", "status")
-# For which processor the library is.
+# The processor that the library is compiled for.
 PROCESSOR = "x86_64"
 
 
 def other_processor() -> str | None:
-    """Why nothing can be built here: the library is for another processor. Nothing where it is for this one."""
+    """Why nothing can be built on this machine: the library is for another processor. None if it is for this one."""
     found = platform.machine()
     if found == PROCESSOR:
         return None
@@ -58,7 +59,7 @@ def digest_of_crate(crate: Crate) -> str:
 
 
 def sources() -> dict[str, str]:
-    """The digest of each crate and of each file beside the crates, by its path."""
+    """The digest of each crate, and of each file beside the crates, by path."""
     found = {name: digest_of(content(f"{ROOT}/{name}")) for name in BESIDE}
     for crate in read_crates().values():
         found[f"crates/{crate.name}"] = digest_of_crate(crate)
@@ -66,21 +67,21 @@ def sources() -> dict[str, str]:
 
 
 def provenance() -> dict[str, str]:
-    """What PROVENANCE says, by the first word of a line; of a source by its path."""
+    """The lines of PROVENANCE by their first word, which is the path for a source."""
     lines = (line.split(maxsplit=1) for line in text_there(PROVENANCE).splitlines())
     said = {words[0]: words[1] for words in lines if len(words) == 2}
     return said
 
 
 def changed_sources() -> list[str]:
-    """The paths of the sources that are not as PROVENANCE says: changed, new, or gone."""
+    """The paths of sources that PROVENANCE does not have as they are: changed, new or deleted."""
     found, said = sources(), provenance()
     gone = [name for name in said if (name.startswith("crates/") or name in BESIDE) and name not in found]
     return [*(name for name, digest in found.items() if said.get(name) != digest), *gone]
 
 
 def fault_of_library() -> str | None:
-    """Why the library in book/ is not linked: one line. Nothing where it is the one that PROVENANCE names."""
+    """Why the library in book/ must not be linked, in one line; None if its checksum is that of PROVENANCE."""
     if not os.path.isfile(LIBRARY) or not os.path.isfile(PROVENANCE):
         return "book/libbook.a or book/PROVENANCE is missing: `git checkout book` brings both back"
     found, wanted = digest_of(content(LIBRARY)), provenance().get("sha256")
@@ -90,7 +91,7 @@ def fault_of_library() -> str | None:
 
 
 def fault_of_sources() -> str | None:
-    """Why the library does not count for these sources: one line. Nothing where none has changed."""
+    """Why the library is not the proof's result for these sources, in one line; None if no source has changed."""
     changed = changed_sources()
     if not changed:
         return None

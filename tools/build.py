@@ -1,13 +1,14 @@
 #!/usr/bin/env python3
-"""Proves programs and all crates below them, step by step, and builds them into bin/.
+"""Proves and builds crates and all crates below them, step by step, into bin/.
 
     tools/build.py [CRATE ..]
 
-The crates are play, gateway and book_c, the library that the service is linked with, or those that are named. Crates that
-don't use each other are proved side by side, as many as processors and memory carry; a crate that is proved and has not
-changed since, nor one below it, is not proved again, also not after an interrupt. Of book_c the library goes to
-out/book/libbook.a: with TOTXEGUN_BOOK=$PWD/out/book the service is built over it. What counts is made by `make prove`. The logs
-are in out/logs.
+Without arguments it builds play, gateway and book_c, which is the library that the service links. Crates that don't depend on
+each other are proved in parallel, as far as processors and memory allow. A crate is skipped if neither it nor a crate below it has
+changed since it was proved, also after an interrupt.
+
+The library of book_c goes to out/book/libbook.a; with TOTXEGUN_BOOK=$PWD/out/book cargo links it into the service. Only the
+library that `make prove` makes counts. The logs are in out/logs. Status 0: everything is proved and built.
 """
 import hashlib
 import os
@@ -24,19 +25,19 @@ from tooling.steps import GIGABYTE, Failed, Step, Steps, locked, shown
 from service import install
 
 PROGRAMS = ["play", "gateway"]
-# What the service is linked with, and where what is built of it here is put.
+# The crate of the library that the service links, and where this command puts the library.
 LIBRARY = "book_c"
 TRIED = f"{OUT}/book/libbook.a"
-# A check of a crate takes a gigabyte or two for what it loads, and about a megabyte a line.
+# A check of a crate takes one to two gigabytes for what it loads, and about a megabyte for each line.
 LEAST_MEMORY = 3 * GIGABYTE // 2
 LINE_MEMORY = GIGABYTE // 1000
 MOST_MEMORY = 4 * GIGABYTE
-# More jobs save little, and each takes memory.
+# More jobs save little time, and each takes memory.
 MOST_JOBS = 3
 
 
 class Building:
-    """Which crates are built as they are, and steps for those that are not."""
+    """Knows which crates are built as they are now, and makes the steps for the others."""
 
     def __init__(self) -> None:
         self.digests = Digests()
@@ -44,14 +45,14 @@ class Building:
         self.known: dict[str, bool] = {}
 
     def is_built(self, crate: Crate) -> bool:
-        """Whether what is built was made of the crate as it is, over what is built of the crates below."""
+        """Whether the crate's build is of its current sources, over the current builds of the crates below."""
         if crate.name not in self.known:
             is_made = all(map(self.is_built, crate.below)) and os.path.exists(made_by(crate))
             self.known[crate.name] = is_made and content(mark_of(crate)).startswith(self.inputs(crate))
         return self.known[crate.name]
 
     def inputs(self, crate: Crate) -> bytes:
-        """What a crate is built of, as one word: its text, and each library below as it was built."""
+        """A digest of all inputs of a crate's build: its sources, and the marks of the crates below."""
         whole = hashlib.sha256(self.digests.of(crate).encode())
         for below in crate.below:
             whole.update(content(mark_of(below)))
@@ -71,7 +72,7 @@ class Building:
 
     def build(self, crate: Crate, step: Step) -> str:
         """Proves a crate and builds it."""
-        # No two builds have one mark: a library fits those alone over which it was built.
+        # The time makes each mark unique: a library fits only those very builds of the crates below over which it was built.
         mark = b"%s %d\n" % (self.inputs(crate), time.time_ns())
         with locked(crate.folder):
             shutil.rmtree(room_of(crate), ignore_errors=True)
@@ -89,7 +90,7 @@ def mark_of(crate: Crate) -> str:
 
 
 def steps_for(crates: Iterable[Crate], building: Building) -> tuple[list[Step], int]:
-    """The steps that build these crates and all below them."""
+    """The steps that build these crates and all below them, and how many crates these are."""
     wanted: list[Crate] = []
     for crate in crates:
         wanted += [it for it in [*crate.all_below(), crate] if it not in wanted]
@@ -98,7 +99,7 @@ def steps_for(crates: Iterable[Crate], building: Building) -> tuple[list[Step], 
 
 
 def hand_over(crate: Crate) -> str | None:
-    """Puts what a crate is for where it belongs, and returns its path. A library is for crates alone."""
+    """Copies a program to bin/ or the static library to out/book, and returns the path. Returns None for a library that only crates use."""
     if crate.is_program:
         install(made_by(crate), crate.name)
         return f"bin/{crate.name}"

@@ -1,11 +1,11 @@
 #!/usr/bin/env python3
-"""Checks one crate over the libraries that `make core` has kept, and over what its last check kept.
+"""Checks one crate over the libraries that `make core` has built, and over what the crate's last check has kept.
 
     tools/check.py CRATE [FLAG ..]
 
-What the crate uses and is not built yet is proved and built first. The flags go to the prover: `--allow-holes`
-goes past open goals and prints each, `--only PATH` checks one function. A check where nothing changed takes
-seconds. It is not the gate: `make prove` proves from nothing.
+Crates below that are not built yet are proved and built first. The flags go to the prover: `--allow-holes` prints each open goal
+and goes on, `--only PATH` checks one function. If nothing has changed, a check takes seconds. The status is the prover's.
+This is not the gate: `make prove` proves from nothing.
 """
 import os
 import subprocess

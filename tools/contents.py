@@ -1,11 +1,11 @@
 #!/usr/bin/env python3
-"""Lists what the program totxegun is made of, each part with its version and its licence.
+"""Lists the parts of the program totxegun, each with its version and licence.
 
     tools/contents.py TOTXEGUN FOLDER
 
-FOLDER gets totxegun.spdx.json (SPDX 2.3) and LICENCES.txt, a line a part. The parts are the crates that it is compiled
-from, as Cargo resolves them; the proved book and the toolchain that made it; and the libraries that it loads, by Debian's
-packages. A licence that nobody wrote down as an expression is named, and its text is in both files.
+Writes totxegun.spdx.json (SPDX 2.3) and LICENCES.txt (a line for each part) into FOLDER. The parts are the crates that are
+compiled into the program, as Cargo resolves them; the toolchain that compiled the proved book; and the shared libraries that the
+program loads, by their Debian packages. If a crate gives its licence as a text only, both files have the text.
 """
 import hashlib
 import json
@@ -21,15 +21,15 @@ from book import provenance
 
 MANIFEST = f"{ROOT}/service/Cargo.toml"
 SYSTEM = "x86_64-unknown-linux-gnu"
-# The ways in which manifests write OR and AND.
+# Some manifests write OR as a slash.
 SLASH = re.compile(r"\s*/\s*")
-# A line of ldd: the name, and the file that is loaded.
+# A line of ldd's output, with the path of the library that is loaded.
 LOADED = re.compile(r"^\s*(?:\S+ => )?(/\S+) \(0x", re.MULTILINE)
 NOT_SAID = "NOASSERTION"
 
 
 class Part:
-    """A part: `licence` is an expression of SPDX, or of a text that stands for itself `text` has it."""
+    """A part. `licence` is an SPDX expression; if the crate only has a licence text, it is a name for that text, and `text` has it."""
 
     def __init__(self, name: str, version: str, licence: str, text: str = "", comment: str = "") -> None:
         self.name = name
@@ -50,7 +50,7 @@ def printed(*command: str) -> str:
 
 
 def crates() -> list[Part]:
-    """What is compiled into the program, but for what only builds or tests it."""
+    """The crates that are compiled into the program; crates that only build or test it are left out."""
     words = ["metadata", "--format-version", "1", "--filter-platform", SYSTEM]
     found = json.loads(printed(f"{ROOT}/tools/cargo", *words))
     packages = {it["id"]: it for it in found["packages"]}
@@ -68,7 +68,7 @@ def crates() -> list[Part]:
 
 
 def is_macro(package: dict[str, Any]) -> bool:
-    """One that runs in the compiler, and is not in the program."""
+    """Whether a crate runs in the compiler only, so that none of it is in the program."""
     return all("proc-macro" in it["kind"] or "custom-build" in it["kind"] for it in package["targets"])
 
 
@@ -81,14 +81,14 @@ def crate(package: dict[str, Any]) -> Part:
 
 
 def book() -> list[Part]:
-    """The toolchain of the proved book. The book itself is the program's own."""
+    """The toolchain that compiled the proved book. The book itself has the program's own licence."""
     toolchain = provenance()["toolchain"].split()[0]
     comment = "the toolchain that compiled the book, whose libraries are in it"
     return [Part("rattle", toolchain, NOT_SAID, comment=comment)]
 
 
 def libraries(program: str) -> list[Part]:
-    """What the program loads, by the packages that it is of."""
+    """The Debian packages of the shared libraries that the program loads."""
     owners: dict[str, None] = {}
     for file in LOADED.findall(printed("ldd", program)):
         for name in (file, os.path.realpath(file)):
@@ -107,7 +107,7 @@ def library(package: str) -> Part:
 
 
 def document(program: str, version: str, parts: list[Part]) -> dict[str, Any]:
-    """All of it as SPDX 2.3 (its JSON has the names of its clause 7)."""
+    """The SPDX 2.3 document; clause 7 of the standard has the names of its JSON."""
     with open(program, "rb") as file:
         digest = hashlib.file_digest(file, "sha256").hexdigest()
     top = Part("totxegun", version, "Apache-2.0")
@@ -151,7 +151,8 @@ def relation(whose: str, kind: str, which: str) -> dict[str, str]:
 
 
 def day(version: str) -> str:
-    """The day of a version, or of the newest one that has a day: the same program gives the same bytes."""
+    """The day of a version, or of the newest version in CHANGELOG.md if it has none. No clock is read, so that the same
+    program gives the same bytes."""
     days: dict[str, str] = dict(re.findall(r"^## (\S+), (\S+)", text_of(f"{ROOT}/CHANGELOG.md"), flags=re.MULTILINE))
     return days.get(version) or next(iter(days.values()))
 

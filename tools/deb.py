@@ -1,11 +1,12 @@
 #!/usr/bin/env python3
-"""Makes a Debian package of what `make build` has made, or of the program of another folder.
+"""Makes a Debian package of the program in bin/, or of the program in another folder.
 
     tools/deb.py [FOLDER]
 
-It is out/totxegun_VERSION_amd64.deb. Nothing is compiled: the program is installed into a folder by tools/install, and
-packaged by debhelper as packaging/debian says. The times in it are those of CHANGELOG.md's newest version, so the same
-program gives the same bytes. The log is out/logs/deb.log. What is printed says whether the book in it was proved.
+Writes out/totxegun_VERSION_amd64.deb and compiles nothing: tools/install installs the program into a folder, and debhelper makes
+the package by packaging/debian. All times in it are the day of the newest version in CHANGELOG.md, so that the same program
+gives the same bytes. The last lines have the package's size and checksum, and say whether the book in it was proved. Status 1:
+a line says what failed. The log is out/logs/deb.log.
 """
 import datetime
 import email.utils
@@ -30,20 +31,20 @@ ITEM = re.compile(r"^- (.*)$", re.MULTILINE)
 
 
 def second_of(day: str) -> int:
-    """Noon of a day, as seconds since 1970."""
+    """Noon of a day in UTC, as seconds since 1970."""
     return int(datetime.datetime.fromisoformat(f"{day}T12:00:00+00:00").timestamp())
 
 
 def changelog() -> str:
-    """CHANGELOG.md as Debian has it."""
+    """CHANGELOG.md in the form of debian/changelog."""
     maintainer = MAINTAINER.search(text_of(f"{ROOT}/packaging/debian/control"))[1]
-    # Of older versions a heading has the revision behind the day.
+    # The headings of older versions also have the revision after the day.
     parts = re.split(r"^## (\S+), (\S+).*$", text_of(f"{ROOT}/CHANGELOG.md"), flags=re.MULTILINE)[1:]
     entries: list[str] = []
     days: list[str] = []
     for number, day, text in zip(parts[::3], parts[1::3], parts[2::3]):
         items = "".join(f"{textwrap.fill(item, 78, initial_indent='  * ', subsequent_indent='    ')}\n" for item in ITEM.findall(text))
-        # Of one day an older version has an earlier hour.
+        # Debian requires times in order: of two versions of one day the older gets an earlier hour.
         when = email.utils.formatdate(second_of(day) - 3600 * days.count(day))
         days.append(day)
         entries.append(f"totxegun ({number}) unstable; urgency=medium\n\n{items}\n -- {maintainer}  {when.replace('-0000', '+0000')}\n")
@@ -51,13 +52,13 @@ def changelog() -> str:
 
 
 def proof(programs: str) -> str:
-    """What the program that is packed says of its book."""
+    """What the packaged program says about its book."""
     ran = subprocess.run([f"{programs}/totxegun", "version"], stdout=subprocess.PIPE, text=True, check=True)
     return ran.stdout.strip()
 
 
 def prepare(folder: str, programs: str) -> bool:
-    """The source tree of the package; what is missing is told by tools/install, and ends this."""
+    """Makes the package's source tree. Returns False if tools/install or tools/contents.py fails; they print why."""
     shutil.rmtree(WORK, ignore_errors=True)
     shutil.copytree(f"{ROOT}/packaging/debian", f"{folder}/debian")
     with open(f"{folder}/debian/changelog", "w", encoding="utf-8") as file:

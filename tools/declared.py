@@ -1,12 +1,12 @@
 #!/usr/bin/env python3
-"""Writes what crosses between the service and the proved library, from the library's own source.
+"""Generates the service's declarations of the proved library from the library's source.
 
     tools/declared.py             writes service/src/core/book/declared.rs
-    tools/declared.py --check     whether just that is there: a step of the gate
+    tools/declared.py --check     compares that file with what would be written: a step of the gate
 
-From the crate book_c it takes each exported function with its parameters in their order, the fields of `Answer` and `Handle` in
-theirs, and the statuses; from the limits of the store how many series a flush takes. A slice crosses as its address and its
-length, and the allocator's handle, which has no size, not at all. It refuses a type that it doesn't know.
+It declares each exported function of the crate book_c with its parameters, the fields of `Answer` and `Handle`, the statuses, and
+the limit of series in a flush. A slice is declared as a pointer and a length. The allocator's handle has no size and is left out.
+An unknown type is an error.
 """
 import re
 import subprocess
@@ -23,13 +23,13 @@ WRITTEN = f"{ROOT}/service/src/core/book/declared.rs"
 HEAD = """//! What crosses between the service and the proved library: written by `tools/declared.py` from the source of the library
 //! (`crates/book_c`). Who changes that runs it; `make test` compares. The service has no use for some of it.
 """
-# A function without its body and its contract, which begin in a line of their own.
+# An exported function up to its body or contract, each of which begins on a line of its own.
 EXPORT = re.compile(r'((?:^///[^\n]*\n)*)^#\[unsafe\(no_mangle\)\]\npub extern "C" fn (\w+)\((.*?)\)(?: -> (\w+))?\n', re.M | re.S)
 STATUS = re.compile(r"((?:^///[^\n]*\n)+)^pub const (\w+): u32 = (\d+);\n", re.M)
 STRUCT = r"((?:^///[^\n]*\n)+)^#\[repr\(C\)\]\n(?:#[^\n]*\n)*^pub struct {} {{\n(.*?)^}}"
 FIELD = re.compile(r"^    (?:pub )?(\w+): ([\w* ]+),$", re.M)
 LIMIT = re.compile(r"((?:^///[^\n]*\n)+)^pub const MAX_TAKEN: \w+ = ([\d_]+);", re.M)
-# What has no size, and does not cross.
+# A type without size, which is not passed at all.
 NO_SIZE = "Global"
 PLAIN = ("bool", "u32", "u64", "usize")
 LENT = {"&mut Handle": "*mut Handle", "&mut Answer": "*mut Answer"}
@@ -37,7 +37,7 @@ SLICE = re.compile(r"&(mut )?\[(u8|u64)\]$")
 
 
 def crossing(name: str, kind: str) -> list[str]:
-    """A parameter as the service declares it: none, one, or an address and a length."""
+    """How the service declares a parameter: not at all, as one parameter, or as a pointer and a length."""
     if kind == NO_SIZE:
         return []
     if kind in PLAIN:
@@ -62,7 +62,7 @@ def functions() -> str:
 
 
 def struct(file: str, name: str, traits: str, who: str) -> str:
-    """A struct of the library, with those of its fields that have a size."""
+    """A struct of the library, with the fields that have a size."""
     found = re.search(STRUCT.format(name), text_of(f"{LIBRARY}/{file}"), re.M | re.S)
     if not found:
         wrong(f"{file} has no struct {name}")

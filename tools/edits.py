@@ -1,21 +1,21 @@
 #!/usr/bin/env python3
-"""Tries every edit of the crates, those of must-fail/ and those of more-edits/: the prover must refuse each.
+"""Applies each edit of the crates, in must-fail/ and more-edits/: the prover must refuse every one.
 
-    tools/edits.py [NAME ..]           tries them
-    tools/edits.py --list [NAME ..]    only prints them: of each crate the file and the function that an edit changes,
-                                       and the mistake that it is named after; * before those that the gate tries
-    tools/edits.py --check [NAME ..]   only sees whether each can be made of the crates as they are
+    tools/edits.py [NAME ..]           tries the edits
+    tools/edits.py --list [NAME ..]    only lists them: for each crate the file and function that an edit changes, and the mistake
+                                       that names the edit; * marks those that the gate tries
+    tools/edits.py --check [NAME ..]   only checks that each can be applied to the current sources: a step of the gate
 
-All edits, or those of crates that are named, as delta_book, or one, as delta_book/count_is_off_by_one. What stands
-below them is proved and built first. The edits of a crate are tried over a copy of what a check of the crate as it
-is has kept. Edits that each change the bodies of other functions are tried together, since a proof reads of other
-functions their contracts alone; such an edit counts as refused where its own function is not proved. An edit that
-changes more than bodies, or that was not refused among others, is tried alone. At the end the crate as it is must be
-proved over the same, which shows that this is sound.
+A NAME is a crate, like delta_book, or one edit, like delta_book/count_is_off_by_one. The crates below are proved and built first.
+The edits of a crate are tried over a copy of what a check of the unchanged crate has kept.
 
-The last lines name the edits that were not refused, and those that were refused for no value: since a proof
-names what they take away. The very last one counts. The status is 0 where all were refused. What the prover
-said is in out/logs/edits-CRATE.log.
+Edits that change bodies of different functions are tried in one check, since a proof reads only the contracts of other functions.
+Such an edit counts as refused if its own function is not proved. An edit is tried alone if it changes more than bodies, or if it
+was not refused in such a check. At the end the unchanged crate must be proved over the same kept state, which shows that sharing
+the state is sound.
+
+The last lines name the edits that were not refused, and those that were refused only because a proof names something that the
+edit removes. The very last line counts. The status is 0 if all were refused. The prover's output is in out/logs/edits-CRATE.log.
 """
 from __future__ import annotations
 
@@ -33,14 +33,14 @@ from tooling.prover import Prover
 from tooling.steps import GIGABYTE, Failed, Step, Steps, locked
 from build import MOST_JOBS, Building, steps_for
 
-# With it, a function is also checked over others that are not proved.
+# With this flag the prover also checks functions that rest on functions that are not proved.
 EACH_FUNCTION = "--allow-holes"
-# A goal that no search proves, with a line of its function; and a written proof that does not hold, but for
-# one that names what is gone, or stands on such a proof.
+# A goal for which the search finds no proof, with a line of its function; and a written proof that does not hold. A
+# written proof does not count if it only names something that the edit removed, or rests on such a proof.
 UNPROVED = re.compile(r"note: (?:\./)?(src/\S+?):(\d+):\d+: (?:it is not proved|`search` found no proof) ")
 NAME_ALONE = r"has no field|is not in scope|has no `|was not admitted"
 WRONG = re.compile(rf"(?:\./)?proofs/(\S+)/Answers\.antt:\d+:\d+: error: (?!.*(?:{NAME_ALONE}))")
-# The last line of a check that the prover has ended, and lines that say that it could not read the edit.
+# The last line of a check that ran to its end, and lines which say that the prover could not read the edit.
 REFUSED = re.compile(r"logic=not-proved")
 UNREADABLE = re.compile(
     r"(?:\./)?(?:src|specs)/\S+: error(?:\[|: [^`]|: `.*(?:is not in scope|has no field|is no name))"
@@ -48,20 +48,20 @@ UNREADABLE = re.compile(
 MEMORY = 4 * GIGABYTE
 LIST = "--list"
 CHECK = "--check"
-# The folder of those that the gate tries.
+# The folder of the edits that the gate tries.
 OF_GATE = "must-fail"
 
 
-# Of each function of a file its place there, and its lines.
+# For each changed function of a file: its position in the file, and its new lines.
 Bodies = dict[tuple[str, str], tuple[int, list[str]]]
 
 
 class BadEdit(Exception):
-    """Why an edit can't be made."""
+    """Why an edit cannot be applied."""
 
 
 class Edit:
-    """An edit, with the texts of the files that it changes."""
+    """An edit, with the changed text of each file."""
 
     def __init__(self, file: str, folder: str) -> None:
         self.name = name_of(file)
@@ -82,7 +82,7 @@ class Edit:
         self.bodies = self.bodies_of(folder)
 
     def bodies_of(self, folder: str) -> Bodies:
-        """The bodies that it changes, by their functions; none where it changes anything else."""
+        """The changed bodies by their functions; empty if the edit changes anything else."""
         bodies: Bodies = {}
         for path, text in self.texts.items():
             before, after = text_of(folder, path).split("\n"), text.split("\n")
@@ -100,13 +100,13 @@ class Edit:
 
 
 def outside(lines: list[str], functions: list[Function]) -> list[str]:
-    """The lines of a file that are in none of these functions."""
+    """The lines of a file outside these functions."""
     inside = {k for it in functions for k in range(it.start, it.end + 1)}
     return [line for k, line in enumerate(lines) if k not in inside]
 
 
 def groups_of(edits: list[Edit]) -> list[list[Edit]]:
-    """Edits of bodies, in groups that are tried together: of each function, one at most."""
+    """Groups of edits that can be tried in one check: no two of a group change the same function."""
     groups: list[list[Edit]] = []
     for edit in edits:
         for group in groups:
@@ -119,7 +119,7 @@ def groups_of(edits: list[Edit]) -> list[list[Edit]]:
 
 
 class Edits:
-    """The edits of one crate, and which of them were not refused."""
+    """The edits of one crate, and how many were refused."""
 
     def __init__(self, crate: Crate, files: list[str], prover: Prover) -> None:
         self.crate = crate
@@ -135,7 +135,7 @@ class Edits:
             self.work,
             f"make edits NAME={name}",
             after=[it.name for it in self.crate.below if it.name in among],
-            # An edit takes a fraction of the crate's own check.
+            # An edit takes a fraction of the time of the crate's own check.
             weight=self.crate.lines() * (1 + len(self.files) // 6),
             memory=MEMORY,
             most_jobs=MOST_JOBS,
@@ -189,7 +189,7 @@ class Edits:
 
 
 class Trial:
-    """A copy of a crate in which its edits are tried, over what checks have kept."""
+    """A copy of a crate in which its edits are tried, over what earlier checks have kept."""
 
     def __init__(self, crate: Crate, prover: Prover, step: Step, room: str) -> None:
         self.crate = crate
@@ -202,7 +202,7 @@ class Trial:
                 shutil.copytree(f"{crate.folder}/{part}", f"{self.folder}/{part}")
 
     def together(self, group: list[Edit]) -> set[Edit]:
-        """Those of a group that are refused for a value of a function that they change."""
+        """The edits of a group that are refused because a function that they change is not proved."""
         texts: dict[str, list[str]] = {}
         for edit in group:
             for (path, _), (place, body) in edit.bodies.items():
@@ -213,7 +213,7 @@ class Trial:
         return {edit for edit in group if any(is_unproved(it, said, texts) for it in edit.bodies)}
 
     def alone(self, edit: Edit) -> tuple[bool, str]:
-        """Whether an edit is refused, and what to say of it."""
+        """Whether an edit is refused, and a note if something is wrong with it."""
         status, said = self.check(edit.texts)
         if status == 0:
             return False, "not refused"
@@ -223,7 +223,7 @@ class Trial:
         return True, "" if is_value else "refused for a name"
 
     def check(self, texts: dict[str, str], kept: str | None = None, flags: Sequence[str] = ()) -> tuple[int, list[str]]:
-        """The status of a check of the crate with other texts in some files, and what it says."""
+        """The status and the output of a check of the crate with these texts in place of some files."""
         command = [*self.prover.check(self.crate, self.step.jobs, kept or self.kept), *flags]
         before = {path: text_of(self.folder, path) for path in texts}
         said: list[str] = []
@@ -238,7 +238,7 @@ class Trial:
 
 
 def is_unproved(function: tuple[str, str], said: list[str], texts: dict[str, list[str]]) -> bool:
-    """Whether a check says that something of a function is not proved for a value."""
+    """Whether the check's output says that the function itself is not proved, and not just that a name is missing."""
     path, name = function
     bodies = [it for it in functions_of(texts[path]) if it.name == name]
     module = [it for it in path.removesuffix(".rt").split("/")[1:] if it not in ("lib", "main")]
@@ -257,7 +257,7 @@ def text_of(folder: str, path: str) -> str:
 
 
 def asked_for(names: list[str]) -> dict[Crate, list[str]]:
-    """The files of the edits with these names, of whole crates or one by one, by their crates; of all where there are none."""
+    """The files of the edits with these names, by crate; all edits if there are no names."""
     crates = named(dict.fromkeys(name.partition("/")[0] for name in names))
     edits = {crate: {f"{crate.name}/{name_of(file)}": file for file in crate.edits()} for crate in crates}
     unknown = [name for name in names if "/" in name and not any(name in files for files in edits.values())]
@@ -276,7 +276,7 @@ def name_of(file: str) -> str:
 
 
 def show_list(edits: dict[Crate, list[str]]) -> None:
-    """Prints these edits, and how many there are."""
+    """Prints these edits and their number."""
     every, of_gate = 0, 0
     for crate, files in edits.items():
         gate = [file for file in files if f"/{OF_GATE}/" in file]
@@ -287,7 +287,7 @@ def show_list(edits: dict[Crate, list[str]]) -> None:
 
 
 def listed(file: str, folder: str, is_of_gate: bool) -> str:
-    """An edit as a line: where it changes what, and its mistake."""
+    """An edit as a line: the places that it changes, and its mistake."""
     try:
         edit = Edit(file, folder)
     except BadEdit as fault:
@@ -298,7 +298,7 @@ def listed(file: str, folder: str, is_of_gate: bool) -> str:
 
 
 def wrong_edits(edits: dict[Crate, list[str]]) -> int:
-    """Prints which of these edits can't be made, and how many can: how many not."""
+    """Prints the edits that cannot be applied, and returns their number."""
     every = wrong = 0
     for crate, files in edits.items():
         for file in files:

@@ -1,11 +1,10 @@
 #!/usr/bin/env python3
-"""Lays out the code of the crates as `rt fmt` does.
+"""Formats the code of the crates as `rt fmt` does, and breaks wide lines of proofs.
 
     tools/format.py [--check] [CRATE ..]
 
-All crates, or those that are named. Lines of proofs that have more than 100 columns are broken. With --check nothing
-is changed: the files are named that would be, and the lines that have more than 100 columns. The status is 1 where
-there are any.
+Formats the named crates, or all. Lines of proofs with more than 100 columns are broken. With --check it changes nothing and names
+the files that are not formatted and the lines with more than 100 columns. The last line counts them; the status is 1 if there are any.
 """
 import os
 import re
@@ -18,18 +17,17 @@ from tooling.narrow import narrowed
 from tooling.prover import Prover
 
 CHECK = "--check"
-# What has a layout.
+# The files that the formatter knows.
 LAID_OUT = (".rt", ".antt")
-# How many columns a line has at most, and what of a line may be wider: a text, an attribute of the prover, an import of
-# one name.
+# The limit of columns. Lines may be wider if they contain a text, an attribute of the prover, or an import of one name.
 COLUMNS = 100
-# How often a line is broken and laid out again, at most.
+# The limit of rounds of breaking and formatting.
 ROUNDS = 9
 WIDE = re.compile(r'"|\\$|^ *#!?\[|^(ghost |pub )?use [^,]*$')
 
 
 def lay_out(crates: list[Crate], how: str) -> list[str]:
-    """What `rattle fmt`, which `rt fmt` calls for each crate, says of all files: a line for each that is wrong."""
+    """The lines that `rattle fmt` prints for all files, one for each fault. `rt fmt` calls it for each crate."""
     files = [os.path.relpath(file, ROOT) for crate in crates for file in crate.files() if file.endswith(LAID_OUT)]
     ran = subprocess.run([f"{Prover().kit}/bin/rattle", "fmt", how, *files], cwd=ROOT, stdout=subprocess.PIPE, stderr=subprocess.STDOUT,
                          text=True, check=False)
@@ -40,7 +38,7 @@ def lay_out(crates: list[Crate], how: str) -> list[str]:
 
 
 def too_wide(crate: Crate) -> Iterator[str]:
-    """The crate's lines that have too many columns, each by its file and number."""
+    """The lines of a crate that are too wide, each as file and number."""
     for file in crate.files():
         for number, line in enumerate(lines_of(file), 1):
             if len(line) > COLUMNS and not WIDE.search(line):
@@ -53,7 +51,7 @@ def lines_of(file: str) -> list[str]:
 
 
 def narrow(crate: Crate) -> bool:
-    """Breaks the wide lines of a crate's proofs; whether there were any."""
+    """Breaks the wide lines of a crate's proofs. Returns whether there were any."""
     changed = False
     for file in crate.files():
         lines = lines_of(file)
@@ -72,7 +70,7 @@ def main(words: list[str]) -> int:
         faults = [*lay_out(crates, "--check"), *(place for crate in crates for place in too_wide(crate))]
     else:
         faults = lay_out(crates, "--write")
-        # What is broken is indented anew, and may be too wide again.
+        # The formatter indents broken lines anew, and the result may be too wide again.
         for _ in range(ROUNDS):
             if faults or not any([narrow(crate) for crate in crates]):
                 break

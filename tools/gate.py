@@ -1,12 +1,11 @@
 #!/usr/bin/env python3
-"""All tests that need no prover: the sources, the service, and what runs it.
+"""Runs all tests that need no prover: of the sources, of the service, and of the programs around it.
 
     tools/gate.py
 
-First the library in book/ has to be the proved one, of the crates as they lie here (tools/book.py). The steps are those of the lists
-below; at the end a table has the processor time of each, and the line before the last one all of it. The last line counts the
-steps that passed and failed, and the status is 0 if none failed. The logs are in out/logs. What the prover sees is tried by
-tools/prove.py.
+First it refuses to start unless the library in book/ is proved from the current sources (see tools/book.py). Then it runs the steps
+listed below. At the end a table has the processor time of each step, and the line before the last has the sum. The last line counts
+steps that passed and failed; the status is 0 if none failed. The logs are in out/logs. tools/prove.py tests what the prover sees.
 """
 import re
 import subprocess
@@ -19,12 +18,13 @@ from tooling.steps import Failed, Step, Steps, end_of, shown
 from book import fault_of_library, fault_of_sources, other_processor
 from service import made
 
-# The service, as cargo's steps below compile it with its tests: quickly. A release build takes twice what all of that does.
+# The service as cargo's steps below compile it with its tests. The dev profile is used because a release build takes
+# twice as long as all of them.
 PROGRAM = made("dev")
 
-# Of the sources alone: the definitions that docs/PROOFS.md counts and lists, what the service declares of the library, the words
-# that users read, the pictures, the Python, the checksums of Cargo.lock, and whether each wrong copy of the service, and each edit
-# of the crates, can still be made.
+# Checks of the sources alone: the definitions that docs/PROOFS.md counts and lists, the service's declarations of the
+# library, the pictures, the Python, the checksums in Cargo.lock, and whether each wrong copy of the service and each
+# edit of the crates can still be applied.
 TOOL_STEPS = (
     ("promise_is_counted", ["tools/promise.py", "--check"], 2),
     ("library_is_declared", ["tools/declared.py", "--check"], 1),
@@ -35,16 +35,16 @@ TOOL_STEPS = (
     ("wrong_copies_can_be_made", ["tools/wrong.py", "--check"], 1),
     ("edits_can_be_made", ["tools/edits.py", "--check"], 1),
 )
-# The service: cargo's steps, one after another over one folder. Nothing is compiled a second time here, so nothing is kept for
-# that. What `cargo clippy --all-targets -- -D warnings` checks, the library, the program and all tests, is what `cargo test`
-# compiles. Clippy's own compiler does both at once: it lints, and then compiles as the other does.
+# Cargo's steps, one after another in one target folder. Each compiles with clippy's compiler, which lints and then
+# compiles as rustc does. So `cargo test` also checks what `cargo clippy --all-targets -- -D warnings` does, and nothing
+# is compiled twice. Therefore incremental compilation would only cost time.
 LINTING = ("env", "RUSTC_WORKSPACE_WRAPPER=clippy-driver", "CLIPPY_ARGS=-Dwarnings", "CARGO_INCREMENTAL=0", "tools/cargo")
 CARGO_STEPS = (
     ("service_is_laid_out", ["tools/cargo", "fmt", "--check"]),
     ("service_is_built", [*LINTING, "test", "--no-run"]),
     ("service_tests", [*LINTING, "test"]),
 )
-# After the program's name: further words, and about how many seconds it takes.
+# The script, the arguments after the program's path, and about how many seconds it takes.
 SERVICE_STEPS: tuple[tuple[str, list[str], int], ...] = (
     ("service_load.py", ["50"], 90),
     ("by_hour.py", ["10"], 50),
@@ -55,8 +55,8 @@ SERVICE_STEPS: tuple[tuple[str, list[str], int], ...] = (
     ("behind_proxies.py", [], 60),
     ("store.py", ["60"], 120),
     ("store_goes_back.py", [], 90),
-    # Of several machines, shortly: `make several` tries more, store_peers.py among it, which waits for instances for minutes, and
-    # under_patroni.py, for which etcd and Patroni are installed. Without network namespaces several_machines.py is left out.
+    # Short tests of several machines. `make several` runs more: store_peers.py waits minutes for instances, and
+    # under_patroni.py needs etcd and Patroni. Without network namespaces several_machines.py is left out.
     ("orders_anywhere.py", [], 60),
     ("several_machines.py", ["60", "59", "--sink", "otlp"], 100),
     ("store_move.py", ["2"], 60),
@@ -78,21 +78,21 @@ SERVICE_STEPS: tuple[tuple[str, list[str], int], ...] = (
     ("unit_tasks.py", [], 5),
     ("package_installs.py", [], 15),
 )
-# These compile a program in Go: the second one takes from the first what both use.
+# Scripts that compile a program in Go. They run in turn, since the second one finds what both use in Go's cache.
 IN_GO = ("sdk_go.py", "demo.py")
 # These run no program.
 WITHOUT_PROGRAM = ("service_model.py", "runs_model.py", "sink_model.py", "cluster_model.py", "releases.py", "library.py", "drawn.py",
                    "words.py")
 # Of cargo's: they compile, and have all tests of the service in one step.
 CARGO_LIMIT = 1800
-# Which revision has passed here, wholly: tools/release.py asks.
+# Has the commit on which the whole gate has passed here; tools/release.py reads it.
 PASSED = f"{OUT}/passed"
-# A line of `cargo test` after the tests of one file.
+# The line that `cargo test` prints after the tests of each binary.
 TESTED = re.compile(r"test result: ok\. (\d+) passed")
 
 
 def cargo_steps() -> list[Step]:
-    """The steps of service/ that run no script, in order."""
+    """Cargo's steps, in order."""
     steps: list[Step] = []
     for name, command in CARGO_STEPS:
 
@@ -108,7 +108,7 @@ def cargo_steps() -> list[Step]:
 
 
 def service_steps(before: list[str]) -> list[Step]:
-    """The steps that run the service, after the one that builds it."""
+    """The steps that run scripts; those that run the service wait until it is built."""
     steps = [step_of(it, "", 60, False, []) for it in WITHOUT_PROGRAM]
     for script, words, seconds in SERVICE_STEPS:
         step = step_of(script, " ".join([PROGRAM, *words]), seconds, False, before, "service_")
@@ -120,12 +120,12 @@ def service_steps(before: list[str]) -> list[Step]:
 
 
 def clean_revision() -> str:
-    """The commit that the tree is, or nothing if it has changes."""
+    """The current commit, or "" if there are uncommitted changes."""
     return "" if said("git", "status", "--porcelain") else said("git", "rev-parse", "HEAD")
 
 
 def said(*command: str) -> str:
-    """What a command prints, or nothing if it fails."""
+    """The output of a command, or "" if it fails."""
     ran = subprocess.run(command, cwd=ROOT, stdout=subprocess.PIPE, stderr=subprocess.DEVNULL, text=True, check=False)
     return ran.stdout.strip() if ran.returncode == 0 else ""
 

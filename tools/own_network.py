@@ -1,9 +1,9 @@
 #!/usr/bin/env python3
-"""Runs a command in a network of its own: a loopback, on which every port is free.
+"""Runs a command in a network namespace of its own, which has only a loopback, on which every port is free.
 
     tools/own_network.py COMMAND ..
 
-Only root can have one. The status is 125 where there is none, else that of the command.
+Only root may create one. The status is 125 if that fails, and the command's status otherwise.
 """
 import ctypes
 import fcntl
@@ -12,7 +12,7 @@ import socket
 import struct
 import sys
 
-# Of <sched.h>, <linux/sockios.h> and <net/if.h>.
+# From <sched.h>, <linux/sockios.h> and <net/if.h>.
 CLONE_NEWNET = 0x40000000
 SIOCSIFFLAGS = 0x8914
 IFF_UP = 1
@@ -20,7 +20,8 @@ NO_NETWORK = 125
 
 
 def enter() -> None:
-    """This thread, and what it starts, has one of its own from here on. OSError where it may not."""
+    """Moves this thread, and all processes that it starts from now on, to a new network namespace. Raises OSError if
+    that is not permitted."""
     libc = ctypes.CDLL(None, use_errno=True)
     if libc.unshare(CLONE_NEWNET) != 0:
         raise OSError(ctypes.get_errno(), f"no network of its own: {os.strerror(ctypes.get_errno())}")

@@ -1,12 +1,11 @@
 #!/usr/bin/env python3
-"""Writes what a package has beside the programs, from the command line's own definition: the manual pages, the settings,
-and what shells complete by.
+"""Generates the manual pages, the settings file and the shell completions of a package from the definition of the command line.
 
     tools/pages.py TOTXEGUN FOLDER
 
-What is written by hand is packaging/options.toml and packaging/man. The definition is what `totxegun print options` says:
-a new option is in the page and in the settings by itself, and a text about one that is gone fails here. PREFIX (/usr/local)
-and SYSCONFDIR (/etc) name the places that the pages tell.
+The definition is what `totxegun print options` prints, so a new option appears in the pages and the settings by itself.
+packaging/options.toml and packaging/man are written by hand; a text about an option that no longer exists is an error. The
+environment variables PREFIX (/usr/local) and SYSCONFDIR (/etc) set the paths that the pages name. Status 1: a line says what is wrong.
 """
 import json
 import os
@@ -22,7 +21,7 @@ from tooling.crates import ROOT
 PACKAGING = f"{ROOT}/packaging"
 MAN = f"{PACKAGING}/man"
 WIDTH = 78
-# One sentence a line, as mdoc wants it.
+# Splits a text into sentences: mdoc wants each on a line of its own.
 SENTENCE = re.compile(r"(?<=[.!?])\s+(?=[A-Z])")
 VERSION_LINE = re.compile(r"^## (\d+\.\d+\.\d+), (\d{4}-\d\d-\d\d)$", re.MULTILINE)
 MONTHS = ("January February March April May June July August September October November December").split()
@@ -38,11 +37,11 @@ SETTINGS_HEAD = """\
 """
 
 
-# What the key of a setting begins with that is in the sink's table.
+# The prefix of the keys that are in the table of the sink.
 TABLE = "sink."
 
 
-# Its names, and what the program says of it.
+# The names of a command, and its definition as the program prints it.
 Command = tuple[tuple[str, ...], dict[str, Any]]
 
 
@@ -51,7 +50,7 @@ class Wrong(Exception):
 
 
 def definition(program: str) -> dict[str, Any]:
-    """The command line as the program describes it."""
+    """The command line, as the program describes it."""
     line: dict[str, Any] = json.loads(printed(program, "options"))
     return line
 
@@ -61,7 +60,7 @@ def printed(program: str, what: str) -> str:
 
 
 def hand_written(serve: dict[str, Any]) -> dict[str, Any]:
-    """What packaging/options.toml says of options, each of which the program has to have."""
+    """The texts of packaging/options.toml; raises Wrong if the program does not have an option that they name."""
     with open(f"{PACKAGING}/options.toml", "rb") as file:
         texts = tomllib.load(file)
     known = {option["long"] for option in serve["options"]}
@@ -74,7 +73,7 @@ def hand_written(serve: dict[str, Any]) -> dict[str, Any]:
 
 
 def version() -> tuple[str, str]:
-    """The version and its day: VERSION has to be the first one of CHANGELOG.md."""
+    """The version and its day. Raises Wrong if VERSION is not the first version of CHANGELOG.md."""
     with open(f"{ROOT}/VERSION", encoding="ascii") as file:
         number = file.read().strip()
     with open(f"{ROOT}/CHANGELOG.md", encoding="utf-8") as file:
@@ -89,7 +88,7 @@ def version() -> tuple[str, str]:
 
 
 def settings(serve: dict[str, Any], places: dict[str, str]) -> str:
-    """Lines of text for each setting, and a line with its default, after #. The table of the sink comes last, as TOML wants it."""
+    """The settings file: for each setting its help, and its default in a comment. TOML requires that the table of the sink comes last."""
     out = [SETTINGS_HEAD.replace("@SYSCONFDIR@", places["SYSCONFDIR"])]
     those = [option for option in serve["options"] if option["key"]]
     heading = None
@@ -129,7 +128,7 @@ def in_toml(value: str | None, is_list: bool) -> str:
 
 
 def in_mdoc(text: str) -> str:
-    """Text lines: a sentence a line, no line too long, and nothing that mdoc would take for its own."""
+    """Text in mdoc: one sentence for each line, no line too long, and nothing that mdoc would take for a macro."""
     text = text.replace("\\", "\\e").replace("\n", " ")
     text = re.sub(r"`([^`]*)`", r"\\(oq\1\\(cq", text)
     text = re.sub(r"(?<!\w)--(?=\w)", r"\\-\\-", text)
@@ -144,7 +143,7 @@ def with_point(text: str) -> str:
 
 
 def tag(option: dict[str, Any]) -> str:
-    """How an option is typed, after `.It`."""
+    """An option as one types it, for the line `.It`."""
     value = f" Ar {quoted(option['value'])}" if option["value"] else ""
     return f"Fl -{option['long']}{value}" if option["long"] else value.strip()
 
@@ -154,7 +153,7 @@ def quoted(word: str) -> str:
 
 
 def item(option: dict[str, Any], more: str = "") -> str:
-    """An option, its text, and what it is by default."""
+    """An option with its help and its default."""
     default = f" The default is {option['default']}." if option["default"] else ""
     one_of = f" It is {' or '.join(option['one_of'])}." if option["one_of"] else ""
     text = in_mdoc(with_point(option["help"]) + one_of + default)
@@ -167,7 +166,7 @@ def item(option: dict[str, Any], more: str = "") -> str:
 
 
 def lines_of(command: dict[str, Any], before: tuple[str, ...] = ()) -> list[Command]:
-    """A command, or the commands below it: their names and themselves."""
+    """A command, or the commands below it, each with its names."""
     if command["commands"]:
         return [it for below in command["commands"] for it in lines_of(below, (*before, command["name"]))]
     return [((*before, command["name"]), command)]
@@ -190,7 +189,7 @@ def synopsis_words(command: dict[str, Any]) -> list[str]:
 
 
 def shared(line: dict[str, Any]) -> list[dict[str, Any]]:
-    """Options that several commands have alike: they are told once."""
+    """The options that several commands have in the same form, which the page describes once."""
     lists = [command["options"] for names, command in all_commands(line) if names != ("serve",)]
     found: dict[str, dict[str, Any]] = {}
     for option in (option for options in lists for option in options):
@@ -211,7 +210,7 @@ def commands(line: dict[str, Any]) -> str:
 
 
 def headed(serve: dict[str, Any], texts: dict[str, Any]) -> str:
-    """The sections of options that have a heading of their own."""
+    """The sections of the options that have a heading."""
     out = []
     headings = dict.fromkeys(option["heading"] for option in serve["options"] if option["heading"])
     for heading in headings:

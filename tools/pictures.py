@@ -1,24 +1,26 @@
 #!/usr/bin/env python3
-"""Draws the pictures of docs/pictures, each from the description beside it, and gives their words to the pages.
+"""Draws the pictures of docs/pictures, each from its description, and writes their alt texts into the pages.
 
-    tools/pictures.py             writes docs/pictures/NAME.svg of each NAME.drawn, and its alt text wherever a page shows it
-    tools/pictures.py --check     whether just that is there, and each picture is shown: a step of the gate
+    tools/pictures.py             writes docs/pictures/NAME.svg for each NAME.drawn, and its alt text wherever a page shows it
+    tools/pictures.py --check     checks that these files are up to date and that each picture is shown: a step of the gate
 
-A description has a line for each thing, `#` begins a comment, and `/` begins a new line of words:
+A description has a line for each thing. `#` begins a comment, and `/` begins a new line of words:
 
     size WIDTH HEIGHT
-    alt WORDS                                 what the picture says, for who does not see it; of several lines one text
-    box NAME X Y WIDTH HEIGHT KIND | WORDS    its name first, in bold
-    frame NAME X Y WIDTH HEIGHT | WORDS       around boxes
+    alt WORDS                                 what the picture says, for readers who do not see it; several lines make one text
+    box NAME X Y WIDTH HEIGHT KIND | WORDS    begins with its name, in bold
+    frame NAME X Y WIDTH HEIGHT | WORDS       is drawn around boxes
     words X Y KIND ANCHOR | WORDS             KIND is - or bold or quiet, ANCHOR start, middle or end
-    arrow KIND END .. | WORDS                 from end to end, with words at its longest stretch. An END is NAME.SIDE,
-                                              with +N or -N from the middle of that side, or X,Y, where either may be
-                                              left out: as before
-    steps X Y WIDTH STEP COLUMN ..            then `step KIND | WORDS` is the next box below, and `kill WORDS | WORDS`
-                                              a mark behind it, with words in these columns
-    crates                                    the crates of crates.txt, each over what it uses; `note CRATE WORDS` says
-                                              what one is
-    laws                                      the proofs are asked which law rests on which: just these arrows are drawn
+    arrow KIND END .. | WORDS                 goes from end to end, with the words at its longest part. An END is NAME.SIDE,
+                                              with +N or -N to move it from the middle of that side; or X,Y, and without X
+                                              or Y it keeps that of the end before
+    steps X Y WIDTH STEP COLUMN ..            begins a column: `step KIND | WORDS` is the next box below, and
+                                              `kill WORDS | WORDS` a mark after it, with its words in these columns
+    crates                                    draws the crates of crates.txt, each above those that it uses; `note CRATE WORDS`
+                                              says what a crate is
+    laws                                      checks the arrows: there must be one for each law whose proof cites another
+
+Status 1: a line names the files that are not up to date, or the fault of a description.
 """
 import os
 import re
@@ -34,7 +36,7 @@ import promise
 FOLDER = f"{ROOT}/docs/pictures"
 PAGES = ["README.md", *(f"docs/{it}" for it in sorted(os.listdir(f"{ROOT}/docs")) if it.endswith(".md"))]
 SHOWN = re.compile(r"!\[[^\]]*\]\(((?:docs/)?pictures/(\w+)\.svg)\)")
-# The crates from here on are of tests.
+# This crate and the crates after it are for tests only.
 FIRST_TEST = "ensure"
 SIDES = {"left": (0, 0.5), "right": (1, 0.5), "top": (0.5, 0), "bottom": (0.5, 1)}
 END = re.compile(r"(?P<name>\w+)\.(?P<side>left|right|top|bottom)(?P<by>[+-]\d+)?$")
@@ -45,7 +47,7 @@ def split(text: str, by: str = "/") -> list[str]:
 
 
 class Description:
-    """A description, drawn line by line."""
+    """A description, which is drawn line by line."""
 
     def __init__(self, name: str) -> None:
         self.name = name
@@ -99,7 +101,7 @@ class Description:
             self.label(points, split(text))
 
     def point(self, end: str, before: Spot | None) -> tuple[Spot, bool]:
-        """Where an end is, and whether a line comes to it from the left or right."""
+        """The position of an arrow's end, and whether the line reaches it from the left or right."""
         at = END.match(end)
         if not at:
             x, _, y = end.partition(",")
@@ -110,7 +112,7 @@ class Description:
         return (left + (right - left) * u + (0 if is_across else by), top + (bottom - top) * v + (by if is_across else 0)), is_across
 
     def label(self, points: list[Spot], lines: list[str]) -> None:
-        """Words of a line: of a level one the first above it and the others below, else to its right."""
+        """Writes the words of a line. If the line is level, the first is above it and the others below; otherwise they are to its right."""
         (a, b), (x, y) = max(zip(points, points[1:]), key=lambda it: abs(it[0][0] - it[1][0]) + abs(it[0][1] - it[1][1]))
         for at, line in enumerate(lines):
             if b == y:
@@ -168,13 +170,13 @@ def shown_crates() -> list[Crate]:
 
 
 def direct(crate: Crate) -> list[Crate]:
-    """What a crate uses, but for what these use themselves."""
+    """The crates that a crate uses, without those that these use themselves."""
     implied = {it.name for below in crate.below for it in below.all_below()}
     return [it for it in crate.below if it.name not in implied]
 
 
 def made() -> dict[str, str]:
-    """What each file has to have, by its path."""
+    """The wanted content of each file, by its path."""
     files: dict[str, str] = {}
     alts: dict[str, str] = {}
     for name in sorted(it.removesuffix(".drawn") for it in os.listdir(FOLDER) if it.endswith(".drawn")):

@@ -1,17 +1,17 @@
 #!/usr/bin/env python3
-"""What the promise stands on: the definitions that the top contracts name, and those that these name, all the way down.
+"""Counts and lists what the promise rests on: the definitions that the top contracts name, and those that these name in turn.
 
-    tools/promise.py                    the number of each top contract, by tiers: of each what it adds to those before it
-    tools/promise.py TIER               the reading list of a tier, 1 for the store: what to read, lowest first, with lines
-                                        and with what is said of each definition before it
-    tools/promise.py CRATE FUNCTION     that of one contract
-    tools/promise.py --check            whether docs/PROOFS.md has these numbers and the files of the first tier, whether the tiers
-                                        have all definitions of each call that README or the list of contracts in PROOFS names,
-                                        and whether just that stands in specs/inner which no public contract needs: a step of the
-                                        gate
+    tools/promise.py                    the number for each top contract, by tiers: what it adds to those before it
+    tools/promise.py TIER               the reading list of a tier, 1 for the store: what to read, lowest first, with line numbers
+                                        and the comment of each definition
+    tools/promise.py CRATE FUNCTION     the reading list of one contract
+    tools/promise.py --check            a step of the gate. Checks that docs/PROOFS.md has these numbers and the files of the first
+                                        tier; that the tiers have all definitions of each call that README or the list of contracts
+                                        in PROOFS names; and that specs/inner has exactly the definitions that no public contract
+                                        needs
 
-It goes by names and imports, and reads no type: what a trait's function means, and the fields of types of src/, are not
-followed. What is named of src/ (types, constants) and of the toolchain's libraries is counted apart, each once.
+It follows names and imports and knows no types: it does not follow what a trait's function means, or the fields of types in src/.
+Names in src/ (types, constants) and in the toolchain's libraries are counted apart, each once.
 """
 from __future__ import annotations
 
@@ -25,8 +25,8 @@ from collections.abc import Iterable, Iterator, Sequence
 from tooling.crates import ROOT, read_crates
 from tooling.files import text_of
 
-# The top contracts by tiers: what a tier is, and of each crate the functions, or a file of
-# definitions; all that it exports if none is named. One who reads a tier has read those before it.
+# The top contracts by tiers: the tier's name, and for each crate the functions, or a file of definitions; no names
+# means everything that the crate exports. A reader of a tier has read those before it.
 TIERS: Sequence[tuple[str, Sequence[tuple[str, list[str]]]]] = (
     ("the store", (
         ("delta_book", ["specs/Calls", "admit", "undo", "confirm", "take", "settle", "drop_flush", "give_back", "quarantine",
@@ -51,47 +51,47 @@ TIERS: Sequence[tuple[str, Sequence[tuple[str, list[str]]]]] = (
         ("service_law", ["counting", "booking", "running"]),
     )),
 )
-# The contracts that do nothing, each a law: a crate, and where the answers to its goals are.
+# Contracts of functions that do nothing: each is a law. A crate, and the module with the answers to its goals.
 LAWS = (
     ("metric_events", "laws", ["striking", "balancing", "closing", "marking", "limiting", "recovery", "priming", "congruence"]),
     ("service_law", "counting", ["counting"]), ("service_law", "books", ["booking"]), ("service_law", "runs", ["running"]),
 )
 PROOFS = f"{ROOT}/docs/PROOFS.md"
-# In the name of each module that stands apart from what the promise says.
+# Part of the name of each module that the promise does not need.
 INNER = ".specs.inner."
 NUMBERED = "{definitions:,} definitions, {lines:,} lines in {files} files"
 APART = "{types} types and constants of `src/` and {kit} definitions and types of the kit"
-# Where docs/PROOFS.md says which contract says what, and a name in a text.
+# The section of docs/PROOFS.md that says which contract says what, and a call that a text names.
 CONTRACTS = "## Which contract says what"
 NAMED_CALL = re.compile(r"`(?:\w+::)*(\w+)(?:\(\))?`")
-# A file of the reading list of docs/PROOFS.md.
+# A file in the reading list of docs/PROOFS.md.
 LISTED = re.compile(r"^\d+\. `(\w+/specs/[\w/]+)`", re.MULTILINE)
 
 IMPORT = re.compile(r"^\s*(?:ghost |pub )*use Rattle\.([\w.]+)(?:\.\{([^}]*)\}| as (\w+))?;?$", re.MULTILINE)
 DEFINED = re.compile(r"^(?:(?:abbrev|unfoldable|pub|record|data) )*([^\s:({]+)")
 DIRECTIVE = re.compile(r"(pub )?(use|mod) ")
-# What stands before the code of a definition: its comment, and how its operator binds.
+# The lines before a definition's code: its comment, and its operator's fixity.
 BEFORE = re.compile(r"\s*(--|infix[lr]? )")
-# What begins at the margin of a file of src/, with what it may have further in.
+# An item at the margin of a file of src/. Methods are inside an `impl`.
 ITEM = re.compile(r"^(?P<public>pub )?(?:extern .C. )?(?:(?P<kind>fn|trait) (?P<name>\w+)|impl\b(?P<head>[^{]*)\{)", re.MULTILINE)
 METHOD = re.compile(r"^    (?P<public>pub )?fn (?P<name>\w+)", re.MULTILINE)
-# What an implementation gives in the place of a trait's own words.
+# The meaning that an implementation gives to a trait's `ghost` item.
 MEANT = re.compile(r"^    ghost \w+ [^;]*= [^;]*;$", re.MULTILINE)
-# The type of `impl<L: Round> Drop for Book<L>`, and whose trait it is.
+# For `impl<L: Round> Drop for Book<L>`: the trait `Drop` and the type `Book`.
 IMPLEMENTED = re.compile(r"(?:<.*?> )?(?:(?P<trait>\w+)(?:<.*>)? for )?(?P<type>\w+)")
 EXPORT = re.compile(r"^\s*pub (?:mod (\w+);|use [\w:]+?::(?:\{([^}]*)\}|(\w+));|"
                     r"(?:(?:extern .C. )?fn|trait|struct|enum) (\w+))", re.MULTILINE)
-# A word of a text, with what stands behind its dots; or an operator.
+# A word of a text with its dotted path, or an operator.
 WORD = re.compile(r"[\w']+(?:\.[\w']+)*|[^\w\s'.,;(){}\[\]]+")
 
 
-# A module, and a name there; and functions of crates.
+# A module and a name in it; and crates with functions.
 Named = tuple[str, str]
 Tops = Sequence[tuple[str, list[str]]]
 
 
 class Names:
-    """What the names of one file stand for: a module of the repository, and its name there."""
+    """Resolves the names of one file: to a module of the repository, and the name there."""
 
     def __init__(self, text: str) -> None:
         self.of: dict[str, Named] = {}
@@ -105,7 +105,7 @@ class Names:
                 self.modules[alias or module.rpartition(".")[2]] = module
 
     def meant(self, word: str) -> Named | None:
-        """The module and the name behind a word, where an import gives it."""
+        """The module and name that an import gives to a word; None if no import does."""
         first, _, rest = word.partition(".")
         if first in self.of:
             return self.of[first]
@@ -115,7 +115,7 @@ class Names:
 
 
 def parts_of(name: str) -> list[str]:
-    """The words by which a name is used: those of an operator are between its places."""
+    """The words that a use of the name contains: for an operator, the parts between its placeholders."""
     return [it for it in name.split("◌") if it] if "◌" in name else [name]
 
 
@@ -133,7 +133,7 @@ class Definition:
 
 
 class Specs:
-    """A file of specs/, or of proofs/."""
+    """A file of specs/ or proofs/."""
 
     def __init__(self, crate: str, path: str) -> None:
         self.crate = crate
@@ -147,7 +147,7 @@ class Specs:
         for block in text.split("\n\n"):
             code = [it for it in block.split("\n") if it and not BEFORE.match(it)]
             if code and DEFINED.match(code[0]) and not DIRECTIVE.match(code[0]):
-                # A blank line before it was split off.
+                # The split removed the blank line before a definition.
                 it = Definition(self, line, block.strip("\n"))
                 for part in parts_of(it.name):
                     self.definitions[part] = it
@@ -155,7 +155,7 @@ class Specs:
 
 
 def exports(folder: str, module: str) -> set[str]:
-    """The names that a module of src/ gives to those who use the crate."""
+    """The names that a module of src/ exports from the crate."""
     path = f"{folder}/{module}.rt"
     found: set[str] = set()
     if os.path.isfile(path):
@@ -173,7 +173,7 @@ def public_contracts(text: str, exported: set[str]) -> Iterator[tuple[str, str]]
                 yield it["name"], block(text, it.start()) if it["kind"] == "trait" else signature(text, it.start(), "")
             continue
         of = IMPLEMENTED.match(it["head"].strip())
-        # How a type is kept is nobody's to know.
+        # A type's `Model` says how the type is kept, which no user of the crate knows.
         if of["type"] in exported and of["trait"] != "Model":
             inside = block(text, it.start())
             if of["trait"]:
@@ -184,19 +184,19 @@ def public_contracts(text: str, exported: set[str]) -> Iterator[tuple[str, str]]
 
 
 def block(text: str, start: int) -> str:
-    """An item from here to the brace that ends it at the margin."""
+    """The text of an item up to its closing brace at the margin."""
     end = re.compile(r"^\}|\{\}$", re.MULTILINE).search(text, start)
     return text[start:end.end()]
 
 
 def signature(text: str, start: int, indent: str) -> str:
-    """A function from here to its body."""
+    """The text of a function up to its body."""
     end = re.compile(rf"^{indent}\{{|[;{{]$|\{{\}}$", re.MULTILINE).search(text, start)
     return text[start:end.start() if end else None]
 
 
 class Promise:
-    """All files of specs/, by their modules; and those of proofs/, where they are asked for."""
+    """All files of specs/ by module; also those of proofs/ if they are asked for."""
 
     def __init__(self, parts: Sequence[str] = ("specs",)) -> None:
         self.crates = list(read_crates())
@@ -207,7 +207,7 @@ class Promise:
                 self.files[file.module] = file
 
     def meant(self, names: Names, word: str, file: Specs | None = None) -> Definition | Named | None:
-        """What a word of a text with these imports stands for: a definition, or a module elsewhere and its name there."""
+        """What a word means in a text with these imports: a definition, or the module and name of something elsewhere."""
         if file and word.partition(".")[0] in file.definitions:
             return file.definitions[word.partition(".")[0]]
         meant = names.meant(word)
@@ -218,11 +218,11 @@ class Promise:
         for part in parts_of(name):
             if part in target.definitions:
                 return target.definitions[part]
-        # It is passed on from another file.
+        # That file imports the name from a further one.
         return self.meant(target.names, parts_of(name)[0])
 
     def named(self, names: Names, text: str, file: Specs | None = None) -> set[Definition | Named]:
-        """All that a text names; a step with an arrow names its operator."""
+        """Everything that a text names. An arrow of a `do` step names the operator of its type."""
         found = (self.meant(names, word, file) for word in WORD.findall(text.replace("←", ">>=")))
         return {it for it in found if it}
 
@@ -231,7 +231,7 @@ class Promise:
         return {it for it in self.named(names, text, file) if isinstance(it, Definition)}
 
     def apart(self, definitions: Iterable[Definition], tops: Tops) -> tuple[set[Named | str], set[Named | str]]:
-        """What definitions and the contracts of these functions name elsewhere: of src/, and of the toolchain's libraries."""
+        """What these definitions and the contracts of these functions name outside specs/: in src/, and in the toolchain's libraries."""
         found: set[Definition | Named] = set().union(*(self.named(it.file.names, it.code, it.file) for it in definitions))
         for crate, names in tops:
             for function, contract, imports in self.contracts(crate):
@@ -239,14 +239,14 @@ class Promise:
         own: set[Named | str] = set()
         kit: set[Named | str] = set()
         for module, name in (it for it in found if isinstance(it, tuple)):
-            # A type counts once, however many of its variants are named.
+            # A type counts once, even if several of its variants are named.
             is_type = ".declared." in module and not module.endswith(".TheConstants")
             side = own if module.partition(".")[0] in self.crates else kit
             side.add(module.removesuffix(".TheVariants") if is_type else (module, name))
         return own, kit
 
     def below(self, definitions: Iterable[Definition]) -> set[Definition]:
-        """These, and all that they name."""
+        """These definitions and all that they rest on."""
         seen: set[Definition] = set()
         left = list(definitions)
         while left:
@@ -257,7 +257,7 @@ class Promise:
         return seen
 
     def contracts(self, crate: str) -> Iterator[tuple[str, str, Names]]:
-        """The text that says what each public function or trait of a crate does, by its name, with the file's imports."""
+        """For each public function or trait of a crate: its name, the text of its contract, and the imports of its file."""
         exported = exports(f"{ROOT}/crates/{crate}/src", "lib")
         for path in sorted(glob.glob(f"{ROOT}/crates/{crate}/src/**/*.rt", recursive=True)):
             text = text_of(path)
@@ -266,7 +266,7 @@ class Promise:
                 yield name, contract, names
 
     def of(self, crate: str, name: str) -> set[Definition]:
-        """All that a top contract stands on."""
+        """All definitions that a top contract rests on."""
         if name.startswith("specs/"):
             return self.below(self.files[f"{crate}.{name.replace('/', '.')}"].definitions.values())
         roots: set[Definition] = set()
@@ -276,7 +276,7 @@ class Promise:
         return self.below(roots)
 
     def in_order(self, definitions: Iterable[Definition]) -> list[tuple[Specs, list[Definition]]]:
-        """Lowest first: by crate, in a crate each file behind those that it names, in a file as it stands."""
+        """Lowest first: by crate; in a crate each file after those that it names; in a file as it stands."""
         wanted: dict[Specs, list[Definition]] = {}
         for it in sorted(definitions, key=lambda it: (self.crates.index(it.file.crate), it.file.module, it.line)):
             wanted.setdefault(it.file, []).append(it)
@@ -330,7 +330,7 @@ def all_of(promise: Promise, crate: str) -> list[str]:
 
 
 def not_counted(promise: Promise, all_tiers: list[Tier]) -> Iterator[str]:
-    """What README and the list of PROOFS name of the crates, and no tier has whole in any of them, a line each."""
+    """The calls that README and the list of PROOFS name and that no tier covers completely, one line each."""
     calls: dict[str, list[str]] = {}
     for crate in promise.crates:
         for name in all_of(promise, crate):
@@ -385,7 +385,8 @@ def show_list(promise: Promise, found: set[Definition]) -> None:
 
 
 def laws() -> set[tuple[str, str]]:
-    """Which law rests on which: its proofs, all the way down, cite a lemma that proves a clause of the other. Each by its nearest."""
+    """The pairs of laws in which the first rests on the second: its proof cites, directly or not, a lemma that proves a
+    clause of the second. Only the nearest ones."""
     promise = Promise(("specs", "proofs"))
     clauses: dict[str, set[Definition]] = {}
     reached: dict[str, set[Definition]] = {}
@@ -399,7 +400,7 @@ def laws() -> set[tuple[str, str]]:
 
 
 def public(promise: Promise) -> set[Definition]:
-    """All that public contracts need."""
+    """All definitions that public contracts need."""
     found: set[Definition] = set()
     for crate in promise.crates:
         for _, contract, names in promise.contracts(crate):
@@ -408,7 +409,7 @@ def public(promise: Promise) -> set[Definition]:
 
 
 def misplaced(promise: Promise) -> Iterator[str]:
-    """What stands on the wrong side of specs/inner, a line each."""
+    """The definitions that are on the wrong side of specs/inner, one line each."""
     needed = public(promise)
     for module, file in promise.files.items():
         path, is_inner = os.path.relpath(file.path, ROOT), INNER in module

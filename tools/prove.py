@@ -1,16 +1,16 @@
 #!/usr/bin/env python3
-"""All that the prover sees, and the library in book/ compared with what the proofs yield.
+"""Runs the prover from nothing with all tests of what it sees, and compares the library in book/ with the proofs' result.
 
     tools/prove.py
 
-`rt ci` proves every crate from nothing, tries the edits of must-fail/ and runs the tests and the programs; over what it has
-proved the library is built and compared with book/libbook.a, byte for byte. Then come the steps below: those that need the
-toolchain, and the scripts of tests/ that run `play` and `gateway`, which end up in bin/. If the sources of the crates have
-changed since book/PROVENANCE was written and all of it has passed, book/ is written anew, to be committed. If they have not,
-a library that differs is a fault.
+`rt ci` proves every crate from nothing, tries the edits of must-fail/ and runs the tests and programs. Then the library is built
+over what it has proved and compared with book/libbook.a, byte for byte. The steps below follow: those that need the toolchain, and
+the scripts of tests/ that run `play` and `gateway`, which are copied to bin/. If the sources of the crates have changed since
+book/PROVENANCE was written and everything passes, it rewrites book/, to be committed. If they have not changed, a library that
+differs is a fault.
 
-At the end a table has the processor time of each step, and the line before the last one that of the parts; the last one
-counts the crates, edits and steps that passed and failed. The status is 0 if none failed. The logs are in out/logs.
+At the end a table has the processor time of each step, and the line before the last has the sums of the parts. The last line counts
+the crates, edits and steps that passed and failed. The status is 0 if none failed. The logs are in out/logs.
 """
 import os
 import re
@@ -32,8 +32,8 @@ from service import install
 
 PLAY = "crates/play/out/play"
 GATEWAY = "crates/gateway/out/gateway"
-# Each is a script of tests/, the program that it runs, about how many seconds it takes, and whether it
-# measures time, so that nothing may run beside it. Those that take longest come first.
+# A script of tests/, the program that it runs, about how many seconds it takes, and whether it measures time, so that
+# nothing may run beside it. The longest come first.
 STEPS = (
     ("slow_parties.py", GATEWAY, 70, False),
     ("gateway_sizes.py", GATEWAY, 30, False),
@@ -52,15 +52,15 @@ STEPS = (
     ("readme_examples.py", PLAY, 1, False),
     ("gateway_load.py", GATEWAY, 5, True),
 )
-# These need the toolchain: the layout of the crates.
+# Steps that need the toolchain.
 TOOL_STEPS = (("crates_are_laid_out", ["tools/format.py", "--check"], 3),)
-# These run the service too: compiled as the tests have it, over the library that was built here.
+# This script also runs the service, which is compiled with the profile of the tests over the library that was built here.
 OVER_SERVICE = ("same_answers.py", f"{PROGRAM} {GATEWAY}", 100, False)
-# Of a commit's name, in PROVENANCE.
+# How many digits of a commit PROVENANCE has.
 DIGITS = 12
 
 COUNTS = re.compile(r"(\d+) passed, (\d+) failed$")
-# Lines of `rt ci` as it goes: what a reader waits for, and what is wrong.
+# Lines of `rt ci`: its progress, and faults.
 PROVED = re.compile(r"rt: (\w+)(?:: (its tests) are)? proved$")
 TRYING = re.compile(r"rt: (\w+): trying its must-fail edits \((\d+)\)$")
 WRONG = re.compile(r"rt: .*(NOT PROVED|its tests FAILED)$")
@@ -70,7 +70,7 @@ IS_TEST = re.compile(rb"#\[test\]")
 
 
 class Prover:
-    """One run of `rt ci`, shown as it goes."""
+    """One run of `rt ci`, with its progress."""
 
     def __init__(self) -> None:
         crates = read_crates().values()
@@ -142,7 +142,7 @@ def is_same() -> bool:
 
 
 def service_step() -> Step:
-    """The step that compiles the service over the library that was built here, as `make test` does it."""
+    """The step that compiles the service over the library that was built here, with the profile of `make test`."""
 
     def work(step: Step) -> str:
         words = [] if is_same() and not fault_of_library() else ["env", f"TOTXEGUN_BOOK={os.path.dirname(TRIED)}"]
@@ -154,7 +154,7 @@ def service_step() -> Step:
 
 
 def steps_after() -> list[Step]:
-    """What is run over the programs and the library, once they are there."""
+    """The steps that run the programs and the library after they are built."""
     before = networks()
     last = step_of(*OVER_SERVICE, before)
     last.after = ["service_is_built"]
@@ -166,7 +166,7 @@ def printed(*command: str) -> str:
 
 
 def write_book(gate: str) -> None:
-    """Puts the library into book/, with what it was built of and what proved it."""
+    """Writes the library into book/, with PROVENANCE, which says what it was built from and what proved it."""
     revision = printed("git", "log", "-1", "--format=%H", "--", "crates", *BESIDE)[:DIGITS]
     lines = [
         f"sha256 {digest_of(content(TRIED))}",

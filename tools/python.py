@@ -1,10 +1,10 @@
 #!/usr/bin/env python3
-"""Checks the Python of tools/, tests/, bench/ and demo/: its types by mypy, its style by flake8, and that each command has a head.
+"""Checks the Python of tools/, tests/, bench/ and demo/: types by mypy, style by flake8, and that each command has a head.
 
     tools/python.py [--check]
 
-Both go by setup.cfg. By its head `make tried` lists a command. Nothing is written, with --check or without. The status is 1
-where anything is wrong.
+setup.cfg configures both. A command needs a head because `make tried` lists it by its head. The command never writes anything, with
+--check or without. The last line counts the faults; the status is 1 if there are any.
 """
 import os
 import subprocess
@@ -13,12 +13,12 @@ import sys
 from tooling.crates import OUT, ROOT
 from tooling.heads import commands, head_of
 
-# Each folder with those whose modules it imports.
+# Each folder, with the folders whose modules it imports.
 FOLDERS: dict[str, tuple[str, ...]] = {"tools": (), "tests": ("tools", "demo"), "bench": ("tests", "tools"), "demo": ("tests", "tools")}
 
 
 def run(folder: str, command: list[str], path: str = "") -> int:
-    """Whether a program finds anything wrong in a folder: 1, or 0."""
+    """Runs a program on a folder. Returns 1 if the program finds a fault, and 0 otherwise."""
     environment = {**os.environ, "MYPYPATH": path}
     try:
         ran = subprocess.run([*command, folder], cwd=ROOT, env=environment, check=False)
@@ -28,7 +28,7 @@ def run(folder: str, command: list[str], path: str = "") -> int:
 
 
 def without_head(folder: str) -> int:
-    """How many commands of a folder have no head; each is named."""
+    """Prints the commands of a folder that have no head, and returns their number."""
     names = [os.path.basename(path) for path in commands(folder) if not head_of(path)]
     for name in names:
         print(f"{folder}/{name} has no head")
@@ -42,7 +42,7 @@ def main(words: list[str]) -> int:
     for folder, others in FOLDERS.items():
         faults += without_head(folder)
         faults += run(folder, ["flake8"])
-        # What one folder imports of another, and of Python, is read once for all.
+        # One cache for all folders, so that mypy reads a module that several import only once.
         faults += run(folder, ["mypy", "--cache-dir", f"{OUT}/mypy"], ":".join((folder, *others)))
     print(f"{len(FOLDERS)} folders of Python, {faults} with faults")
     return 1 if faults else 0

@@ -1,9 +1,9 @@
 #!/usr/bin/env python3
-"""Tries one part, in seconds to two minutes: tools/quick.py NAME
+"""Checks and tests one part, in seconds to two minutes: tools/quick.py NAME
 
-NAME is a crate, or a folder or file of service/src. Of a crate: its check over what an earlier one has kept, and the tests of
-each crate above it, unproved. Of the service: what the compiler and clippy say, and the tests of that part. Each command
-is shown with how long it took. It is not the gate: CONTRIBUTING.md says what else to run.
+NAME is a crate, or a folder or file of service/src. For a crate it runs the crate's check over what an earlier check has kept, and
+the tests of each crate above it, unproved. For a part of the service it runs clippy and the tests of that part. It prints each
+command and how long it took; the status is 1 after the first that fails. This is not the gate: CONTRIBUTING.md says what else to run.
 """
 import os
 import subprocess
@@ -18,7 +18,7 @@ SOURCE = f"{ROOT}/service/src"
 
 
 def commands_of_crate(crate: Crate, crates: dict[str, Crate]) -> list[tuple[list[str], str]]:
-    """Commands, each with the folder where it runs."""
+    """The commands, each with the folder in which it runs."""
     above = [it for it in crates.values() if crate in (it, *it.all_below()) and has_tests(it)]
     return [([f"{ROOT}/tools/check.py", crate.name], ROOT), *((["rt", "try", "--test"], it.folder) for it in above)]
 
@@ -28,7 +28,7 @@ def has_tests(crate: Crate) -> bool:
 
 
 def commands_of_service(part: str) -> list[tuple[list[str], str]]:
-    """The same of a part of the service, as its path below src says."""
+    """The same for a part of the service, given by its path below src."""
     module = part.removesuffix(".rs").removesuffix("/mod").replace("/", "::")
     cargo = f"{ROOT}/tools/cargo"
     return [

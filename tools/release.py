@@ -1,9 +1,10 @@
 #!/usr/bin/env python3
-"""Makes a release of what is committed: tools/release.py VERSION
+"""Makes a release of the current commit: tools/release.py VERSION
 
-The tree has to be clean, and `make test` to have passed on it here. CHANGELOG.md's `Unreleased` becomes the version, each
-file that names the last one names this one; that is committed and tagged. Then all is built, and out/release has the package,
-the image, what both are made of, and SHA256SUMS. Nothing is pushed. Where the tag is there already only the files are made.
+The tree must be clean, and `make test` must have passed on this commit here. In CHANGELOG.md `Unreleased` becomes VERSION, and each
+file that names the last version gets the new one; the script commits and tags that. Then it builds everything: out/release gets the
+package, the image, the lists of their parts, and SHA256SUMS. Nothing is pushed. If the commit already has the tag, only the files are
+made. Status 1: a line says why there is no release.
 """
 import datetime
 import os
@@ -20,7 +21,7 @@ MADE = f"{OUT}/release"
 CHANGELOG = f"{ROOT}/CHANGELOG.md"
 FORM = re.compile(r"\d+\.\d+\.\d+")
 UNRELEASED = "## Unreleased\n"
-# Files that name the version, each by a text around it.
+# The files that name the version, each with the text around it.
 NAMING = (
     ("VERSION", "{}"),
     ("service/Cargo.toml", 'version = "{}"'),
@@ -39,7 +40,7 @@ def git(*words: str) -> str:
 
 
 def check(version: str) -> None:
-    """Whether all is ready for a version after the last one."""
+    """Refuses unless everything is ready for a version after the last one."""
     last = text_of(f"{ROOT}/VERSION").strip()
     if not FORM.fullmatch(version) or numbers(version) <= numbers(last):
         raise Refused(f"a version is three numbers, and comes after {last}: {version} does not")
@@ -57,7 +58,7 @@ def numbers(version: str) -> list[int]:
 
 
 def name(version: str, day: str) -> None:
-    """Writes the version wherever the last one is named."""
+    """Replaces the last version's number in all files that name it."""
     last = text_of(f"{ROOT}/VERSION").strip()
     for file, around in NAMING:
         text = text_of(f"{ROOT}/{file}")
@@ -77,7 +78,7 @@ def is_tagged(version: str) -> bool:
 
 
 def make(version: str) -> None:
-    """Builds what is released."""
+    """Builds the files of the release."""
     shutil.rmtree(MADE, ignore_errors=True)
     os.makedirs(MADE)
     for command in (["tools/service.py"], ["tools/deb.py"], ["tools/image"], ["tools/contents.py", "bin/totxegun", MADE]):

@@ -1,11 +1,11 @@
 #!/usr/bin/env python3
-"""Serves: compiles what is missing, and runs `totxegun serve` with a SQLite file as its sink.
+"""Compiles what is missing, and runs `totxegun serve` with a SQLite file as its sink.
 
     tools/serve.py [PORT]
 
-Senders post to 127.0.0.1, port 4318 or PORT, and call gRPC at the port before it; operators read at the port after it. What was
-taken is kept in out/serve/data over runs. An interrupt ends the service. tools/service.py compiles it, by the quicker profile,
-with the proved library in book/.
+Senders post to 127.0.0.1 on PORT (4318), and call gRPC at the port before it; the next port is the admin API. Accepted points stay
+in out/serve/data from run to run. An interrupt ends the service. tools/service.py compiles it with the dev profile and the proved
+library in book/. The status is the service's, or 1 if a port is taken or the build fails.
 """
 import os
 import signal
@@ -33,7 +33,7 @@ What was taken is in {data}: it is there after a kill, and in the next run. Ctrl
 
 
 def body() -> str:
-    """A sum's point of the last ten seconds."""
+    """A body with one point of a sum, which covers the last ten seconds."""
     now = time.time_ns()
     point = f'{{"asInt":"5","startTimeUnixNano":"{now - 10_000_000_000}","timeUnixNano":"{now}"}}'
     metric = f'{{"name":"a","sum":{{"aggregationTemporality":1,"isMonotonic":true,"dataPoints":[{point}]}}}}'
@@ -51,13 +51,13 @@ def is_free(port: int) -> bool:
 
 
 def listens(port: int) -> bool:
-    """Whether someone listens there, by the kernel's table: a connection would be served."""
+    """Whether someone listens, by the kernel's table: the service would serve a test connection."""
     with open("/proc/net/tcp", encoding="ascii") as table:
         return f"0100007F:{port:04X} 00000000:0000 0A" in table.read()
 
 
 def serve(program: str, port: int) -> int:
-    """Runs the service until it ends, or is interrupted, and returns its status."""
+    """Runs the service until it ends or is interrupted, and returns its status."""
     words = ["--data", f"{FOLDER}/data", "--flush-interval", "10s"]
     words += ["--listen-grpc", f"127.0.0.1:{port - 1}", "--listen", f"127.0.0.1:{port}", "--admin", f"127.0.0.1:{port + 1}"]
     service = subprocess.Popen([program, "serve", *words], stdin=subprocess.DEVNULL, start_new_session=True)

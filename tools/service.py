@@ -1,10 +1,10 @@
 #!/usr/bin/env python3
-"""Builds the service, release, into bin/totxegun: from book/ and service/, without the prover.
+"""Builds the service's release profile into bin/totxegun, from book/ and service/, without the prover.
 
     tools/service.py
 
-It installs the packages of Debian that are missing, checks the proved library in book/, and compiles. Each step says what it
-does and how long it took. What is wrong is one line, and the status is 1.
+It installs missing Debian packages, checks the proved library in book/, and compiles. Each step prints what it does and how long it
+took. If one fails, a line says what is wrong, and the status is 1.
 """
 import os
 import shutil
@@ -18,7 +18,7 @@ from book import fault_of_library, other_processor
 
 PROGRAM = "totxegun"
 BIN = f"{ROOT}/bin"
-# What cargo calls the folder of each profile, and about how long it compiles all, in minutes on 4 idle cores.
+# Cargo's folder for each profile, and about how many minutes a full build takes on 4 idle cores.
 FOLDERS = {"dev": "debug", "release": "release"}
 MINUTES = {"dev": 2, "release": 5}
 
@@ -30,19 +30,19 @@ def made(profile: str) -> str:
 
 
 def is_done(*words: str) -> bool:
-    """Whether a command of tools/ ends well; what is wrong it says itself."""
+    """Whether a command of tools/ succeeds. If it fails, it prints why."""
     return subprocess.run([f"{ROOT}/tools/{words[0]}", *words[1:]], check=False).returncode == 0
 
 
 def fault() -> str | None:
-    """Why it can't be built here, as far as that is seen before anything is installed or compiled."""
+    """Why the service cannot be built here, as far as this is known before anything is installed or compiled; None if it can."""
     if found := other_processor():
         return found
     return None if os.environ.get("TOTXEGUN_BOOK") else fault_of_library()
 
 
 def build(profile: str) -> str | None:
-    """The path of the program, compiled anew if its sources have changed; nothing if that fails."""
+    """Builds the program if its sources have changed, and returns its path; None if that fails."""
     if found := fault():
         print(found, file=sys.stderr)
         return None
@@ -59,7 +59,7 @@ def build(profile: str) -> str | None:
 
 
 def install(program: str, name: str) -> None:
-    """Puts a program into bin/, also if the one that lies there is running."""
+    """Replaces a program in bin/. Renaming works even while the old program is running."""
     os.makedirs(BIN, exist_ok=True)
     shutil.copy2(program, f"{BIN}/{name}.new")
     os.replace(f"{BIN}/{name}.new", f"{BIN}/{name}")

@@ -1,9 +1,9 @@
 #!/usr/bin/env python3
-"""Lists what is tried, each by what its own head says: the scripts of tests/, the crates of tests, the tests of the service.
+"""Lists all tests, each by its own head: the scripts of tests/, the crates of tests, the tests of the service.
 
     tools/tried.py [WORD]
 
-With a word only those whose name or head has it; with `tools`, `bench` or `demo` the commands of that folder.
+With a word it lists only tests with the word in their name or head; with `tools`, `bench` or `demo` the commands of that folder.
 """
 import glob
 import os
@@ -18,9 +18,9 @@ from tooling.heads import commands, first_paragraph, head_of
 
 RUST_HEAD = re.compile(r"(?://!.*\n)+")
 TEST = re.compile(r"#\[(?:tokio::)?test\b")
-# The folders with commands that try nothing.
+# Folders with commands that test nothing.
 OTHERS = ("tools", "bench", "demo")
-# A file of the service that has tests alone.
+# A file of the service that contains only tests.
 OF_TESTS = re.compile(r"service/tests/|/tests/|tests\.rs$")
 
 

@@ -1,19 +1,18 @@
 #!/usr/bin/env python3
-"""Tries wrong copies of the service: a test has to find what is wrong with each.
+"""Builds wrong copies of the service: for each a test must find the mistake.
 
     tools/wrong.py [NAME ..]
-    tools/wrong.py --check            whether all can be made, and have a test of that name: a step of the gate, builds nothing
-    tools/wrong.py --right [NAME ..]  whether their tests pass on the service as it is: else what they find is no wrong copy
+    tools/wrong.py --check            only checks that each can be made and that its test exists: a step of the gate, builds nothing
+    tools/wrong.py --right [NAME ..]  checks that their tests pass on the unchanged service; otherwise a test that fails proves nothing
 
-Each file service/wrong/NAME.edit breaks one rule. It names the test that has to find this: a script of tests/ with the
-words after its program, or the words of `cargo test`. The rest has the form of an edit of a crate: lines `file:`, `old:`,
-`new:`, where the old text is in that file exactly once. All edits, or those that are named, are tried one after another: the
-copy is built in out/wrong, over the library in book/ or in $TOTXEGUN_BOOK, and the test is run on it, up to three
-times, until a check of what was taken, sent or refused fails; that ends the run. A copy that can't be built, or that does
-not start, was not found.
+Each file service/wrong/NAME.edit breaks one rule and names the test that must find it: a script of tests/ with the arguments after
+its program, or the arguments of `cargo test`. The other lines are `file:`, `old:` and `new:`, as in an edit of a crate; the old text
+must occur exactly once in the file. The edits are tried one after another: the copy is built in out/wrong over the library in book/
+or in $TOTXEGUN_BOOK, and the test runs on it up to three times, until a check of what was accepted, sent or refused fails. The first
+such failure ends the run. A mistake is not found if the copy cannot be built or does not start.
 
-A line for each edit; the last line counts those that were found and those that were not, and the status is 0 where all
-were. The logs are in out/logs.
+It prints a line for each edit. The last line counts the edits that were found and not found; the status is 0 if all were found.
+The logs are in out/logs.
 """
 import contextlib
 import functools
@@ -35,32 +34,32 @@ from tooling.steps import LOGS
 
 EDITS = f"{ROOT}/service/wrong"
 FOLDER = f"{OUT}/wrong"
-# As tests are compiled: quickly, and what one copy has built is for the next.
+# The dev profile, as for tests, compiles quickly; a copy is built over what the copies before it have compiled.
 PROGRAM = f"{FOLDER}/service/target/debug/totxegun"
 CARGO = f"{FOLDER}/tools/cargo"
-# What is copied of service/, and what the build of its program and tests reads beside it.
+# The parts of service/ that are copied, and other files that the build of its program and tests reads.
 PARTS = ("Cargo.toml", "Cargo.lock", "build.rs", "rustfmt.toml", "clippy.toml", "src", "tests")
 BESIDE = ("VERSION", "docs/FORMATS.md", "docs/OPERATING.md")
 # The library that a copy is linked with.
 BOOK = os.path.abspath(os.environ.get("TOTXEGUN_BOOK") or f"{ROOT}/book")
-# How often a test is run at most. The load has another seed each time, after its seconds.
+# The limit of runs of a test. Each run of the load test has another seed, which comes after its seconds.
 RUNS = 3
 LOAD = "service_load.py"
-# How a check begins that has seen the fault: what was taken, sent or refused is wrong. One that only says that it does not
-# start, or is late, has not.
+# The beginning of a failed check that proves that the test saw the mistake: something accepted, sent or refused is
+# wrong. A check that only says that the service did not start, or was late, does not count.
 SEEN = re.compile(r"failed: [^:]*: (?:no post was answered otherwise|late repeats|the service found nothing|no spans|a key brings"
                   r"|posts are answered|the sink has|\[|it went on|a post was answered|.* found 'it serves'$)|test .* FAILED$")
 LIMIT = 1200
-# For what a test keeps, where there is such a folder.
+# The files of a test are kept in memory if this folder exists.
 MEMORY = "/dev/shm" if os.access("/dev/shm", os.W_OK) else None
 
 
 class BadEdit(Exception):
-    """Why an edit can't be made."""
+    """Why an edit cannot be applied."""
 
 
 def copy_service() -> None:
-    """The service as it is, beside what earlier copies have built."""
+    """Copies the current service over the last copy, and keeps what earlier copies have compiled."""
     os.makedirs(f"{FOLDER}/service", exist_ok=True)
     os.makedirs(f"{FOLDER}/tools", exist_ok=True)
     os.makedirs(f"{FOLDER}/docs", exist_ok=True)
@@ -71,7 +70,7 @@ def copy_service() -> None:
         source, copy = f"{ROOT}/service/{part}", f"{FOLDER}/service/{part}"
         if os.path.isdir(source):
             shutil.rmtree(copy, ignore_errors=True)
-            # With new times, so that cargo sees what an earlier copy had otherwise.
+            # `shutil.copy` gives the files new times; with the old ones cargo would not see that an edit is gone.
             shutil.copytree(source, copy, copy_function=shutil.copy)
         elif os.path.exists(source):
             shutil.copy(source, copy)
@@ -79,7 +78,7 @@ def copy_service() -> None:
 
 class Edit(NamedTuple):
     test: str
-    # The text of each file of service/ that is wrong.
+    # The changed text of each file of service/, by its path.
     files: dict[str, str]
 
 
@@ -106,20 +105,20 @@ def read_edit(name: str) -> Edit:
 
 
 def make(edit: Edit) -> None:
-    """Makes an edit in the copy."""
+    """Applies an edit to the copy."""
     for path, text in edit.files.items():
         write(f"{FOLDER}/service/{path}", text)
 
 
 @functools.cache
 def names_of_tests(folder: str) -> str:
-    """The names of all functions of a folder of service/, one a line."""
+    """The names of all functions in a folder of service/, one in each line."""
     files = [f"{place}/{file}" for place, _, found in os.walk(f"{ROOT}/service/{folder}") for file in found]
     return "\n".join(name for file in files if file.endswith(".rs") for name in re.findall(r"fn (\w+)", text_of(file)))
 
 
 def check(name: str) -> None:
-    """Fails where an edit can't be made, or no test is there that it names."""
+    """Raises BadEdit if the edit cannot be applied or its test does not exist."""
     edit = read_edit(name)
     if all(text == content(f"{ROOT}/service/{path}").decode() for path, text in edit.files.items()):
         raise BadEdit("it changes nothing")
@@ -144,7 +143,7 @@ def check_all(names: list[str]) -> int:
 
 
 def runs(test: str) -> list[list[str]]:
-    """The commands of a test, one a run."""
+    """The command of each run of a test."""
     if not test:
         raise BadEdit("it names no test")
     script, *words = test.split()
@@ -159,14 +158,14 @@ def runs(test: str) -> list[list[str]]:
 
 
 def end(child: subprocess.Popen[str]) -> None:
-    """Ends a test with all that it has started."""
+    """Kills a test with all processes that it has started."""
     with contextlib.suppress(ProcessLookupError):
         os.killpg(child.pid, signal.SIGKILL)
 
 
 def run(command: list[str], log: str, folder: str) -> tuple[int, str | None]:
-    """Runs a command until it has ended or a check has seen the fault: its status, and what the check says."""
-    # All runs of a test that draws them: the gate's sample may miss the fault.
+    """Runs a command until it ends or a check has seen the mistake. Returns its status, and the text of that check."""
+    # "whole" makes tests that draw a sample of their runs make all: the gate's sample may miss the mistake.
     environment = dict(os.environ, TOTXEGUN_BOOK=BOOK, TOTXEGUN_TESTS="whole", TMPDIR=folder)
     child = subprocess.Popen(command, stdout=subprocess.PIPE, stderr=subprocess.STDOUT, text=True, errors="replace",
                              process_group=0, env=environment)
@@ -185,11 +184,11 @@ def run(command: list[str], log: str, folder: str) -> tuple[int, str | None]:
 
 @contextlib.contextmanager
 def built(command: list[str], log: str) -> Iterator[str]:
-    """A folder for what a test keeps, once what it runs is built from the copy."""
+    """Builds what the test runs from the copy, and returns a folder for the test's files."""
     open(log, "w", encoding="utf-8").close()
     words = [*command[1:], "--no-run"] if command[0] == CARGO else ["build"]
     with tempfile.TemporaryDirectory(dir=MEMORY, prefix="wrong-", ignore_cleanup_errors=True) as folder:
-        # A server that a test starts is another user's.
+        # A server that a test starts runs as another user, who must be able to enter the folder.
         os.chmod(folder, 0o755)
         if run([CARGO, *words, "--quiet"], log, folder)[0] != 0:
             raise BadEdit(f"it can't be built: {log}")
@@ -197,7 +196,7 @@ def built(command: list[str], log: str) -> Iterator[str]:
 
 
 def check_that_finds(name: str) -> str | None:
-    """The first check that fails for what is wrong, or nothing."""
+    """The first check that fails because of the mistake; None if no check does."""
     log = f"{LOGS}/wrong-{name}.log"
     edit = read_edit(name)
     copy_service()
@@ -208,7 +207,7 @@ def check_that_finds(name: str) -> str | None:
 
 
 def try_right(names: list[str]) -> int:
-    """Runs each test once on the service as it is."""
+    """Runs each test once on the unchanged service."""
     copy_service()
     tests = sorted({read_edit(name).test for name in names})
     failed = 0

@@ -10,14 +10,14 @@ from collections.abc import Iterable, Iterator
 from tooling.files import content
 
 ROOT = os.path.dirname(os.path.dirname(os.path.dirname(os.path.realpath(__file__))))
-# What commands leave, but for bin/ and what lies in the folders of crates. Git ignores it.
+# Where commands write, except into bin/ and the crates' own folders. Git ignores it.
 OUT = f"{ROOT}/out"
-# What a check of a crate reads.
+# The parts of a crate that a check reads.
 PARTS = ("src", "specs", "proofs")
 
 
 class Crate:
-    """A crate: its folder, its line of crates.txt and the crates of this repository that it uses."""
+    """A crate: its folder, its line in crates.txt, and the crates of this repository that it uses."""
 
     def __init__(self, name: str, line: str, below: list[Crate]) -> None:
         self.name = name
@@ -25,11 +25,11 @@ class Crate:
         self.below = below
         self.folder = f"{ROOT}/crates/{name}"
         self.is_program = os.path.isfile(f"{self.folder}/src/main.rt")
-        # One that C can call, and that no crate can use.
+        # A static library, which C can call and no crate can use.
         self.is_static = "staticlib" in line.partition(":")[0].split()
 
     def uses(self) -> list[str]:
-        """The names of the toolchain's libraries that it uses, but for the standard one."""
+        """The names of the toolchain's libraries that the crate uses, without the standard library."""
         own = [it.name for it in self.below]
         return [it for it in self.line.partition(":")[2].split() if it not in own]
 
@@ -41,18 +41,18 @@ class Crate:
         return found
 
     def files(self) -> Iterator[str]:
-        """The files that a check of it reads, in a fixed order."""
+        """The files that a check of the crate reads, in a fixed order."""
         for part in PARTS:
             for at, folders, names in os.walk(f"{self.folder}/{part}"):
                 folders.sort()
                 yield from (f"{at}/{name}" for name in sorted(names))
 
     def lines(self) -> int:
-        """How many lines of code it has."""
+        """The number of the crate's lines of code."""
         return sum(1 for file in self.files() if file.endswith(".rt") for _ in open(file, "rb"))
 
     def edits(self) -> list[str]:
-        """The files of its must-fail edits: those of the gate, and those that are tried apart."""
+        """The files of the crate's edits: those that the gate tries, and those that are tried apart."""
         folders = [f"{self.folder}/{it}" for it in ("must-fail", "more-edits")]
         return [
             f"{folder}/{name}"
@@ -64,7 +64,7 @@ class Crate:
 
 
 def read_crates() -> dict[str, Crate]:
-    """Every crate by its name, lowest first."""
+    """All crates by name, lowest first."""
     lines = {}
     with open(f"{ROOT}/crates.txt", encoding="utf-8") as file:
         for line in file:
@@ -85,7 +85,7 @@ def read_crates() -> dict[str, Crate]:
 
 
 def named(names: Iterable[str]) -> list[Crate]:
-    """The crates with these names, or all, lowest first, where there are none. A name that no crate has ends the command."""
+    """The crates with these names, or all crates if there are no names; lowest first. An unknown name ends the command."""
     known, names = read_crates(), list(names)
     unknown = [name for name in names if name not in known]
     if unknown:
@@ -94,7 +94,8 @@ def named(names: Iterable[str]) -> list[Crate]:
 
 
 class Digests:
-    """What a crate is made of, as one word: its files, its line, the toolchain, and all this of the crates below."""
+    """A digest of everything that a crate is made of: its files, its line in crates.txt, the toolchain, and the same of
+    the crates below."""
 
     def __init__(self) -> None:
         version = subprocess.run(["rt", "version"], stdout=subprocess.PIPE, check=True)

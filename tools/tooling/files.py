@@ -1,8 +1,8 @@
-"""Files that are read or written whole."""
+"""Reads and writes whole files."""
 
 
 def content(path: str) -> bytes:
-    """The bytes of a file; none where there is no such file."""
+    """The bytes of a file; none if the file does not exist."""
     try:
         with open(path, "rb") as file:
             return file.read()
@@ -11,13 +11,13 @@ def content(path: str) -> bytes:
 
 
 def text_of(path: str, errors: str = "strict") -> str:
-    """The text of a file, which has to be there."""
+    """The text of a file, which must exist."""
     with open(path, encoding="utf-8", errors=errors) as file:
         return file.read()
 
 
 def text_there(path: str) -> str:
-    """The text of a file with signs for what is not UTF-8; none where it can't be read."""
+    """The text of a file, with replacement characters for what is not UTF-8; "" if the file cannot be read."""
     try:
         with open(path, encoding="utf-8", errors="replace") as file:
             return file.read()

@@ -1,4 +1,4 @@
-"""The functions of a Rattle file, by the lines that the formatter gives them."""
+"""Finds the functions of a Rattle file by the lines that the formatter gives them."""
 import re
 
 BEGIN = re.compile(r"( *)(?:pub(?:\([^)]*\))? )?(?:const |extern .C. )?fn (\w+)")
@@ -6,7 +6,7 @@ ABOVE = re.compile(r" *(?:#\[|///)")
 
 
 class Function:
-    """Where a function stands: from its comment to the line that opens its body, and to the one that closes it."""
+    """The place of a function: the line of its comment, the line that opens its body, and the line that closes it."""
 
     def __init__(self, name: str, start: int, body: int, end: int) -> None:
         self.name = name
@@ -22,7 +22,7 @@ class Function:
 
 
 def functions_of(lines: list[str]) -> list[Function]:
-    """The functions of a file that have a body, but for those inside another."""
+    """The functions of a file that have a body, without functions inside another one."""
     found = []
     at = 0
     while at < len(lines):
@@ -35,7 +35,7 @@ def functions_of(lines: list[str]) -> list[Function]:
 
 
 def extent(lines: list[str], at: int, indent: str) -> tuple[int | None, int]:
-    """The lines that open and close a body; with none that opens it, the line that ends the declaration."""
+    """The lines that open and close a body. If there is no body, the first is None and the second ends the declaration."""
     for body in range(at, len(lines)):
         line = lines[body]
         if line.endswith(";"):

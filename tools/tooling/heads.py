@@ -1,4 +1,4 @@
-"""What scripts say of themselves: the first paragraph of their heads."""
+"""Reads the heads of scripts: the first paragraph of what they say about themselves."""
 import ast
 import glob
 import os
@@ -7,7 +7,7 @@ import re
 from tooling.crates import ROOT
 from tooling.files import text_of
 
-# Of a shell script the comment after its first line, up to a line with none or a sentence's end.
+# The comment after the first line of a shell script, up to its first sentence's end or its last line.
 SHELL_HEAD = re.compile(r"#!/bin/sh\n# ((?:.*\n# )*?.*?)[.:]?(?:\n(?!# )|[.:] )")
 
 
@@ -16,7 +16,7 @@ def first_paragraph(text: str) -> str:
 
 
 def head_of(path: str) -> str:
-    """What a script says of itself; nothing where it says nothing."""
+    """A script's head; "" if it has none."""
     text = text_of(path)
     if path.endswith(".py"):
         return first_paragraph(ast.get_docstring(ast.parse(text)) or "")
@@ -25,5 +25,5 @@ def head_of(path: str) -> str:
 
 
 def commands(folder: str) -> list[str]:
-    """The paths of those that are called, in a folder at the top; modules are below it."""
+    """The paths of the commands in a folder at the top of the repository. Modules are in folders below it."""
     return [path for path in sorted(glob.glob(f"{ROOT}/{folder}/*")) if os.path.isfile(path) and os.access(path, os.X_OK)]

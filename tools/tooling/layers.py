@@ -1,19 +1,19 @@
-"""A drawing of what stands on what: in layers, each thing over all that it stands on, with few lines that cross."""
+"""Arranges things in layers, each above all that it rests on, so that few lines cross."""
 from collections.abc import Mapping, Sequence
 
 
 ROUNDS = 24
-# So much is free between things.
+# The free space between things.
 GAP = 18
-# A thing, or the place in a layer of a line from an upper one to a lower one.
+# A thing, or the place where a line from an upper layer to a lower one passes a layer.
 Thing = str | tuple[str, str, int]
-# From left to right, and down.
+# (x, y), from left to right and down.
 Spot = tuple[float, float]
 Area = tuple[float, float, float, float]
 
 
 class Layers:
-    """Things, lowest first, what each stands on, and how wide each is. A line that passes a layer has a place there."""
+    """Things, lowest first, with what each rests on and how wide each is. A line that passes a layer takes a place in it."""
 
     def __init__(self, names: Sequence[str], below: Mapping[str, Sequence[str]], wide: Mapping[str, float]) -> None:
         self.wide: dict[Thing, float] = dict(wide.items())
@@ -21,7 +21,7 @@ class Layers:
         self.layers: list[list[Thing]] = [[] for _ in range(max(height.values()) + 1)]
         for it in names:
             self.layers[height[it]].append(it)
-        # Between neighbouring layers: what is joined, upper and lower; and the way of each line.
+        # For each pair of neighbouring layers the joined pairs, upper and lower; and the places that each line passes.
         self.joined: list[tuple[Thing, Thing]] = []
         self.ways: list[list[Thing]] = []
         for upper in names:
@@ -37,7 +37,7 @@ class Layers:
 
     @staticmethod
     def heights(names: Sequence[str], below: Mapping[str, Sequence[str]]) -> dict[str, int]:
-        """As low as what it stands on lets it; and then as high as what stands on it does."""
+        """Each as low as what it rests on allows; then as high as what rests on it allows."""
         height: dict[str, int] = {}
         for it in names:
             height[it] = max((height[lower] + 1 for lower in below[it]), default=0)
@@ -47,7 +47,7 @@ class Layers:
         return height
 
     def order(self) -> None:
-        """Each layer by the middle of what it is joined to, up and down in turn; the best that was seen stays."""
+        """Sorts each layer by the mean position of what its things are joined to, up and down in turn, and keeps the best order."""
         best = None
         for turn in range(ROUNDS):
             steps = self.layers if turn % 2 else list(reversed(self.layers))
@@ -83,7 +83,7 @@ class Layers:
         return areas, [self.line(way, areas) for way in self.ways]
 
     def middles(self, width: int) -> dict[Thing, int]:
-        """Where each thing is from left to right: near what it is joined to, in the order of its layer."""
+        """The x of each thing's middle: near what it is joined to, in the order of its layer."""
         middle = {it: width * (at + 0.5) / len(layer) for layer in self.layers for at, it in enumerate(layer)}
         for turn in range(ROUNDS):
             for layer in self.layers if turn % 2 else reversed(self.layers):
@@ -93,7 +93,8 @@ class Layers:
         return {it: round(at) for it, at in middle.items()}
 
     def kept_apart(self, layer: list[Thing], wanted: list[float], width: int) -> list[float]:
-        """Half of the way that what would touch has to go to the right, and half of that to the left; within the width."""
+        """Moves things apart that would touch. Averages a layout pushed to the right and one pushed to the left, so
+        that both sides move; stays within the width."""
         wide = [self.wide[it] for it in layer]
         to_right = pushed(wanted, wide)
         to_left = [width - it for it in pushed([width - it for it in reversed(wanted)], wide[::-1])][::-1]
@@ -112,7 +113,7 @@ class Layers:
 
 
 def pushed(wanted: list[float], wide: list[float]) -> list[float]:
-    """Each so far to the right that it touches neither the edge nor what is left of it."""
+    """Moves each to the right until it touches neither the edge nor its left neighbour."""
     placed: list[float] = []
     free = 0.0
     for at, width in zip(wanted, wide):

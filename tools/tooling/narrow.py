@@ -3,19 +3,20 @@ import re
 from collections.abc import Iterator
 
 OPENING, CLOSING = "([{", ")]}"
-# Indentation of what goes on, as `rattle fmt` has it.
+# The indentation of a continuation line, as in `rattle fmt`.
 DEEPER = 4
-# How loosely an operator binds: before which a line is broken first. Behind these words, and before the others.
+# How loosely operators bind: a line is first broken at the loosest. It is broken after these words and before all others.
 BEHIND = {"in": 0, "=": 1, "↦": 1}
 BEFORE = {"|": 0, "→": 1, "∙": 2, "×": 3, "⊎": 3, "≡": 4, "||": 5, "&&": 5, "≤": 6, "<": 6, "∷": 7, "++": 7, "+": 7, "↦": 9, "=": 9}
 ARGUMENT, NEVER = 8, 9
-# Behind these a line is not broken.
+# A line is not broken after these.
 TIED = {*BEFORE, "λ", ":", "rw", "pub", "record", "elim", "let", "_", "as", "("}
 IMPORT = re.compile(r"((?:pub )?use [^{]*\.)\{(.*)\}$")
 
 
 def breaks(body: str) -> Iterator[tuple[int, int, int]]:
-    """Where a line can be broken: how deep in brackets, how tightly bound, and before which character."""
+    """Each place at which a line can be broken: its depth of brackets, how tightly its operator binds, and the index of
+    the character after the break."""
     depth, quoted = 0, False
     for at, sign in enumerate(body):
         quoted ^= sign == '"'
@@ -32,9 +33,9 @@ def breaks(body: str) -> Iterator[tuple[int, int, int]]:
 
 
 def broken(body: str, room: int) -> tuple[str, str] | None:
-    """The part of a line that fits, and what goes on; None where nothing can be broken."""
+    """The part of a line that fits and the rest; None if the line cannot be broken."""
     found = [(depth * 10 + bound, -at) for depth, bound, at in breaks(body) if at <= room and bound < NEVER]
-    # What leaves little in the first line is taken only where all that follows fits, or there is nothing else.
+    # A break that leaves little on the first line is used only if all the rest fits, or if there is no other.
     good = [it for it in found if -it[1] * 3 > room or len(body) + it[1] <= room - DEEPER]
     if not found:
         return None
@@ -43,7 +44,7 @@ def broken(body: str, room: int) -> tuple[str, str] | None:
 
 
 def narrowed(line: str, columns: int) -> list[str]:
-    """A line in as many as it takes."""
+    """A line as the lines that it takes."""
     if len(line) <= columns:
         return [line]
     if imported := IMPORT.match(line):
@@ -60,7 +61,7 @@ def narrowed(line: str, columns: int) -> list[str]:
 
 
 def imports(head: str, names: list[str], columns: int) -> list[str]:
-    """An import as several of one module."""
+    """One import as several of the same module."""
     lines: list[str] = []
     taken: list[str] = []
     for name in names:

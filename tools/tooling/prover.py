@@ -1,8 +1,8 @@
-"""The prover's command for one crate, over libraries that were built by it here.
+"""The prover's commands for one crate, over libraries that these commands have built here.
 
-`rt check` and `rt lib` keep all that they have checked, for whoever changes one function, and a library of
-theirs holds whole proofs, which every check above it loads. From nothing that takes longer.
-Here a library holds its statements alone, as where `rt ci` builds it, and nothing is kept but what is built.
+`rt check` and `rt lib` keep everything that they check, which helps when one function changes. Their libraries hold whole proofs,
+and every check above loads them. From nothing that takes longer. The libraries here hold statements only, as those of `rt ci`, and
+nothing is kept except what is built.
 """
 import os
 import subprocess
@@ -18,11 +18,11 @@ class Prover:
         self.kit = os.path.dirname(page.stdout.strip())
 
     def check(self, crate: Crate, jobs: int, kept: str) -> list[str]:
-        """The command that checks a crate in its folder, over what an earlier check of it has kept."""
+        """The command that checks a crate in its folder, over what an earlier check has kept in `kept`."""
         return [f"{self.kit}/bin/rattle", "check", *self.words(crate, jobs, room_of), "--incremental", kept]
 
     def build(self, crate: Crate, jobs: int, room: Callable[[Crate], str] | None = None) -> list[list[str]]:
-        """The commands that prove a crate in its folder and build it, over the libraries in these rooms of the crates below."""
+        """The commands that prove and build a crate in its folder, over the libraries of the crates below in their rooms."""
         proving = [f"{self.kit}/bin/rattle", "build", *self.words(crate, jobs, room or room_of)]
         tools = ["--toolchain", f"{self.kit}/toolchain"]
         if crate.is_static:
@@ -38,7 +38,7 @@ class Prover:
         ]
 
     def words(self, crate: Crate, jobs: int, room: Callable[[Crate], str]) -> list[str]:
-        """What a check of a crate reads, with so many jobs, where each library lies in its crate's room."""
+        """The arguments of a check: with this many jobs, and each library in its crate's room."""
         libraries = f"{self.kit}/rlibs"
         words = ["--crate-name", crate.name, f"src/{'main' if crate.is_program else 'lib'}.rt"]
         if crate.is_static:
@@ -55,17 +55,17 @@ class Prover:
 
 
 def room_of(crate: Crate) -> str:
-    """The folder of a crate for what is built of it: the only one where `rt` lets a library lie."""
+    """The folder for a crate's build. `rt` allows a library in no other."""
     return f"{crate.folder}/out/rlib/statements"
 
 
 def room_of_gate(crate: Crate) -> str:
-    """The folder of a crate where `rt ci` leaves the library that it has proved."""
+    """The folder in which `rt ci` leaves the library that it has proved."""
     return f"{crate.folder}/out/rlib"
 
 
 def made_by(crate: Crate) -> str:
-    """What is built of a crate: a program, a static library, or the folder of a library."""
+    """The path of a crate's build: a program, a static library, or a library for crates."""
     if crate.is_program:
         return f"{crate.folder}/out/{crate.name}"
     if crate.is_static:

@@ -1,30 +1,31 @@
-"""Steps that run a script of tests/ or a command of tools/, and what is shown of those that fail."""
+"""Steps that run a script of tests/ or a command of tools/, and the summary of failed steps."""
 import re
 import subprocess
 
 from tooling.crates import ROOT
 from tooling.steps import Failed, Step, Steps, end_of
 
-# A script has ended by then, in seconds.
+# The time limit of a script, in seconds.
 STEP_LIMIT = 600
-# A network of its own for each step, so that none takes another's port.
+# Gives each step a network namespace, so that no step can take another's port.
 OWN_NETWORK = "tools/own_network.py"
-# The status of a script that lacks a program that it needs; its last line says which.
+# The status of a script that left something out because a program is not installed; its last line says which.
 LEFT_OUT = 77
-# Lines of a step's log that say what is wrong; so many are shown at the end, as far as this.
+# Lines of a log that name a fault, how many of them the summary shows, and how much of each.
 FAULT = re.compile(r"failed:|error|test .* FAILED$")
 MOST_FAULTS = 5
 FAULT_WIDTH = 600
 
 
 def networks() -> list[str]:
-    """The command before a script that gives it a network of its own; none if this machine gives none."""
+    """The words before a script that give it a network namespace; empty if this machine does not permit one."""
     ran = subprocess.run([OWN_NETWORK, "true"], cwd=ROOT, stderr=subprocess.DEVNULL)
     return [OWN_NETWORK] if ran.returncode == 0 else []
 
 
 def step_of(script: str, program: str, seconds: int, is_timed: bool, before: list[str], of: str = "") -> Step:
-    """The step that runs a script of tests/ on a program, after these words. With none, steps run in turn."""
+    """The step that runs a script of tests/ on a program, after the words `before`. Without these words steps share the
+    ports, so they run in turn."""
     command = [f"tests/{script}", *program.split()]
 
     def work(step: Step) -> str:
@@ -53,7 +54,7 @@ def tool_step(name: str, command: list[str], seconds: int) -> Step:
 
 
 def show_faults(step: Step) -> None:
-    """What a failed step has said is wrong: at the end, where it is also seen of a long output."""
+    """Prints the faults in a failed step's log. They come at the end, so that they are seen after a long output."""
     with open(step.log, encoding="utf-8") as log:
         faults = [line.rstrip("\n") for line in log if FAULT.match(line)]
     for line in faults[:MOST_FAULTS]:
@@ -61,7 +62,7 @@ def show_faults(step: Step) -> None:
 
 
 def show_end(steps: Steps) -> None:
-    """The processor time of each step that has ended, and what is wrong with those that failed."""
+    """Prints the processor time of each finished step, and the faults of those that failed."""
     steps.show_processor_times()
     for step in steps.failed:
         show_faults(step)

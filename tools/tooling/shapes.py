@@ -1,7 +1,7 @@
-"""Shapes of a picture: boxes, frames, arrows and words, as SVG that is light or dark as its reader's screen is.
+"""Draws boxes, frames, arrows and words as SVG, which follows the reader's light or dark theme.
 
-Where a word is cut, or lies over another one, over a box or under a line, the picture is refused. Widths are those of
-DejaVu Sans, which is wider than what most browsers have.
+A picture is refused if a word is cut off, or lies over another word, over a box, or under a line. Widths are those of DejaVu Sans,
+which is wider than the font of most browsers.
 """
 import html
 from collections.abc import Sequence
@@ -10,7 +10,7 @@ from tooling.layers import Area, Spot
 
 PAD = 6
 SIZE, LINE = 12, 16
-# Of a box or a line of each kind: what fills it and what draws it, in light and in dark.
+# For each kind of box or line the colours of its area and its stroke, in light and in dark.
 KINDS = {
     "plain": (("#f6f8fa", "#57606a"), ("#161b22", "#8b949e")),
     "disk": (("#ddf4ff", "#0969da"), ("#0c2d4d", "#58a6ff")),
@@ -18,16 +18,16 @@ KINDS = {
     "tested": (("#fff8c5", "#9a6700"), ("#3a2c06", "#d29922")),
     "killed": (("#ffebe9", "#cf222e"), ("#4a1114", "#f85149")),
 }
-# The background, words, and words that say less.
+# The colours of the background, of words, and of quiet words.
 PAGE = (("#ffffff", "#1f2328", "#57606a"), ("#0d1117", "#e6edf3", "#9198a1"))
-# Characters that are not 0.61 of the size wide.
+# Characters whose width is not 0.61 of the font's size.
 WIDTHS = {it: width for letters, width in (
     ("ijl|'", 0.28), (" .,:;()[]ftIr-/", 0.4), ("csxyzkvJ", 0.56), ("mMW%@→✕", 0.98), ("wABCDEGHKNOPQRSUVXYZ&", 0.78),
 ) for it in letters}
 
 
 class Wrong(Exception):
-    """A picture that can't be read, or a description of one."""
+    """A picture that nobody could read, or a faulty description."""
 
 
 def width_of(line: str, bold: bool = False, size: int = SIZE) -> float:
@@ -35,12 +35,12 @@ def width_of(line: str, bold: bool = False, size: int = SIZE) -> float:
 
 
 def meet(one: Area, other: Area) -> bool:
-    """Whether two areas (left, top, right, bottom) have more than an edge in common."""
+    """Whether two areas (left, top, right, bottom) overlap in more than an edge."""
     return one[0] < other[2] and other[0] < one[2] and one[1] < other[3] and other[1] < one[3]
 
 
 def cuts(start: Spot, end: Spot, area: Area) -> bool:
-    """Whether a line from here to there goes through an area."""
+    """Whether a line between two points goes through an area."""
     steps = 50
     return any(
         area[0] < start[0] + (end[0] - start[0]) * it / steps < area[2]
@@ -66,7 +66,7 @@ def style() -> str:
 
 
 class Picture:
-    """What is drawn so far, and where."""
+    """A picture as far as it is drawn."""
 
     def __init__(self, width: int, height: int, alt: str) -> None:
         self.width, self.height, self.alt = width, height, alt
@@ -80,7 +80,7 @@ class Picture:
         self.drawn.append(f'<rect x="{left:g}" y="{top:g}" width="{right - left:g}" height="{bottom - top:g}" rx="5" class="{classes}"/>')
 
     def box(self, name: str, area: Area, kind: str, lines: list[str]) -> None:
-        """A box with its name, and what it says of itself below it."""
+        """A box with its name, and a description below it."""
         left, top, right, bottom = self.boxes[name] = area
         self.rectangle(area, kind)
         first = (top + bottom - LINE * len(lines)) / 2
@@ -88,13 +88,13 @@ class Picture:
             self.words((left + right) / 2, first + LINE * at, line, "bold" if at == 0 else "quiet", "middle", inside=area)
 
     def frame(self, name: str, area: Area, line: str) -> None:
-        """A border around boxes; what it is called stands in its upper left corner."""
+        """A border around boxes, with its name in the upper left corner."""
         self.boxes[name] = area
         self.rectangle(area, "frame plain")
         self.words(area[0] + PAD, area[1] + 2, line, "quiet", "start")
 
     def words(self, x: float, top: float, line: str, kind: str = "", anchor: str = "start", inside: Area | None = None) -> None:
-        """A line of words whose upper edge is there."""
+        """A line of words with its upper edge at `top`."""
         width = width_of(line, kind == "bold")
         left = x - width * {"start": 0, "middle": 0.5, "end": 1}[anchor]
         area = (left, top, left + width, top + LINE)
@@ -106,7 +106,7 @@ class Picture:
         self.drawn.append(f'<text x="{x:g}" y="{top + SIZE:g}" class="{kind}"{anchored}>{html.escape(line, quote=False)}</text>')
 
     def line(self, points: Sequence[Spot], kind: str, has_head: bool = True) -> None:
-        """A line from point to point, with a head at its end."""
+        """A line through these points, with an arrowhead at its end."""
         self.lines_at += zip(points, points[1:])
         path = "M" + "L".join(f"{x:g} {y:g}" for x, y in points)
         self.drawn.append(f'<path d="{path}" class="line {kind}"/>')
@@ -119,7 +119,7 @@ class Picture:
             self.drawn.append(f'<polygon points="{corners}" class="head {kind.split()[0]}"/>')
 
     def cross(self, x: float, y: float, kind: str = "killed") -> None:
-        """A mark of two strokes."""
+        """A cross of two strokes."""
         self.drawn.append(f'<path d="M{x - 6:g} {y - 6:g}l12 12m0 -12l-12 12" class="line {kind}" style="stroke-width:3"/>')
 
     def check(self) -> None:

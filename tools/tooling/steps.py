@@ -1,9 +1,9 @@
-"""Runs steps side by side, as many as processors and memory carry, and shows how each ended.
+"""Runs steps in parallel, as far as processors and memory allow, and shows how each ended.
 
-A line for each step when it ends: how long it took, and the processor time of what it ran, which is also the last line of
-its log; `show_processor_times` shows those of all steps. What went on by itself, as a database's server does, and was
-waited for by nobody is not in it. On a terminal a last line moves with what runs. Of a step that fails the end of its log
-is shown, and the command that repeats it.
+Prints a line for each step when it ends: how long it took and its processor time, which is also the last line of its log;
+`show_processor_times` shows a table of all. The processor time lacks processes that nobody waited for, such as those of a database
+server that runs in the background. On a terminal a last line shows the running steps. If a step fails, the end of its log is shown,
+and the command that repeats the step.
 """
 from __future__ import annotations
 
@@ -25,16 +25,16 @@ from tooling.crates import OUT, ROOT
 
 LOGS = f"{OUT}/logs"
 GIGABYTE = 1_000_000_000
-# What each further job of a check may take.
+# The memory that each further job of a check may take.
 JOB_MEMORY = 3 * GIGABYTE // 2
-# A step whose chain is nearly the longest gets several jobs; one whose chain is short yields to all others.
+# A step gets several jobs if its chain is nearly as long as the longest; if its chain is short, its processes get a lower priority.
 NEARLY = 0.9
 SHORT = 0.5
 END_OF_LOG = 30
 MOST_ERRORS = 10
-# For what an interrupted step puts back, in seconds.
+# How long an interrupted step may clean up, in seconds.
 TIME_TO_END = 60
-# Control groups of version 2 and 1: what they hold, and what they may.
+# The limit and the use of memory in control groups, version 2 and version 1.
 GROUPS = (
     ("/sys/fs/cgroup/memory.max", "/sys/fs/cgroup/memory.current"),
     ("/sys/fs/cgroup/memory/memory.limit_in_bytes", "/sys/fs/cgroup/memory/memory.usage_in_bytes"),
@@ -46,12 +46,12 @@ class Failed(Exception):
 
 
 class Step:
-    """A piece of work with a name of its own.
+    """A piece of work with a name.
 
-    `work` is a function of this step; it returns what its line says at the end, or raises Failed.
-    `after` names the steps that end well before it begins; `weight` is how long it takes beside others.
-    No two steps of one `lane` run at the same time, and a step that is `alone` has none beside it.
-    What a step runs that `yields` has a lower priority.
+    `work` is called with the step; it returns the note for the step's line, or raises Failed.
+    `after` names the steps that must pass before this one begins; `weight` is about how long it takes, compared with others.
+    No two steps of the same `lane` run at once, and no step runs beside one that is `alone`.
+    The processes of a step that `yields` have a lower priority.
     """
 
     def __init__(self, name: str, work: Callable[[Step], str], again: str, after: Sequence[str] = (),
@@ -83,8 +83,8 @@ class Step:
 
     def run(self, command: Sequence[str], folder: str = ROOT, read_line: Callable[[str], object] | None = None,
             limit: float | None = None) -> int:
-        """Runs a command with its output in the log, each line read as it comes, and returns its status. It is
-        ended after so many seconds, if there is a limit."""
+        """Runs a command, writes its output to the log, passes each line to `read_line`, and returns the status. Stops
+        the command and raises Failed after `limit` seconds."""
         with open(self.log, "a", encoding="utf-8") as log:
             child = CHILDREN.start(["nice", *command] if self.yields else command, folder)
             clock = threading.Timer(limit or threading.TIMEOUT_MAX, CHILDREN.stop, [child])
@@ -105,8 +105,8 @@ class Step:
 
 
 class Children:
-    """The processes that run for the steps. Each leads a group, so that an interrupt ends what it has started too.
-    All are in one session: Linux shares the processors among sessions first, and within one by priority.
+    """The processes of all steps. Each leads a process group, so that an interrupt also ends its children. All are in one session,
+    because Linux shares the processors among sessions first, and only within a session by priority.
     """
 
     def __init__(self) -> None:
@@ -124,17 +124,17 @@ class Children:
         return child
 
     def end(self, child: subprocess.Popen[str]) -> tuple[int, resource.struct_rusage]:
-        """The status of a process, once it has ended, and what it and all that was waited for below it have used."""
+        """Waits for a process. Returns its status and the processor time of the process and of all children that were waited for."""
         os.waitid(os.P_PID, child.pid, os.WEXITED | os.WNOWAIT)
         with self.lock:
-            # From here on its number may be another's.
+            # After wait4 another process may get the number, so `stop` must not signal it any more.
             self.running.discard(child)
             _, status, used = os.wait4(child.pid, 0)
         child.returncode = os.waitstatus_to_exitcode(status)
         return child.returncode, used
 
     def stop(self, child: subprocess.Popen[str]) -> None:
-        """Ends a process and what it has started, as far as that is in its group."""
+        """Sends SIGTERM to a process and its group."""
         with self.lock:
             if child in self.running:
                 os.killpg(child.pid, signal.SIGTERM)
@@ -151,7 +151,7 @@ CHILDREN = Children()
 
 
 class Board:
-    """What is printed: lines that stay, and on a terminal a last one that moves."""
+    """The output: lines that stay, and on a terminal a last line that changes."""
 
     def __init__(self, whole: int) -> None:
         self.whole = whole
@@ -163,7 +163,7 @@ class Board:
         print(f"\r\033[K{text}" if self.moves else text, flush=True)
 
     def show(self, running: Iterable[Step]) -> None:
-        """The line that moves."""
+        """Redraws the last line."""
         if self.moves:
             now = time.monotonic()
             words = ", ".join(f"{step.name} {step.count or shown(now - step.begun)}" for step in running)
@@ -186,7 +186,7 @@ class Board:
 
 
 def shown(seconds: float) -> str:
-    """Seconds as they are read."""
+    """A duration as text."""
     seconds = round(seconds)
     return f"{seconds} s" if seconds < 100 else f"{seconds // 60}:{seconds % 60:02}"
 
@@ -206,7 +206,7 @@ def end_of_lines(lines: list[str]) -> list[str]:
 
 
 def number_in(file: str) -> int | None:
-    """The number in a file of the system, or none."""
+    """The number in a file; None if it has none or cannot be read."""
     try:
         with open(file, encoding="utf-8") as it:
             return int(it.read())
@@ -215,7 +215,7 @@ def number_in(file: str) -> int | None:
 
 
 def free_memory() -> int:
-    """The memory in bytes that may be taken: what the machine has, and what a control group leaves."""
+    """The memory in bytes that is available on the machine and within its control group."""
     with open("/proc/meminfo", encoding="utf-8") as file:
         free = 1024 * int(re.search(r"MemAvailable:\s+(\d+)", file.read())[1])
     for limit, used in GROUPS:
@@ -226,7 +226,7 @@ def free_memory() -> int:
 
 
 class Steps:
-    """Steps that run as soon as those before them have ended, the longest chain first."""
+    """Steps that run as soon as the steps before them have passed, the longest chain first."""
 
     def __init__(self, steps: list[Step]) -> None:
         self.waiting = list(steps)
@@ -242,10 +242,10 @@ class Steps:
         self.waiting.sort(key=lambda step: -self.chain[step.name])
 
     def run(self) -> bool:
-        """Runs them all, but for those behind one that fails. Returns whether all passed."""
+        """Runs all steps, except those after a step that fails. Returns whether all passed."""
         os.makedirs(LOGS, exist_ok=True)
         for it in (signal.SIGINT, signal.SIGTERM, signal.SIGHUP):
-            # Under nohup a hang-up stays ignored.
+            # nohup ignores SIGHUP, and it must stay ignored.
             if it != signal.SIGHUP or signal.getsignal(it) != signal.SIG_IGN:
                 signal.signal(it, interrupt)
         try:
@@ -268,7 +268,7 @@ class Steps:
         return not self.failed and not self.waiting
 
     def begin_some(self) -> bool:
-        """Begins what can begin now, and returns whether anything did."""
+        """Begins all steps that can begin now. Returns whether any did."""
         begun = False
         for step in [it for it in self.waiting if self.passed.issuperset(it.after)]:
             jobs = self.jobs_for(step)
@@ -283,8 +283,8 @@ class Steps:
         return begun
 
     def jobs_for(self, step: Step) -> int:
-        """How many jobs a step gets: none where it has to wait, all that it may have where its chain is nearly
-        the longest, and else what is left of the processors, and at least one; as far as memory carries them."""
+        """The number of jobs for a step, as far as memory allows. It is 0 if the step must wait, `most_jobs` if the
+        step's chain is nearly the longest, and otherwise what the processors have left, at least 1."""
         if self.running and self.has_to_wait(step):
             return 0
         left = self.processors - sum(it.jobs for it in self.running)
@@ -295,13 +295,13 @@ class Steps:
         return jobs if not self.running or step.needs(jobs) <= room else 0
 
     def has_to_wait(self, step: Step) -> bool:
-        """Whether a step can't begin beside those that run, whatever memory there is."""
+        """Whether the step must wait for running steps, whatever memory there is."""
         is_apart = step.alone or any(it.alone for it in self.running)
         is_in_lane = any(it.lane and it.lane == step.lane for it in self.running)
         return is_apart or is_in_lane or len(self.running) >= self.processors
 
     def part(self, step: Step) -> float:
-        """What part of the longest chain that is left its own is."""
+        """The step's chain as a fraction of the longest chain that is left."""
         return self.chain[step.name] / max(self.chain[it.name] for it in [*self.running, *self.waiting])
 
     def work(self, step: Step) -> None:
@@ -329,21 +329,21 @@ class Steps:
 
     @property
     def processor(self) -> float:
-        """Seconds, of the steps that have ended."""
+        """The processor seconds of all steps that have ended."""
         return sum(step.processor for step in self.ends)
 
     def show_processor_times(self) -> None:
-        """A table of the steps that have ended, the dearest first."""
+        """Prints a table of the steps that have ended, the most expensive first."""
         self.board.say(f"{'processor time':<24} {'all':>7} {'user':>7} {'system':>7}  in seconds")
         for step in sorted(self.ends, key=lambda it: -it.processor):
             self.board.say(f"{step.name:<24} {step.processor:7.1f} {step.user:7.1f} {step.system:7.1f}")
 
 
 def chains(steps: Sequence[Step]) -> dict[str, int]:
-    """The weight of each step and of the longest chain of others behind it."""
+    """The weight of each step plus that of the longest chain of steps that wait for it."""
     behind = {step.name: 0 for step in steps}
     weight = {step.name: step.weight for step in steps}
-    # A step comes behind those that it waits for.
+    # Steps are listed after those that they wait for.
     for step in reversed(steps):
         for name in step.after:
             behind[name] = max(behind[name], weight[step.name] + behind[step.name])
@@ -352,7 +352,7 @@ def chains(steps: Sequence[Step]) -> dict[str, int]:
 
 @contextlib.contextmanager
 def locked(folder: str) -> Iterator[None]:
-    """Waits until nothing else works in a folder, and keeps others out for as long as a `with` lasts, as `rt` does."""
+    """Locks a folder while the context lasts, as `rt` does. Waits until nobody else has it locked."""
     os.makedirs(folder, exist_ok=True)
     held = os.open(folder, os.O_RDONLY)
     try:
