@@ -1,9 +1,9 @@
 #!/bin/sh
-# What docs/MEASURED.md has of the service, beside an earlier one and the bare gateway, and of the gateway under load, with what
-# `make build` and `make core` have built, the most wanted first: about a quarter of an hour on 4 idle cores.
-# Call: bench/all.sh [GATEWAY [TOTXEGUN [EARLIER]]], where EARLIER is a folder with totxegun and gateway of 1383c49c.
+# Measures what docs/MEASURED.md has: the service compared with an earlier one and the bare gateway, and the gateway under load.
+# It takes about a quarter of an hour on 4 idle cores, the most important parts first, with what `make build` and `make core` built.
+# Call: bench/all.sh [GATEWAY [TOTXEGUN [EARLIER]]]; EARLIER is a folder with totxegun and gateway of 1383c49c.
 #
-# Each output goes to out/bench/NAME.txt too. Status 0, also where a part was left out; its lines say why.
+# Each part's output also goes to out/bench/NAME.txt. Status 0, even if a part was left out; its lines say why.
 top=$(cd "$(dirname "$0")/.." && pwd)
 gateway=${1:-$top/bin/gateway}
 totxegun=${2:-$top/bin/totxegun}

@@ -18,7 +18,8 @@ A description has a line for each thing. `#` begins a comment, and `/` begins a 
                                               `kill WORDS | WORDS` a mark after it, with its words in these columns
     crates                                    draws the crates of crates.txt, each above those that it uses; `note CRATE WORDS`
                                               says what a crate is
-    laws                                      checks the arrows: there must be one for each law whose proof cites another
+    laws                                      checks that the arrows of kind `proved` are exactly the pairs of laws in which, by
+                                              the proofs, one rests on the other
 
 Status 1: a line names the files that are not up to date, or the fault of a description.
 """
