@@ -1,15 +1,15 @@
 #!/usr/bin/env python3
-"""The alerts and the dashboard of operate/, with a real Prometheus.
+"""Tests the alerts and the dashboard of operate/ with a real Prometheus.
 
     tests/alerts.py TOTXEGUN
 
-Prometheus scrapes three services, and an instance over a store in PostgreSQL, whose rules are those of operate/alerts.yml with
-minutes made seconds. What each alert is for is done to a service or the store; the alert has to fire, and to clear once the cause
-is gone. Each query of operate/dashboard.json is asked too, and names metrics that are on the page. `promtool` looks at the rules,
-by tests/alerts_by_time.yml and alerts_by_day.yml at the times at which they fire, and at the page. Without Prometheus all is
-left out, with status 77, and what is of a store without PostgreSQL.
+Prometheus scrapes three services, and an instance over a store in PostgreSQL. Its rules are those of operate/alerts.yml with minutes
+shortened to seconds. The test causes each alert's condition; the alert must fire, and clear after the cause ends. Each query of
+operate/dashboard.json must be accepted and use metrics that exist. `promtool` checks the rules, the metrics page, and by
+tests/alerts_by_time.yml and alerts_by_day.yml the times at which alerts fire. Without Prometheus everything is left out, with status
+77; without PostgreSQL the store's part.
 
-Each line is one check; the last line counts those that passed and failed, and the status is 0 where none failed.
+Each line is a check; the last line counts passes and failures. The status is 0 if none failed.
 """
 import contextlib
 import functools
@@ -39,19 +39,19 @@ from tooling.files import write
 
 OPERATE = os.path.join(ROOT, "operate")
 SECONDS = 120
-# Of memory; and a disk of its own where it may have one, so that nobody else writes there meanwhile.
+# Folders in memory, and with a disk of its own if the machine permits one, so that nobody else changes the free space.
 FOLDERS = "/dev/shm" if os.access("/dev/shm", os.W_OK) else None
 DISK = 2 << 30
-# What a file of the test takes of the disk, and what is left when the alert fires.
+# How much of the disk the test's file takes, and how much is free when the alert fires.
 FILL, NEARLY_FULL = 96 << 20, 48 << 20
 SERIES = 20
-# The alert on series fires over so many of them. One sender may have nine tenths of these beside others, and one book takes
-# 10,000: so those of the last of these senders have no room.
+# SeriesNearLimit fires above MOST_SERIES. One sender may have nine tenths of the limit, and one book takes 10,000
+# series, so there is no room for the series of the last of these senders.
 MOST_SERIES, MANY_SENDERS = 1_000, 12
 TOO_MANY = [in_json([(f"more.{sender}.{number}", 10, 20, 1) for number in range(MOST_SERIES * 9 // 10)])
             for sender in range(MANY_SENDERS)]
 RAISE = "update totxegun_store.slot set term = term + 9 where slot = 1"
-# Points a second that a sender may post, and of one post.
+# The points a second that a sender may post, and the points of the post that exceeds this quota.
 POINTS, MUCH = 100, 3_000
 SHORT = ((r"for: \d+[mh]", "for: 1s"), (r"\[\d+[mhd]\]", "[6s]"), (r"offset 1[hd]", "offset 6s"), (r"> 300", "> 3"),
          (r"> 0\.9", f"> {SERIES / MOST_SERIES}"), (r"> 30\n", "> 3\n"), (r"> 10\n", "> 3\n"))
@@ -66,7 +66,7 @@ METRIC = re.compile(r"\btotxegun_\w+")
 
 
 class Sink(OtlpSink):
-    """One that can also take a request and reject a point of it."""
+    """A sink that can also accept a request and reject one of its points."""
 
     def serve(self, request: Any) -> None:
         if self.moods != ["part"]:
@@ -81,7 +81,7 @@ class Sink(OtlpSink):
 
 
 class Prometheus:
-    """On the targets, with the rules made short."""
+    """Prometheus with these services as targets and shortened rules."""
 
     def __init__(self, folder: str, services: list[Service], free: int) -> None:
         self.port = free_port()
@@ -99,12 +99,12 @@ class Prometheus:
             self.process = subprocess.Popen(["prometheus", *words], stdin=subprocess.DEVNULL, stdout=log, stderr=log)
 
     def ask(self, path: str, **words: str) -> Any:
-        """What it answers, or None."""
+        """The answer of its API, or None if it gives none."""
         status, body = ask(self.port, "GET", f"/api/v1/{path}?{urllib.parse.urlencode(words)}")
         return json.loads(body) if status in (200, 400, 422) else None
 
     def is_up(self, count: int) -> bool:
-        """Whether it has scraped all of the targets."""
+        """Whether it has scraped all targets."""
         answer = self.ask("query", query='sum(up{job="totxegun"})')
         return bool(answer and answer["data"]["result"] and answer["data"]["result"][0]["value"][1] == str(count))
 
@@ -121,12 +121,12 @@ class Prometheus:
 
 
 class Causes:
-    """What is done to one service, so that alerts fire and clear."""
+    """Causes that make a service's alerts fire and clear."""
 
     def __init__(self, checks: Checks, prometheus: Prometheus, service: Service, sink: Sink | None = None) -> None:
         self.checks, self.prometheus, self.service, self.sink = checks, prometheus, service, sink
         self.time = time.time_ns() - 10**15
-        # How many senders have as many series as each may have.
+        # How many senders already have all the series that they may have.
         self.has_many = 0
 
     def post(self, sender: str = "A", value: int = 1, names: Sequence[str] = ("a",), start: int | None = None) -> int | None:
@@ -136,7 +136,7 @@ class Causes:
         return ask(self.service.listen, "POST", "/v1/metrics", body, {"Content-Type": JSON, "x-sender": sender})[0]
 
     def sees(self, alerts: Any, cause: str, begin: Callable[[], object], end: Callable[[], object]) -> None:
-        """Each of them fires after the cause, and clears after its end; and none fired before."""
+        """Checks that none of these alerts fires before the cause, that all fire after it, and that all clear after its end."""
         alerts = [f"Totxegun{alert}" for alert in alerts.split()]
         fired = set()
 
@@ -156,7 +156,7 @@ class Causes:
                          (before, sorted(fired), firing()))
 
     def sees_repeated(self, alerts: str, cause: str, deed: Callable[[], object], every: float = 0.3) -> None:
-        """The same of what is done again and again until it fires."""
+        """The same for a cause that must be repeated until the alerts fire."""
         over = threading.Event()
 
         def repeat() -> None:
@@ -171,7 +171,7 @@ class Causes:
 
         self.sees(alerts, cause, thread.start, end)
 
-    # Those of a sink that answers as it is told
+    # Causes at a sink that answers as the test wants
 
     def deliver(self) -> None:
         self.post()
@@ -195,20 +195,22 @@ class Causes:
         self.sees("Fault", "a point that the sink rejects", lambda: self.in_mood("part"), lambda: self.settle_letters("drop"))
         self.sees("Down", "a service that is killed", self.service.kill, self.service.start)
 
-    # Those of senders and the disk
+    # Causes at senders and the disk
 
     def post_many(self) -> None:
         self.post("B", names=[f"many.{number}" for number in range(2 * SERIES)])
         self.service.order("/flush")
 
     def forget(self) -> None:
-        """Series that nobody has posted to for a second are forgotten once a post has too many of its own."""
+        """Waits until the series have expired, and posts more series than one sender may have: this makes the service
+        delete expired series."""
         time.sleep(2)
         body = in_json([(f"more.{number}", 10, 20, 1) for number in range(MOST_SERIES)])
         ask(self.service.listen, "POST", "/v1/metrics", body, {"Content-Type": JSON, "x-sender": "C"})
 
     def post_too_many(self) -> Answer:
-        """A post that is refused, since the book has no room for its series beside the others; these come first, once."""
+        """Posts more series than the book has room for, and returns the refusal. The first call also posts the series
+        that fill the book."""
         for number in range(self.has_many, MANY_SENDERS):
             headers = {"Content-Type": JSON, "x-sender": f"C{number}"}
             answer = ask(self.service.listen, "POST", "/v1/metrics", TOO_MANY[number], headers)
@@ -216,7 +218,7 @@ class Causes:
         return answer
 
     def post_much(self) -> Answer:
-        """Thousands of points of one series."""
+        """Posts 3,000 points of one series."""
         start = self.time = self.time + 10 * MUCH
         body = in_json([("much", start + 10 * number, start + 10 * number + 10, 1) for number in range(MUCH)])
         return ask(self.service.listen, "POST", "/v1/metrics", body, {"Content-Type": JSON, "x-sender": "D"})
@@ -233,15 +235,15 @@ class Causes:
         body = in_json([("a", self.time, self.time + 10, 1)]).replace(b'"asInt": "1"', b'"asDouble": 1.5')
         ask(self.service.listen, "POST", "/v1/metrics", body, {"Content-Type": JSON, "x-sender": "A"})
 
-    # Those of refusals
+    # Refused posts
 
     def post_ahead(self) -> None:
-        """By a clock that is a day ahead; what is left out of it keeps no right post out."""
+        """Posts a point whose time is a day ahead. The service leaves it out, so it does not make later points duplicates."""
         body = in_json([("ahead", now := time.time_ns() + 86_400 * 10**9, now + 10, 1)])
         ask(self.service.listen, "POST", "/v1/metrics", body, {"Content-Type": JSON, "x-sender": "A"})
 
     def post_slowly(self) -> None:
-        """Its body comes two seconds after its head."""
+        """Sends the body two seconds after the head."""
         self.time += 10
         body = in_json([("slow", self.time - 10, self.time, 1)])
         connection = http.client.HTTPConnection("127.0.0.1", self.service.listen, timeout=20)
@@ -261,10 +263,10 @@ class Causes:
         self.sees_repeated("PostsRefused", "a clock that went back", lambda: self.post("A", start=10**9))
         self.sees_repeated("SenderOverQuota", "a sender that posts more than it may", self.post_much)
         self.sees_repeated("SlowAnswers", "a sender that is slow to send", self.post_slowly)
-        # Last: no sender may have a new series after it.
+        # Last, because after it no sender gets a new series.
         self.sees_repeated("PostsTurnedAway", "more series than there may be", self.post_too_many)
 
-    # Those of a store
+    # Causes at a store
 
     def of_store(self, store: Pair) -> None:
         walreceivers = store.standby.kinds("walreceiver")
@@ -283,7 +285,7 @@ def stop(pids: list[int], number: int) -> None:
 
 
 def hold_row(store: Pair) -> subprocess.Popen[bytes]:
-    """A session that holds the row of slot 0."""
+    """A session that locks the row of slot 0."""
     place = ("-h", "127.0.0.1", "-p", str(store.primary.port), "-U", "postgres", "-XAtqc")
     words = ("set application_name = 'holder'; begin; select 1 from totxegun_store.slot where slot = 0 for update; "
              "select pg_sleep(600)")
@@ -311,7 +313,7 @@ def promtool(checks: Checks, what: str, *words: str, given: bytes = b"", folder:
 
 
 def instance_of_store(program: str, folder: str, sink: Sink, closing: contextlib.ExitStack) -> tuple[Pair, Service]:
-    """An instance over a store with a standby, and the store."""
+    """A store with a standby, and an instance over it."""
     store = Pair()
     closing.callback(store.close)
     subprocess.run([program, "store", "init", store.address, "--slots", "4"], check=True, capture_output=True)
@@ -322,8 +324,7 @@ def instance_of_store(program: str, folder: str, sink: Sink, closing: contextlib
 
 
 def look_at_dashboard(checks: Checks, prometheus: Prometheus, page: bytes, has_store: bool) -> None:
-    """Prometheus takes each query, and each is of metrics that are there. Those of several machines have rows; of the others
-    tests/demo.py looks for them."""
+    """Checks that each query of the dashboard uses metrics that exist, and that Prometheus accepts it."""
     with open(f"{OPERATE}/dashboard.json", encoding="utf-8") as file:
         panels = json.load(file)["panels"]
     of_machines = {target["expr"] for panel in panels if panel["title"].startswith("Several machines") for target in panel["targets"]}

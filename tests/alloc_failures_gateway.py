@@ -1,20 +1,20 @@
 #!/usr/bin/env python3
-"""The gateway with each growth of its memory refused in turn.
+"""Runs the gateway while each growth of its memory fails in turn.
 
 Call: tests/alloc_failures_gateway.py PROGRAM, with the path of the built gateway; it needs gcc.
 
-For each k from 1 until a run meets no refusal it starts the gateway while growth k alone is refused, and
-while all from k on are, and makes the exchanges below over loopback.
-  - A run that met no refusal is the full run.
-  - Else each exchange has the answer that the ones before lead to, or exactly the 503 of `no memory`,
-    with k alone at most one; each is read whole, also by a client that goes on sending.
-  - What was answered 503 left nothing, but that a flush order may have taken its flush: it was given
-    back, or ended by the answer of the back end that got it. Where the exchange with the back end found
-    no memory its flush is given back, and the order is answered so.
-  - At the end the gateway prints the report that all this leads to and how many points were admitted and
-    acknowledged, status 0, or ends with `gateway: no memory`, status 1, and prints nothing; so it ends
-    too where it can't start, or with `gateway: cannot start a thread`.
-The last line counts the runs that passed and failed, and the status is 0 where none failed.
+For each k from 1, until no growth fails in a run, the test runs the gateway twice: in one run growth k alone fails, in the other all
+from k on. In each run it makes the exchanges below over loopback.
+  - A run in which no growth failed is the full run.
+  - In any other run each exchange has the answer that follows from the exchanges before it, or exactly the 503 of `no memory`; if
+    growth k alone fails, at most one exchange has it. Each answer is read whole, also while the client still sends.
+  - An exchange that got 503 has changed nothing, except that a flush order may have taken its flush, which was then given back, or
+    ended by the answer of the back end that received it. If the exchange with the back end found no memory, its flush is given
+    back, and the order's answer says so.
+  - At the end the gateway prints the report that follows from all this, and how many points were admitted and acknowledged, with
+    status 0. Or it ends with `gateway: no memory`, status 1, and prints nothing. It also ends this way, or with
+    `gateway: cannot start a thread`, if it cannot start.
+The last line counts runs that passed and failed. The status is 0 if none failed.
 """
 import copy
 import sys
@@ -26,17 +26,17 @@ from testing.loopback import NO_MEMORY, BackEnd, Gateway, ordered, point, posted
 
 JSON = b"application/json"
 DONE = response(b"200 OK", JSON, b"{}")
-# JSON may have blanks: so many that a client still sends while the gateway reads.
+# JSON may contain blanks. There are so many that a client still sends while the gateway reads.
 BLANKS = b" " * 400_000
 
 
 FAULT = b"400 Bad Request"
-# A request in chunks, and one with two foreign points.
+# A chunked request, and one with two points of unsupported types.
 CHUNKED = (b"POST /v1/metrics HTTP/1.1\r\nContent-Type: application/json\r\nTransfer-Encoding: chunked\r\n\r\n"
            b"2\r\n{}\r\n0\r\n\r\n")
 FOREIGN = (b'{"resourceMetrics":[{"scopeMetrics":[{"metrics":[{"name":"g","gauge":{"dataPoints":['
            b'{"asInt":"1","timeUnixNano":"20"},{"asDouble":1.5,"timeUnixNano":"20"}]}}]}]}]}')
-# A histogram and a sum with attributes of each kind, and a point of the sum `a`.
+# A histogram and a sum with attributes of each type, and a point of the sum `a`.
 MIXED = (b'{"resourceMetrics":[{"resource":{"attributes":[{"key":"host","value":{"stringValue":"h"}}]},"scopeMetrics":['
          b'{"scope":{"name":"s","version":"1"},"metrics":[{"name":"h","unit":"ms","histogram":{'
          b'"aggregationTemporality":1,"dataPoints":[{"count":"7","sum":30,"explicitBounds":[0,5,10],'
@@ -51,7 +51,7 @@ MOST = 2**63 - 1
 
 
 class Store:
-    """What a gateway holds of the sum `a`, as docs/FORMATS.md has it. Rows are (points, value)."""
+    """A model of what a gateway holds of the sum `a`, as docs/FORMATS.md describes it. Rows are (points, value)."""
 
     def __init__(self) -> None:
         self.frontier = self.start = self.flushes = 0
@@ -61,7 +61,7 @@ class Store:
         self.sent: list[list[tuple[int, int, int]]] = []
 
     def post(self, start: int, end: int, value: int, sender: str = "A", place: int = 0) -> bytes:
-        """A post of a point, which has this place among those of its body."""
+        """A post of one point, which has this position among the points of its body."""
         if sender in self.quarantined:
             return response(b"403 Forbidden", JSON, b'{"message":"quarantined"}')
         if self.owner not in (None, sender):
@@ -78,11 +78,11 @@ class Store:
         return DONE
 
     def flush(self) -> bytes:
-        """A turn by the back end's answers: 503 with a wait to the first request, 200 to all others."""
+        """A flush. The back end answers the first request with 503 and Retry-After, and all others with 200."""
         return self.turn(True, bool(self.sent), "" if self.sent else ',"retryAfter":"2"')
 
     def turn(self, sent: bool, settled: bool, wait: str) -> bytes:
-        """A turn whose request the back end got or did not get."""
+        """A flush whose request the back end received or did not receive."""
         if self.stored == (0, 0):
             return response(b"200 OK", JSON, b'{"act":"nothing"}')
         self.flushes += 1
@@ -96,7 +96,7 @@ class Store:
         return response(b"200 OK", JSON, text.encode())
 
     def give_back(self) -> None:
-        """A turn whose request found no memory."""
+        """A flush whose request found no memory."""
         self.flushes += self.stored != (0, 0)
 
     def quarantine(self) -> bytes:
@@ -122,7 +122,7 @@ class Store:
         return self.report() + last.encode()
 
 
-# Each exchange: what is sent, what a store answers to it, and whether it is an order to flush.
+# Each exchange: the request, the store's answer to it, and whether it orders a flush.
 Exchange = tuple[bytes, Callable[[Store], bytes], bool]
 EXCHANGES: list[Exchange] = [
     (posted(point(10, 20, 5)), lambda store: store.post(10, 20, 5), False),
@@ -143,17 +143,17 @@ EXCHANGES: list[Exchange] = [
 
 
 def branch(store: Store, serve: Callable[[Store], bytes]) -> tuple[bytes, Store]:
-    """A store after a call, with what the call answers."""
+    """A copy of the store after a call, and the call's answer."""
     served = copy.deepcopy(store)
     return serve(served), served
 
 
 def after(store: Store, exchange: Exchange, answer: bytes | str) -> list[Store]:
-    """The stores that an exchange with this answer may lead to from this one."""
+    """The stores that an exchange with this answer can lead to from `store`."""
     _, serve, is_order = exchange
     branches = [branch(store, serve)]
     if is_order:
-        # Where the exchange with the back end found no memory nobody knows what it answered.
+        # If the exchange with the back end found no memory, nobody knows what the back end answered.
         branches += [branch(store, lambda store: store.turn(sent, False, "")) for sent in (True, False)]
     if answer != NO_MEMORY:
         return [served for right, served in branches if answer == right]
@@ -166,7 +166,7 @@ def after(store: Store, exchange: Exchange, answer: bytes | str) -> list[Store]:
 
 def exchange_all(refusing: Refusing, program: str, growth: int,
                  form: str) -> tuple[list[bytes | str], list[list[tuple[int, int, int]]], Run]:
-    """A run: the answers, the end, and what the back end got."""
+    """Makes a run. Returns the answers, the end, and what the back end received."""
     back_end = BackEnd([b"503 Service Unavailable\r\nRetry-After: 2\r\n"])
     environment = refusing.environment(growth, form)
     gateway = Gateway(program, back_end.port, len(EXCHANGES), environment)
@@ -183,7 +183,7 @@ def exchange_all(refusing: Refusing, program: str, growth: int,
 
 
 def has_not_started(answers: list[bytes | str], run: Run) -> bool:
-    """Whether the gateway ended before it could serve: nobody listens, or hangs up at once."""
+    """Whether the gateway ended before it could serve: nobody listens, or the connection is closed at once."""
     faults = (b"gateway: no memory\n", b"gateway: cannot start a thread\n")
     answered = [answer for answer in answers if isinstance(answer, bytes) and answer]
     return (run.status, run.out) == (1, b"") and run.err in faults and not answered
@@ -196,7 +196,7 @@ def full_answers() -> list[bytes]:
 
 def way_of(answers: list[bytes | str], bodies: list[list[tuple[int, int, int]]], run: Run,
            form: str) -> tuple[str | None, str | None]:
-    """In which way the run ended, and what is wrong where it is none of them."""
+    """The way in which a run ended, or None and what is wrong."""
     no_memory = (run.status, run.out, run.err) == (1, b"", b"gateway: no memory\n")
     if run.refused and has_not_started(answers, run):
         return "could not start", None

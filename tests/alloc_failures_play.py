@@ -1,22 +1,21 @@
 #!/usr/bin/env python3
-"""The program play, with each growth of its memory refused in turn.
+"""Runs the program play while each growth of its memory fails in turn.
 
 Call: tests/alloc_failures_play.py PROGRAM [SCRIPT..], with the path of the built play; it needs gcc.
 
-For each tests/scripts/NAME.script, and each k from 1 until a run meets no refusal, it runs the script
-while growth k alone is refused, and while all from k on are. The full run writes NAME.replies. Two
-lines are put behind each script, which show what the store has at its end. In whose line growth k is,
-a full run counts.
-  - A run that met no refusal is the full run.
-  - With all from k on refused the run ends with `play: no memory` behind the replies to the lines
-    before, which are those of the full run.
-  - With k alone it ends so too, where the reply's text was refused. Or the line is answered `refused
-    no-memory`, where it may take memory, and the others as in a run of the script without it; a `wire`
-    may also have taken its flush and given it back. Or all are answered as in the full run, where the
-    line's command can do without. So a call that takes no memory has no growth but that of its reply.
-Where growth k alone has a line refused, the script is run once more with that line twice. The second time
-it is answered in full, and so are all others: as in the full run, but for what a `wire` has given back.
-The last line counts the runs that passed and failed, and the status is 0 where none failed.
+For each tests/scripts/NAME.script, and each k from 1 until no growth fails in a run, the test runs the script twice: in one run growth
+k alone fails, in the other all from k on. The full run must print NAME.replies. Two lines are added to each script, which show the
+store at its end. A full run counts which line's growth k is.
+  - A run in which no growth failed is the full run.
+  - If all growths from k on fail, the run ends with `play: no memory` after the replies to the lines before, which are those of the
+    full run.
+  - If k alone fails, the run may end in the same way, if it was the text of the reply that failed. Or the reply to the line is
+    `refused no-memory`, if the command may take memory, and the other replies are those of a run without the line; a `wire` may also
+    have taken its flush and given it back. Or all replies are those of the full run, if the command can do without the memory.
+    Hence a command that takes no memory has no growth except that of its reply.
+If a line was refused because growth k alone failed, the script runs once more with that line twice. The second time it must be
+answered in full, and so must all other lines: as in the full run, except for what a `wire` has given back.
+The last line counts runs that passed and failed. The status is 0 if none failed.
 """
 from __future__ import annotations
 
@@ -36,9 +35,9 @@ from testing.alloc_failures import FORMS, Counts, Refusing, Run, plain, program_
 PROBE = [b"report", b"take 1000"]
 NO_MEMORY = b"refused no-memory\n"
 TAKES_MEMORY = {b"admit", b"post", b"take", b"wire", b"report", b"hold", b"lift", b"round", b"past"}
-# What gives back the room that an identity does not need, or asks for that of all points at once.
+# Commands that give back unneeded room of an identity, or ask for the room of all points at once. They succeed without it.
 DOES_WITHOUT = {b"admit", b"post"}
-# So many growths are that of all points of a body: without it each point asks for its own.
+# From this many growths on, one of them is that for all points of a body: if it fails, each point asks for its own room.
 ROOM = 2
 
 
@@ -52,14 +51,14 @@ def verb(line: bytes) -> bytes:
 
 
 class Player:
-    """A script with its full run, its runs without a line, and itself with a line twice."""
+    """A script with its full run, the runs without one line, and the script with one line twice."""
 
     def __init__(self, refusing: Refusing, program: str, name: str, script: list[bytes],
                  size: int | None = None) -> None:
         self.refusing = refusing
         self.program = program
         self.name = name
-        # A last line, which is no command, makes the input as long as that of a script with a line twice.
+        # The last line is not a command. It makes the input as long as that of a script with a line twice.
         size = size or len(b"".join(script)) + len(script) + max(map(len, script)) + 3
         pad = b"-" * (size - len(b"".join(script)) - len(script) - 1)
         self.size = size
@@ -72,7 +71,7 @@ class Player:
         self.twice: dict[int, Player] = {}
 
     def counted(self, lines: list[bytes]) -> list[tuple[int, bytes]]:
-        """The reply to each line, with how many growths there were before it was written: each is one write."""
+        """The reply to each line, with the number of growths before it was written. Each reply is one write."""
         pieces = self.refusing.counted([self.program], b"".join(line + b"\n" for line in lines))
         assert len(pieces) == len(lines), self.name
         return pieces
@@ -81,11 +80,11 @@ class Player:
         return self.refusing.run([self.program], self.given, growth, form)
 
     def place_of(self, growth: int) -> int:
-        """The place of the line that has this growth."""
+        """The position of the line to which this growth belongs."""
         return bisect.bisect_left(self.growths, growth)
 
     def with_twice(self, place: int) -> Player:
-        """The script with the line at this place twice."""
+        """The script with the line at this position twice."""
         if place not in self.twice:
             lines = self.script[:-1]
             script = lines[:place + 1] + lines[place:]
@@ -94,15 +93,14 @@ class Player:
         return self.twice[place]
 
     def stand_ins(self, place: int) -> list[list[bytes]]:
-        """What the line at this place may have done where it was refused: nothing, or, of a `wire`, a Take and
-        its GiveBack."""
+        """What the line at this position may have done if it was refused: nothing, or, if it is a `wire`, a Take and its GiveBack."""
         flush = re.match(rb"flush (\d+)\n", self.replies[place])
         if verb(self.script[place]) != b"wire" or not flush:
             return [[]]
         return [[], [b"take" + self.script[place][4:], b"back " + flush[1]]]
 
     def refused(self, place: int) -> list[bytes]:
-        """What the script may write where the line at this place alone is refused."""
+        """The outputs that the script may have if the line at this position alone is refused."""
         if place not in self.known:
             self.known[place] = []
             before, after = self.script[:place], self.script[place + 1:]
@@ -113,7 +111,7 @@ class Player:
         return self.known[place]
 
     def way_of(self, run: Run, growth: int, form: str) -> tuple[str | None, str | None]:
-        """In which way the run ended in which this growth was to be refused, and what is wrong where it is none."""
+        """The way in which a run ended in which this growth was to fail, or None and what is wrong."""
         full = (0, b"".join(self.replies), b"")
         ended = (run.status, run.out, run.err)
         if run.refused == 0:
@@ -129,13 +127,13 @@ class Player:
         return None, f"not what may be where line {place} finds no memory: {ended}"
 
     def bodies(self) -> list[int]:
-        """The places of the bodies that are admitted."""
+        """The positions of the bodies that are admitted."""
         lines = enumerate(zip(self.script, self.replies))
         return [place for place, (line, reply) in lines if verb(line) == b"post" and reply.startswith(b"batch ")]
 
 
 def play_again(counts: Counts, player: Player, growth: int) -> None:
-    """The run of the script with the line twice that this growth alone has refused."""
+    """Runs the script with the line twice that was refused because this growth alone failed."""
     twice = player.with_twice(player.place_of(growth))
     run = twice.run(growth, "alone")
     way, fault = twice.way_of(run, growth, "alone")
@@ -144,7 +142,7 @@ def play_again(counts: Counts, player: Player, growth: int) -> None:
 
 
 def play_all(refusing: Refusing, counts: Counts, program: str, path: str) -> None:
-    """All runs of a script."""
+    """Makes all runs of a script."""
     name = os.path.basename(path).removesuffix(".script")
     with open(path, "rb") as file:
         script = lines_of(file.read())

@@ -1,11 +1,11 @@
 #!/usr/bin/env python3
-"""A back end for tests: takes a request for each of its arguments, and answers it so.
+"""A back end for tests: answers one request for each of its arguments, and ends.
 
     tests/back_end.py FOLDER ANSWER ..
 
-Listens on a port of its own, which it writes to FOLDER/port. An ANSWER is a status, a status and the
-seconds of Retry-After joined by a comma (503,2), or `none`: the connection is closed with no answer.
-Each request, head and body, byte by byte as it came, is written to FOLDER/request-1, request-2, ..
+It listens on a free port, which it writes to FOLDER/port. An ANSWER is a status, or a status and the seconds of Retry-After (503,2), or
+`none`, which closes the connection without an answer. It writes each request, head and body, byte by byte to FOLDER/request-1,
+request-2, ..
 """
 import socket
 import sys
@@ -14,7 +14,7 @@ from testing.loopback import answered, request_of
 
 
 def bytes_of(answer: str) -> bytes:
-    """The bytes of an answer, by its argument."""
+    """The bytes of the answer that an argument describes."""
     status, _, seconds = answer.partition(",")
     retry = f"Retry-After: {seconds}\r\n" if seconds else ""
     return answered(f"{status} Answered\r\n{retry}".encode())

@@ -1,16 +1,15 @@
 #!/usr/bin/env python3
-"""The service behind a real haproxy, by operate/haproxy.cfg, and a real nginx, by what docs/OPERATING.md has.
+"""Runs the service behind a real haproxy, by operate/haproxy.cfg, and a real nginx, by the section in docs/OPERATING.md.
 
     tests/behind_proxies.py TOTXEGUN [haproxy|nginx ..]
 
-Names first: the proxy ends TLS, and the service names a sender by its token; another's name is refused, and haproxy wants
-one, since several services share senders by it. Then what is hidden, sizes, encodings, HTTP/2. Then senders post on
-connections that they keep and repeat each post until it is answered, while the proxy, the service, and both are killed by
-`kill -9`. At the end the SQLite sink has, series by series, what the senders were told is taken, and each series has its
-own sender.
+First the names: the proxy ends TLS, and the service names a sender by its token. Another sender's name is refused. haproxy requires a
+name, because it spreads senders over several services by it. Then hidden paths, sizes, encodings and HTTP/2. Then senders post over
+connections that they keep, and retry each post until it is answered, while the proxy, the service, and both are killed by `kill -9`.
+At the end the SQLite sink must have, for each series, what the senders know to be accepted, and each series its own sender.
 
-It needs haproxy, nginx, curl and openssl. Where one is missing a line says so, and the status is 77. Each other line is one
-check; the last one counts those that passed and failed, and the status is 1 where one failed.
+It needs haproxy, nginx, curl and openssl; if one is missing, a line says so and the status is 77. Each other line is a check; the last
+line counts passes and failures. The status is 1 if one failed.
 """
 import contextlib
 import gzip
@@ -40,7 +39,7 @@ PAUSE = 1
 LIMIT = 4_194_304
 HIDDEN = ["/", "/flush", "/report", "/metrics", "/status", "/dead-letters", "/quarantine/sender-1", "//flush", "/%66lush",
           "/v1/metrics/../../flush", "/v1/metrics/"]
-# Of whose tokens, beside those of the senders.
+# Tokens of names that are not those of the senders.
 TOKENS = {"t0ken": "by-token"}
 PAGE = os.path.join(ROOT, "docs", "OPERATING.md")
 
@@ -54,7 +53,7 @@ def openssl(at: str, *words: str) -> None:
 
 
 def make_names(at: str, senders: int = SENDERS) -> None:
-    """The proxy's certificate, and the file of --tokens."""
+    """Makes the proxy's certificate and the file of --tokens."""
     key = ["-newkey", "ec", "-pkeyopt", "ec_paramgen_curve:prime256v1", "-nodes"]
     openssl(at, "req", "-x509", *key, "-keyout", "ca.key", "-out", "ca.pem", "-subj", "/CN=ca", "-days", "2")
     with open(f"{at}/names", "w") as file:
@@ -76,7 +75,7 @@ def make_names(at: str, senders: int = SENDERS) -> None:
 
 
 class Proxy:
-    """A proxy with a copy of its shipped file or the page's part, in front of the service. `replaced` is what else is another."""
+    """A proxy in front of the service, with a copy of its shipped file or of the page's section. `replaced` has further replacements."""
 
     def __init__(self, stack: contextlib.ExitStack, kind: str, at: str, listen: int,
                  replaced: Mapping[str, str] | None = None) -> None:
@@ -91,12 +90,12 @@ class Proxy:
         self.process: subprocess.Popen[bytes] = None
 
     def own(self) -> dict[str, Any]:
-        """Places, and users, which only root can change; the remarks name the ports too."""
+        """Replacements: paths, users (which only root can change), and the ports in comments."""
         users = {} if os.getuid() == 0 else {"    user haproxy\n": "", "    group haproxy\n": ""}
         return {"haproxy": {"at port 4320": "", "/run/haproxy": self.at, **users}, "nginx": {}}
 
     def whole(self, section: str) -> str:
-        """What nginx has around it."""
+        """nginx's configuration around the section."""
         temporary = "".join(f"{name}_temp_path {self.at}/{name};\n" for name in ("client_body", "proxy", "fastcgi", "uwsgi", "scgi"))
         return (f"pid {self.at}/pid;\nerror_log {self.at}/error.log;\nevents {{ worker_connections 4096; }}\n"
                 f"http {{\naccess_log off;\n{temporary}{section}}}\n")
@@ -110,9 +109,9 @@ class Proxy:
                 raise OSError(f"{self.kind} does not start: {log.read()[-1000:]}")
 
     def kill(self) -> None:
-        """As `kill -9` of all its processes."""
+        """Kills all its processes with SIGKILL."""
         end_group(self.process)
-        # A worker of nginx may outlive the process that started it by a moment, and listens until then.
+        # A worker of nginx may outlive its parent by a moment, and still listens until it ends.
         wait_until(lambda: not listens(self.port))
 
 
@@ -127,7 +126,7 @@ def connection(proxy: Proxy, seconds: float = SECONDS) -> http.client.HTTPSConne
 
 
 class Poster:
-    """Posts a point of a series of its own by each call, and gives the status: None where there is no answer."""
+    """Each call posts a point of a series of its own and returns the status, or None if there is no answer."""
 
     def __init__(self, proxy: Proxy) -> None:
         self.proxy = proxy
@@ -152,7 +151,7 @@ class Poster:
 
 
 class Client(Sender):
-    """A sender by way of the proxy, with its token."""
+    """A sender that posts through the proxy, with its token."""
 
     def __init__(self, service: Service | None, proxy: Proxy, number: int, seed: float = 0, seconds: float = SECONDS) -> None:
         super().__init__(service, number, seed, seconds)
@@ -168,7 +167,7 @@ class Client(Sender):
 
 
 def owners(service: Service) -> dict[str, str]:
-    """The senders of all series, by the service's report, which is at its socket."""
+    """The sender of each series, by the report of the service's admin socket."""
     _, report = ask(service.socket, "GET", "/report")
     return dict(re.findall(r"^series (\S+) .* owner (\S+) ", report.decode(), re.MULTILINE))
 
@@ -179,7 +178,7 @@ def names(checks: Checks, proxy: Proxy, service: Service, post: Poster) -> None:
     checks.same(f"{kind}: a token of nobody", 401, post("no"))
     checks.same(f"{kind}: a token in other letters", 401, post("T0KEN"))
     checks.same(f"{kind}: another's name", 403, post("t0ken", name="victim"))
-    # Of several services none is that of who names nobody.
+    # haproxy cannot choose one of several services for a sender without a name.
     checks.same(f"{kind}: no name beside a token", 401 if kind == "haproxy" else 200, post("t0ken", name=None))
     checks.same(f"{kind}: a token", 200, post("t0ken"))
     checks.same(f"{kind}: whose these series are", {"by-t0ken": "by-token"}, owners(service))
@@ -199,14 +198,14 @@ def encodings(checks: Checks, proxy: Proxy, post: Poster) -> None:
 
 
 def by_curl(checks: Checks, proxy: Proxy) -> None:
-    """HTTP/2, and a long body that curl asks for leave to send."""
+    """Posts over HTTP/2, and a long body for which curl first waits for 100."""
     with open(f"{proxy.at}/body", "wb") as file:
         file.write(in_json([("by-curl", 10, 20, 1)]) + b" " * 2_000_000)
     asking = ["-H", "Expect: 100-continue", "--expect100-timeout", str(SECONDS)]
-    # The second one repeats the first. nginx asks nobody to go on over HTTP/2.
+    # The second post is a duplicate of the first. nginx does not send 100 over HTTP/2.
     for how, wanted in ((["--http2", "-H", "Expect:"], "200 2"), (["--http1.1", *asking], "200 1.1")):
         checks.same(f"{proxy.kind}: curl {how[0]}", wanted, curl(proxy, "t0ken", *how, "--data-binary", f"@{proxy.at}/body"))
-    # Who is refused before all of it is there has an answer too: as often as it takes to find one that has none.
+    # A post that is refused before its body is complete must be answered too. It is repeated to find a case without an answer.
     for protocol, version in ("--http2", "2"), ("--http1.1", "1.1"):
         for length, body in (1000, "x" * 1000), (2_000_000, f"@{proxy.at}/body"):
             found = {curl(proxy, "no", protocol, "-H", "Expect:", "--data-binary", body) for _ in range(20)}
@@ -214,7 +213,7 @@ def by_curl(checks: Checks, proxy: Proxy) -> None:
 
 
 def curl(proxy: Proxy, token: str, *words: str) -> str:
-    """The status and the version of an answer."""
+    """The status and the HTTP version of an answer."""
     run = subprocess.run(
         ["curl", "-s", "-m", str(SECONDS), "-o", "/dev/null", "-w", "%{http_code} %{http_version}",
          "--cacert", f"{proxy.at}/ca.pem", "-H", "Content-Type: application/json", "-H", f"Authorization: Bearer {token}",
@@ -225,7 +224,7 @@ def curl(proxy: Proxy, token: str, *words: str) -> str:
 
 
 def kills(proxy: Proxy, service: Service) -> list[Callable[[], None]]:
-    """What is done while senders post, one after the other."""
+    """The kills that happen while senders post, one after the other."""
     def kill_proxy() -> None:
         proxy.kill()
         proxy.start()

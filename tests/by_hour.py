@@ -1,16 +1,16 @@
 #!/usr/bin/env python3
-"""Sums by hour and month, of senders that post in time, late, and many hours at once.
+"""Tests sums by hour and month, with senders that post in time, late, and many hours at once.
 
     tests/by_hour.py TOTXEGUN [SECONDS] [SEED]
 
-Two services, one with a SQLite file and one with PostgreSQL (left out where there is none), for so many seconds (15). Four
-senders of each go through two months, over a month's end: in steps of minutes, in one post of up to 48 hours, and in points
-that end at a full hour or cover one; in JSON and protobuf, packed or not. Each repeats a post until it is answered, while the
-service is killed and flushed. Now and then a point comes from a clock that is a year ahead: it is not taken, and harms nothing.
+Two services run for SECONDS (15), one with a SQLite file and one with PostgreSQL (left out if it is not installed). Four senders of each
+go through a month, over a month's end: in steps of minutes, in posts of up to 48 hours, and with points that end at a full hour or
+cover one; in JSON and protobuf, compressed or not. Each retries a post until it is answered, while the service is killed and flushed.
+Now and then a sender posts a point that is a year ahead: the service leaves it out, and it must do no harm.
 
-At the end the sink has, by series and hour and bucket by bucket, what the senders count themselves: a point counts where it
-ends. So do its months, and no span covers two hours but one that a point did. Each line is one check; the last line counts
-those that passed and failed, and the status is 0 where none failed.
+At the end the sink must have, by series and hour and for each bucket, what the senders counted: a point counts in the hour in which it
+ends. The same holds by month, and no stored interval covers the end of an hour unless a point did. Each line is a check; the last
+line counts passes and failures. The status is 0 if none failed.
 """
 import contextlib
 import json
@@ -32,9 +32,9 @@ MINUTE, HOUR, DAY = (60 * 10**9, 3600 * 10**9, 86_400 * 10**9)
 SENDERS = 4
 SECONDS = 15
 PATIENCE = 120
-# They go through so much time, and end some days ago.
+# The senders go through this much time, and end some days ago.
 LONG = 31 * DAY
-# Of two books: what waits for a database is a request for each of them and each hour.
+# A limit that gives two books. Both may wait for a database with a request for each hour.
 SERIES = "16000"
 ROWS = "select name, {hour}, total, buckets from {by_hour}"
 MONTHS = "select name, {month}, total from {by_month}"
@@ -42,11 +42,11 @@ CROSSING = "select count(*) from {span} where start_ns / {HOUR} < (end_ns - 1) /
 
 
 class HourlySender(Sender):
-    """Notes by the hours in which points end; `edges` is how many of them cover a full hour."""
+    """Adds up points by the hour in which they end; `edges` counts points that cover the end of an hour."""
 
     def __init__(self, service: Service, number: int, seed: str) -> None:
         super().__init__(service, number, seed)
-        self.end = time.time_ns() - 3 * DAY  # a post may have two days
+        self.end = time.time_ns() - 3 * DAY  # one post may cover two days
         self.time = self.end - LONG + self.chance.randrange(HOUR)
         self.hours: dict[tuple[str, int], Any] = {}
         self.edges = self.lumps = self.ahead = 0
@@ -79,7 +79,7 @@ class HourlySender(Sender):
             self.hours[key] = added(self.hours.get(key), value)
 
     def post_ahead(self) -> None:
-        """A point of a year from now, of a series that goes on."""
+        """Posts a point that is a year ahead, of a series that goes on."""
         start = time.time_ns() + 365 * DAY + HOUR
         status, text = self.try_once(*self.encoded([(f"{self.name}.sum", start, start + 10, 1)]))
         if status == 200:
@@ -97,7 +97,7 @@ class HourlySender(Sender):
 
 
 class File:
-    """A SQLite file, and what is asked of it."""
+    """A SQLite file and its queries."""
 
     words = {"hour": "unixepoch(hour) / 3600", "by_hour": "by_hour", "month": "substr(month, 1, 7)", "by_month": "by_month",
              "span": "intervals"}
@@ -111,11 +111,11 @@ class File:
             return database.execute(query).fetchall()
 
     def close(self) -> None:
-        """It needs no end."""
+        """Does nothing."""
 
 
 class Server(Database):
-    """A PostgreSQL, and the same."""
+    """A PostgreSQL server and its queries."""
 
     words = {"hour": "extract(epoch from hour)::bigint / 3600", "by_hour": "totxegun.by_hour",
              "month": "to_char(month at time zone 'UTC', 'YYYY-MM')", "by_month": "totxegun.by_month", "span": "totxegun.intervals"}
@@ -133,7 +133,7 @@ class Server(Database):
 
 
 def counted(total: Any, buckets: Any) -> Any:
-    """A sum, or a histogram's buckets and sum."""
+    """The value of a sum, or a histogram's buckets and sum."""
     if buckets is None:
         return int(total)
     listed = json.loads(buckets) if isinstance(buckets, str) else buckets
@@ -194,7 +194,7 @@ def look(checks: Checks, kind: str, sink: File | Server, senders: list[HourlySen
     checks.same(f"{kind}: {what}", [], differences(wanted, found))
     months = {(name, month): int(total) for name, month, total in sink.ask(MONTHS.format(**sink.words))}
     checks.same(f"{kind}: and by month", [], differences(by_month(wanted), months))
-    # A span ends in an hour that is not its first only where a point does: spans may be fewer, since such points are joined.
+    # A stored interval crosses the end of an hour only if a point did. There may be fewer of them, because such points are joined.
     crossing = int(sink.ask(CROSSING.format(HOUR=HOUR, **sink.words))[0][0])
     edges = sum(sender.edges for sender in senders)
     checks.true(f"{kind}: {crossing} spans of two hours, {edges} points", crossing <= edges, "an hour is crossed")

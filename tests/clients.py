@@ -1,22 +1,19 @@
 #!/usr/bin/env python3
-"""Clients of several languages post to the service, and each counts what it was told is taken.
+"""Posts to the service with clients of several languages, each of which counts what was accepted.
 
     tests/clients.py TOTXEGUN
 
-curl (JSON; protobuf packed by gzip; over 1 KiB behind `Expect: 100-continue`; HTTP/1.0; in chunks from its standard input),
-wrk on kept connections, Python (http.client on a kept connection, urllib), Node (http with an agent, fetch) and Java
-(HttpClient as it is, which asks for HTTP/2, and in HTTP/1.1). Python, Node and Java post in JSON, and in protobuf that
-Python's library has written. Each way has a series of its own, and repeats what is answered 503 after as many seconds as
-Retry-After says.
+The clients are curl (JSON; gzipped protobuf; more than 1 KiB after `Expect: 100-continue`; HTTP/1.0; in chunks from standard input),
+wrk on kept connections, Python (http.client on a kept connection, urllib), Node (http with an agent, fetch) and Java (HttpClient with
+its defaults, which asks for HTTP/2, and with HTTP/1.1). Python, Node and Java post JSON, and protobuf that Python's library has
+written. Each way has a series of its own, and after a 503 retries as Retry-After says.
 
-First wrk is alone, and each answer has to be 200. Then all post at once, while the disk of the service's folder, which is
-small, is full twice. The sink has to have what each has counted; of wrk, which breaks off a post at its end, what the
-service has counted. Two ways post fractions of a second: the service has to say of each of these series by how much it
-rounded.
+First wrk runs alone, and each answer must be 200. Then all clients post at once, while the small disk of the service's folder is full
+twice. The sink must have what each client counted. wrk breaks off a post at its end, so for wrk it must have what the service counted.
+Two ways post fractions of a second: the service must report for each of their series by how much it rounded.
 
-It needs curl, wrk, python3-protobuf and root's right to mount; where one is missing a line says so, and the status is 77.
-Each other line is one check; the last one counts those that passed and failed and names the clients that are not installed,
-and the status is 1 where one failed.
+It needs curl, wrk, python3-protobuf and root's right to mount; if one is missing, a line says so and the status is 77. Each other line
+is a check; the last line counts passes and failures and names the clients that are not installed. The status is 1 if one failed.
 """
 import contextlib
 import importlib.util
@@ -30,7 +27,7 @@ import threading
 import time
 from typing import Any
 
-# Debian's package is for Debian's Python.
+# Debian's packages are for Debian's Python.
 if importlib.util.find_spec("google") is None and os.path.realpath(sys.executable) != os.path.realpath("/usr/bin/python3"):
     os.execv("/usr/bin/python3", ["/usr/bin/python3", *sys.argv])
 
@@ -41,27 +38,27 @@ from testing.ways import BODIES, External, InSeconds, Programs, Wrk, own_ways
 from protobuf_bodies import HAS_LIBRARY, message_classes
 
 RULE = "s=1000000:us"
-# A machine that is busy takes its time.
+# In seconds; long enough for a busy machine.
 PATIENCE = 180
 LEAST_POSTS = 200
-# Of the disk, and of the file that fills it: 64 MiB are kept back of any disk.
+# The sizes of the disk and of the file that fills it. The service keeps 64 MiB of any disk free.
 DISK, FILL = 256 << 20, 200 << 20
 
 
 def metrics(service: Service) -> dict[str, float]:
-    """Each line of the page, by its name with labels."""
+    """The value of each metric, by its name with labels."""
     _, page = ask(service.operate, "GET", "/metrics")
     lines = [line.rsplit(" ", 1) for line in page.decode().splitlines() if not line.startswith("#")]
     return {name: float(value) for name, value in lines}
 
 
 def accepted(service: Service) -> float:
-    """How many posts it has answered 200."""
+    """How many posts the service has answered with 200."""
     return metrics(service)['totxegun_requests_total{code="200",reason=""}']
 
 
 def is_settled(service: Service) -> bool:
-    """Whether no post is under way any more: the service may take one that wrk has broken off."""
+    """Whether no post is being handled any more: the service may accept one that wrk has broken off."""
     counts = [-1.0]
 
     def is_still() -> bool:
@@ -72,7 +69,7 @@ def is_settled(service: Service) -> bool:
 
 
 def totals(checks: Checks, what: str, service: Service, sink: SqliteSink) -> Any:
-    """What the sink has of each series, after a flush."""
+    """The sink's totals of each series, after a flush."""
     checks.true(f"{what}: within {PATIENCE} s no post is under way", is_settled(service), service.last_lines())
     service.order("/flush")
     checks.true(f"{what}: all is delivered", wait_until(service.is_drained), service.last_lines())
@@ -84,7 +81,7 @@ def totals(checks: Checks, what: str, service: Service, sink: SqliteSink) -> Any
 
 
 def compare_wrk(checks: Checks, what: str, told: dict[str, int], found: Any, accepted: float) -> None:
-    """Each series has what was answered, and a post more where wrk broke it off after its end; the service counted all."""
+    """Checks that each series has what was answered, or one post more if wrk broke it off at the end, and that the service counted all."""
     found = {name: found.get(name, 0) for name in told}
     checks.true(f"{what}: of each series the sink has what was answered, or one post more",
                 all(found[name] - told[name] in (0, 1) for name in told), (told, found))
@@ -114,7 +111,7 @@ def read(ways: list[Any]) -> list[Any]:
 
 
 def have_more(ways: list[Any], than: dict[str, int]) -> bool:
-    """Whether each way has two posts more that were taken."""
+    """Whether each way has had two more posts accepted since."""
     def has(way: Any) -> bool:
         out_of_bodies = isinstance(way, External) and way.taken == BODIES
         return bool(way.taken > than.get(way.series, 0) + 1 or out_of_bodies or way.surprise)
@@ -122,7 +119,7 @@ def have_more(ways: list[Any], than: dict[str, int]) -> bool:
 
 
 def fill_disk(checks: Checks, service: Service, ways: list[Any], folder: str, which: int) -> None:
-    """Posts are turned away; then there is room again, and each way goes on."""
+    """Fills the disk until posts are turned away, and makes room again, after which each way must go on."""
     before = turned_away(service)
     with open(f"{folder}/fill", "wb") as file:
         os.posix_fallocate(file.fileno(), 0, FILL)
@@ -135,20 +132,20 @@ def fill_disk(checks: Checks, service: Service, ways: list[Any], folder: str, wh
 
 
 def beside(checks: Checks, service: Service, ways: list[Any], folder: str, stack: contextlib.ExitStack) -> Wrk:
-    """All at once, over a disk that is full twice."""
+    """Runs all clients at once over a disk that is full twice."""
     checks.true("each way posts", have_more(ways, {}), [(way.series, way.taken, way.surprise) for way in ways])
     wrk = Wrk(service.listen, folder, "wrk.beside")
     stack.callback(wrk.kill)
     for which in (1, 2):
         time.sleep(0.7)
         fill_disk(checks, service, ways, folder, which)
-    time.sleep(1.2)  # so long waits who is told so
+    time.sleep(1.2)  # a client that got Retry-After waits this long
     wrk.end(checks, "wrk beside the others")
     return wrk
 
 
 def compare_rounding(checks: Checks, totxegun: str, service: Service, ways: list[InSeconds], found: Any) -> None:
-    """What the service says of the series in seconds, beside what was counted here."""
+    """Compares the service's report on the series in seconds with what was counted here."""
     (rounded,) = service.status()["rounded"]
     wanted = {way.series: (way.rounded, round(float(way.rounded_by), 6)) for way in ways}
     checks.same("status has by how much each series was rounded", (RULE, len(ways), wanted),
@@ -166,7 +163,7 @@ def compare_rounding(checks: Checks, totxegun: str, service: Service, ways: list
 
 
 def run(checks: Checks, totxegun: str, folder: str, stack: contextlib.ExitStack) -> list[str]:
-    """Which clients are not installed."""
+    """Runs the test, and returns the clients that are not installed."""
     sink, stop = SqliteSink(f"{folder}/sink.db"), threading.Event()
     service = Service(totxegun, f"{folder}/data", sink.address, "--flush-interval", "1s", "--integer-unit", "s=us")
     stack.callback(service.kill)

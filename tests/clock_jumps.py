@@ -1,15 +1,15 @@
 #!/usr/bin/env python3
-"""The service's clock is set ahead by an hour, back by an hour, and right again, while senders with right clocks post.
+"""Sets the service's clock an hour ahead, an hour back, and right again, while senders with right clocks post.
 
     tests/clock_jumps.py TOTXEGUN [SECONDS]
 
-It needs gcc: a preloaded library (set_clock.c) adds to the time of day. Each of five times of SECONDS (2) the service is killed once,
-and goes on. By a clock that is ahead all points are taken; by one that is behind they are left out, and their senders are told
-so. While it is ahead the present hour is closed, which has ended by it: what comes for it later counts in a later hour.
+It needs gcc: a preloaded library (set_clock.c) adds to the time of day. In each of five periods of SECONDS (2) the service is killed
+once and restarted. While its clock is ahead, all points are accepted; while it is behind, points are left out, and their senders are
+told so. While the clock is ahead, the present hour is closed, which has already ended by that clock: points that arrive for it later
+count in a later hour.
 
-At the end the SQLite file has, by sender, what was said to be taken, and by hour what the senders count themselves: of the closed
-hour what it had, and the rest as late. Each line is one check; the last line counts those that passed and failed, and the
-status is 0 where none failed.
+At the end the SQLite file must have, for each sender, what was accepted, and for each hour what the senders counted: for the closed hour
+what it had then, and the rest as late. Each line is a check; the last line counts passes and failures. The status is 0 if none failed.
 """
 import contextlib
 import os
@@ -33,7 +33,7 @@ TIMES = (0, HOUR, 0, -HOUR, 0)
 
 
 class Clock:
-    """That of the service: so many nanoseconds ahead."""
+    """The service's clock, this many nanoseconds ahead."""
 
     def __init__(self, folder: str) -> None:
         self.library, self.path = f"{folder}/set_clock.so", f"{folder}/ahead"
@@ -42,7 +42,7 @@ class Clock:
         self.set(0)
 
     def set(self, ahead: int) -> None:
-        """In place, at once."""
+        """Sets the clock at once, in the file that the library has mapped."""
         with open(self.path, "r+b" if os.path.exists(self.path) else "wb", buffering=0) as file:
             file.write(struct.pack("<q", ahead))
 
@@ -51,7 +51,7 @@ class Clock:
 
 
 class PresentSender(Sender):
-    """Posts a point a time, which ends now; by hour, what of it was said to be taken, and how many were said to be ahead."""
+    """Posts one point at a time, which ends now. Counts by hour what was accepted, and how many points were said to be ahead."""
 
     def __init__(self, service: Service, number: int) -> None:
         super().__init__(service, number)
@@ -87,13 +87,13 @@ class PresentSender(Sender):
 
 
 def go_on(service: Service, clock: Clock, senders: list[PresentSender], seconds: float) -> bool:
-    """So long, over a kill."""
+    """Lets senders post this long, with a kill in between."""
     time.sleep(seconds / 2)
     service.kill()
     service.start(clock.environment())
     posts = [sender.posts for sender in senders]
     is_ready = service.wait_ready()
-    # Each is answered again, before the clock is another: else nobody knew which clock a repeat was seen by.
+    # Each post is answered before the clock changes. Otherwise nobody knows which clock a retry was judged by.
     if not is_ready or not wait_until(lambda: all(sender.posts > before + 2 for sender, before in zip(senders, posts))):
         return False
     time.sleep(seconds / 2)
@@ -101,14 +101,14 @@ def go_on(service: Service, clock: Clock, senders: list[PresentSender], seconds:
 
 
 def settled(senders: list[PresentSender]) -> list[int]:
-    """What was taken of each, once no post is under way that saw another clock."""
+    """What each sender had accepted when no post under the earlier clock is in flight any more."""
     posts = [sender.posts for sender in senders]
     wait_until(lambda: all(sender.posts > before + 1 for sender, before in zip(senders, posts)))
     return [sum(sender.hours.values()) for sender in senders]
 
 
 def close(service: Service, hour: str) -> tuple[bool, bytes | int | None]:
-    """Closes an hour while posts go on: what the sink has not got yet comes late. What is told of it."""
+    """Closes an hour while posts go on, so that points which the sink does not have yet are late. Returns the answer."""
     service.order("/flush")
     wait_until(service.is_drained)
     status, text = service.asked("POST", f"/close/{hour}?force")

@@ -1,17 +1,17 @@
 #!/usr/bin/env python3
-"""A period that is closed, adjusted and opened again, interrupted at each call on the files of the SQLite sink.
+"""Interrupts a period's close, adjustment and reopening at each call on the files of the SQLite sink.
 
     tests/close_interrupted.py TOTXEGUN [EVERY [WAY ..]]
 
-It needs gcc. A preloaded library (interrupt_files.c) counts the calls that write, sync, cut or delete files in the sink's folder. For
-each of them, or each EVERY-th, a run is made that is interrupted there, in each of these ways or in those that are named:
-before, middle, behind: the process is killed there, of what is written half is there, or all; ENOSPC, EIO: the call fails.
-Then the service is started without the library, and the run goes on: each order is given again until it is done.
+It needs gcc. A preloaded library (interrupt_files.c) counts the calls that write, sync, truncate or delete files in the sink's folder.
+For each of them, or each EVERY-th, the test makes a run that is interrupted there, in each of these ways or in the named ones:
+before, middle, behind: the process is killed before the call, after half of the write, or after the call; ENOSPC, EIO: the call fails.
+Then the service starts without the library, and the run goes on: each order is repeated until it is done.
 
-A run closes an hour that the sink has something of, posts more of it, adjusts it and opens it again. Behind each of these the sink
-has the hour as it was closed, what came late once, and one adjustment; at the end nothing is closed.
+A run closes an hour of which the sink has points, posts more of it, adjusts it and reopens it. After each of these steps the sink must
+have the hour as it was closed, the late points once, and one adjustment; at the end nothing is closed.
 
-A line for each run that failed; the last line counts those that passed and failed, and the status is 0 where none failed.
+A line for each run that failed; the last line counts passes and failures. The status is 0 if none failed.
 """
 from __future__ import annotations
 
@@ -33,7 +33,7 @@ from service_interrupted import Failed, build
 WAYS = ("before", "middle", "behind", "ENOSPC", "EIO")
 SECONDS = 60
 HOUR = 3600 * 10**9
-# 2026-11-05 13:00, of which the sink has 5 before it is closed, and 7 late.
+# 2026-11-05 13:00. The sink has 5 of this hour before it is closed, and 7 arrive late.
 FIRST = 498_301 * HOUR
 NAME, SHOWN = "2026-11-05T13", "2026-11-05 13:00Z"
 
@@ -44,10 +44,10 @@ def post(service: Interrupted, start: int, value: int) -> Answer:
 
 
 class Interrupted(Service):
-    """A service that is started anew where it has ended, without the library."""
+    """A service that restarts without the library after it has ended."""
 
     def until(self, what: Callable[[], tuple[Any, Any]], is_done: Callable[[Any, Any], object]) -> None:
-        """Asks until it is done."""
+        """Repeats an order until it is done."""
         until = time.monotonic() + SECONDS
         while True:
             if not self.is_running():
@@ -78,7 +78,7 @@ class Runs:
                            f"unix:{folder}/admin.sock")
 
     def fill(self) -> None:
-        """What each run begins with."""
+        """Posts and flushes what each run begins with."""
         service = self.service(self.base)
         service.start()
         service.wait_ready()
@@ -88,7 +88,7 @@ class Runs:
         service.end()
 
     def one(self, at: int, way: str) -> tuple[list[str], str | None]:
-        """A run: its calls, and what is wrong."""
+        """Makes one run. Returns its calls, and what is wrong."""
         folder = tempfile.mkdtemp(dir=self.folder)
         for name in ("data", "sink"):
             shutil.copytree(f"{self.base}/{name}", f"{folder}/{name}", ignore=lambda *_: ["lock"])
@@ -101,7 +101,7 @@ class Runs:
             self.make(service, folder)
         except Failed as failed:
             fault = str(failed)
-        except Exception as error:  # A test that breaks is a failure with its place.
+        except Exception as error:  # An error of the test counts as a failed run, with its place.
             fault = f"{type(error).__name__} {error}"
         finally:
             service.kill()
@@ -112,10 +112,10 @@ class Runs:
         return calls, fault
 
     def make(self, service: Interrupted, folder: str) -> None:
-        """The run. Raises Failed."""
+        """Makes the run's steps. Raises Failed."""
         service.order_done(f"/close/{NAME}?force")
         self.look(folder, 1, (), 0)
-        # Also a repeat, whose first answer was lost.
+        # Also if this is a retry because the first answer was lost.
         service.until(lambda: post(service, FIRST + 100, 7), lambda status, text: (status, text) == (200, b"{}"))
         service.order_done("/flush")
         service.until(lambda: (service.is_drained(), None), lambda is_drained, _: is_drained)

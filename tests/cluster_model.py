@@ -1,31 +1,33 @@
 #!/usr/bin/env python3
-"""The rules of several instances over one store, tried on a model of it: every order of events, up to a bound.
+"""Tests the rules of several instances over one store on a model: every order of events, up to a bound.
 
     tests/cluster_model.py
 
-It needs no program. Two instances share slots whose files are in a store. A slot's owner has it under a term. What it writes
-goes to the store by syncs: a sync is all that was written since the last one, in order, under one number; those of several
-slots that are one transaction are done in the same moment. A sender has two posts and repeats each until it is answered; a
-post comes to any instance that takes itself for the owner, or is forwarded there. Either instance may take a slot at any
-time, so an owner that was stopped, or cut off, goes on at any later time. A statement that was sent may be executed at any
-later time, also where its connection is lost, and then its sender repeats it. The store commits on its primary, and answers
-once the standby has it. A restart of the primary shows what the standby does not have; where the primary is lost, and the
-standby takes its place, that is gone. The store may be put back from a dump, once all instances have ended: then what it lacks,
-and the sink has not, is lost, and what the sink has beyond it is no fault. Meanwhile there are checkpoints, deliveries to a sink and
-their acknowledgements, hand-overs, and in two slots a post with a part in each and a quarantine.
+It needs no program. Two instances share slots whose files are in a store. The owner of a slot has it under a term. It writes to the
+store by syncs. A sync has everything written since the last one, in order, under one number; syncs of several slots in one transaction
+happen at the same moment. A sender has two posts and retries each until it is answered. A post reaches any instance that believes it is
+the owner, or is forwarded there. Either instance may take a slot at any time, so an owner that was stopped or cut off may go on at any
+later time. A statement that was sent may be executed at any later time, even if its connection is lost; its sender then repeats it.
 
-In each state, of what the store has on both sides, and the sink:
-  - `answered and gone`: what a sender was told is taken is in no file of the slot and not in the sink;
-  - `lost`: it is in a group that the outbox has as delivered, or that goes out under another's key, and not in the sink;
+The store commits on its primary, and answers after the standby has the commit. A restart of the primary shows commits that the standby
+does not have; if the primary is lost and the standby takes over, they are gone. The store may be restored from a dump after all
+instances have ended. Then points are excused that neither the store nor the sink has any more, and so are points that the sink has and
+the store has again. Meanwhile there are checkpoints, deliveries to a sink and their acknowledgements, hand-overs, and with two slots a
+post with a part in each, and a quarantine.
+
+Each state, of the primary, the standby and the sink, is checked for these faults:
+  - `answered and gone`: a point that a sender knows to be accepted is neither in a file of the slot nor in the sink;
+  - `lost`: such a point is in a group that the outbox has as delivered, or that would go out under another group's key, and is not in
+    the sink;
   - `twice`: a point counts twice;
-  - `quarantined and taken`: a point of a sender that an operator was told is quarantined is taken, or sent, since then;
-  - `can't be read`: a file that was removed is there again.
+  - `quarantined and taken`: a point is accepted, or sent, after an operator was told that its sender is quarantined;
+  - `can't be read`: a file that was removed exists again.
 
-With all rules kept no state is at fault. Without any one of them some state is, by the name that stands beside it, or the
-test fails: so the rule is needed, and the model can see it. The search goes by breadth, so what is printed is a shortest way.
-Each rule has wrong copies of the program too, without it, in service/wrong: COPIES has their names.
+With all rules no state may have a fault. Without any single rule some state must have the fault that WITHOUT names, which shows that
+the rule is needed and that the model can see it. The search is breadth-first, so the path that it prints is a shortest one. For each
+rule there are also wrong copies of the program without it, in service/wrong: COPIES has their names.
 
-Each line is one check; the last line counts those that passed and failed, and the status is 0 where none failed.
+Each line is a check; the last line counts passes and failures. The status is 0 if none failed.
 """
 import dataclasses
 import gc
@@ -38,70 +40,71 @@ from typing import NamedTuple, TypeVar
 
 from testing.checks import Checks
 
-# Where a search is cut off: that is a failure.
+# The limit of states. A search that reaches it fails.
 MOST_STATES = 400_000
 GONE, LOST, TWICE, TAKEN, UNREADABLE = "answered and gone", "lost", "twice", "quarantined and taken", "can't be read"
 
 
 @dataclasses.dataclass(frozen=True)
 class Rules:
-    """What makes several instances exact. Each is a switch, so that the search can do without it."""
+    """The rules that make several instances exact. Each is a switch, so that the search can turn it off."""
 
-    # A sync locks the slot's row and finds its own term there: no clock says who is the owner.
+    # A sync locks the slot's row and checks that its own term is there. No clock decides who is the owner.
     a_sync_looks_at_the_term: bool = True
-    # That row is never deleted. The key of what is written is no fence: what it would conflict with is removed.
+    # That row is never deleted. The keys of written files are no fence, because the files that a late write would
+    # conflict with may be gone.
     the_fence_outlives_what_is_removed: bool = True
-    # Who takes a slot writes a new term,
+    # A takeover writes a new term,
     a_takeover_writes_a_term: bool = True
-    # also where the last owner has handed it over,
+    # even if the last owner has handed the slot over,
     a_hand_over_ends_the_term: bool = True
-    # and reads the files behind that.
+    # and the new owner reads the files after it wrote the term.
     files_are_read_behind_the_term: bool = True
-    # All of a sync is done or nothing.
+    # A sync is executed as a whole or not at all.
     a_sync_is_one_transaction: bool = True
-    # The next sync begins once the last one has its answer.
+    # The next sync begins after the answer to the last one.
     one_sync_at_a_time: bool = True
-    # A sync whose answer was lost is the same again, until an answer comes.
+    # A sync with an unknown outcome is repeated unchanged until an answer arrives.
     a_doubt_is_repeated: bool = True
-    # A sync that finds all of it done is a write too, which waits for the standby.
+    # A repeated sync that was already executed still writes something, so its commit waits for the standby.
     a_repeat_is_a_write: bool = True
-    # A sync that comes late, behind its repeat and what followed, changes nothing.
+    # A sync that arrives late, after its repetition and later syncs, changes nothing.
     a_late_copy_changes_nothing: bool = True
-    # The store answers once the standby has it.
+    # The store answers after the standby has the commit.
     a_commit_waits_for_the_standby: bool = True
-    # Who has lost the slot answers nothing of it.
+    # A fenced owner answers no post of the slot.
     who_is_lost_answers_nothing: bool = True
     # 200 waits for the sync that has the post,
     an_answer_waits_for_its_sync: bool = True
-    # a refusal for one that begins later,
+    # a refusal waits for a sync that begins later,
     a_refusal_waits_for_a_sync: bool = True
-    # and what was forwarded is answered as what was not.
+    # and the answer to a forwarded post waits in the same way.
     a_forwarded_answer_waits_too: bool = True
-    # A post is answered once each of its parts is.
+    # A post is answered after all of its parts are.
     a_post_is_answered_once_all_parts_are: bool = True
-    # All instances find the same slot for a series.
+    # All instances map a series to the same slot.
     a_series_has_one_slot: bool = True
-    # Whoever has the slot reads a post as of the same series.
+    # Every owner of the slot assigns a post to the same series.
     a_post_is_of_the_same_series_everywhere: bool = True
-    # A group is delivered once it is committed,
+    # A group is delivered after it is committed,
     a_group_is_delivered_behind_its_commit: bool = True
-    # under a key of the store, the same whoever delivers it,
+    # under a key from the store, the same for every owner,
     a_key_is_the_stores: bool = True
-    # which the sink has not, since a store that went back has each number again,
+    # which the sink cannot have yet, although a restored store uses group numbers again,
     an_epoch_is_drawn_at_each_taking: bool = True
-    # and acknowledged once the sink has it.
+    # and is acknowledged after the sink has it.
     the_sink_answers_before_the_ack: bool = True
-    # An operator is told of a quarantine once a sync has it,
+    # An operator is told of a quarantine after a sync has it,
     a_quarantine_is_told_behind_its_sync: bool = True
-    # of each slot.
+    # in each slot.
     a_quarantine_is_told_once_all_slots_have_it: bool = True
 
 
 class Left(NamedTuple):
-    """What may still happen."""
+    """Events that may still happen."""
 
     takeovers: int = 0
-    # Connections that are lost with a statement on its way.
+    # Lost connections with a statement in flight.
     doubts: int = 0
     # Restarts and losses of the primary.
     failures: int = 0
@@ -109,12 +112,12 @@ class Left(NamedTuple):
     deliveries: int = 0
     hand_overs: int = 0
     quarantines: int = 0
-    # Dumps that are made and put back.
+    # Dumps that are made and restored.
     returns: int = 0
 
 
 class World(NamedTuple):
-    """What is posted, and to how many slots: of each point (post, slot). Points of a slot are of one series, in order."""
+    """The posts and the number of slots. For each point (post, slot). The points of a slot are of one series, in order."""
 
     points: tuple[tuple[int, int], ...]
     slots: int
@@ -124,7 +127,7 @@ class World(NamedTuple):
 ONE = World(((0, 0), (1, 0)), 1)
 TWO = World(((0, 0), (0, 1)), 2)
 
-# What the search must find without a rule: in which world, within which bounds, and by which name.
+# What the search must find without a rule: in which world, within which bounds, and under which name.
 WITHOUT = {
     "a_sync_looks_at_the_term": (ONE, Left(takeovers=2), GONE),
     "the_fence_outlives_what_is_removed": (ONE, Left(takeovers=2, checkpoints=1), GONE),
@@ -151,21 +154,21 @@ WITHOUT = {
     "a_quarantine_is_told_behind_its_sync": (TWO, Left(takeovers=3, quarantines=2), TAKEN),
     "a_quarantine_is_told_once_all_slots_have_it": (TWO, Left(takeovers=2, quarantines=2), TAKEN),
 }
-# The wrong copies of the program that leave a rule out, files of service/wrong: a test has to find what is wrong with each.
+# The wrong copies of the program that leave a rule out, files of service/wrong. A test must find the mistake of each.
 COPIES = {
     "a_sync_looks_at_the_term": ("owner_writes_though_another_has_the_slot",),
     "the_fence_outlives_what_is_removed": ("key_of_what_is_written_is_the_fence",),
     "a_takeover_writes_a_term": ("takeover_keeps_the_term",),
     "a_hand_over_ends_the_term": ("hand_over_keeps_the_term",),
-    # The term comes first in two ways: a slot is opened with what the take has answered, and the term is looked for on the
-    # connection that reads. The copy is without the second.
+    # Two things ensure this order: a slot is opened with what the take returned, and the reading connection checks the
+    # term. The copy leaves out the second.
     "files_are_read_behind_the_term": ("files_are_read_without_the_term",),
-    # What is short is one statement. Only a long sync can be done in part.
+    # A short sync is one statement. Only a long one can be executed in part.
     "a_sync_is_one_transaction": ("long_sync_is_several_transactions",),
-    # Their statements would still be sent one behind the other, by the writer's lock, but in any order, and be taken for done.
+    # The writer's lock still sends the statements one after another, but in any order, and each is taken for done.
     "one_sync_at_a_time": ("syncs_are_under_way_at_once",),
     "a_doubt_is_repeated": ("write_in_doubt_is_taken_for_done",),
-    # A repeat writes in two ways: it raises the link, and locks the slot's row. The copy is without the second.
+    # A repetition writes in two ways: it raises the connection epoch, and it locks the slot's row. The copy leaves out the second.
     "a_repeat_is_a_write": ("sync_of_nothing_is_no_write",),
     "a_late_copy_changes_nothing": ("late_write_of_an_own_connection_counts", "numbers_of_an_earlier_owner_are_used_again"),
     "a_commit_waits_for_the_standby": ("commit_without_its_standby_is_answered", "commit_on_one_server_is_believed"),
@@ -178,7 +181,7 @@ COPIES = {
     "a_post_is_of_the_same_series_everywhere": (
         "slot_is_read_by_what_its_instance_knows", "units_of_a_slot_are_not_known", "instances_read_posts_in_different_ways"),
     "a_group_is_delivered_behind_its_commit": ("request_of_a_store_is_delivered_before_it_is_durable",),
-    # Each group keeps the epoch that it was made with, whoever delivers it.
+    # Each group keeps the epoch with which it was made, whoever delivers it.
     "a_key_is_the_stores": ("key_of_a_request_is_its_owners",),
     "an_epoch_is_drawn_at_each_taking": ("slot_that_is_taken_keeps_its_epoch",),
     "the_sink_answers_before_the_ack": ("request_is_acknowledged_before_the_sink_has_it",),
@@ -186,7 +189,7 @@ COPIES = {
     "a_quarantine_is_told_once_all_slots_have_it": ("order_counts_where_a_slot_has_not_done_it",),
 }
 EDITS = f"{os.path.dirname(os.path.dirname(os.path.abspath(__file__)))}/service/wrong"
-# All rules kept: none at fault.
+# With all rules no state may have a fault.
 WHOLE = (
     (ONE, Left(takeovers=2, checkpoints=1, deliveries=2, hand_overs=1)),
     (ONE, Left(takeovers=2, doubts=1, checkpoints=1)),
@@ -200,19 +203,19 @@ WHOLE = (
 # --------------------------------------------------------------------------------------------------------------------
 # The state
 
-# What is written: `post`, `group` or `drop` with points, `ack` with how many groups, or `note`.
+# What is written: `post`, `group` or `drop` with points, `ack` with the number of groups, or `note`.
 Write = tuple[str, int]
-# Of a group in the sink: its number; against the rule, with who delivered it.
+# The key of a group in the sink is its number; against the rule, also its owner.
 Key = int | tuple[int, int]
 
 
 class Slot(NamedTuple):
-    """What the store has of a slot: its row, and what its files say. Sets of points are words with a bit for each."""
+    """What the store has of a slot: its row, and the meaning of its files. A set of points is a number with a bit for each point."""
 
     term: int
-    # None, or who.
+    # The owner, or None.
     owner: int
-    # Syncs below it are removed, and `next` is the first that is not there; behind a hole is `ahead`, which nobody reads.
+    # Syncs below `first` are removed; `next` is the first that does not exist. Syncs after a gap are in `ahead`, which nobody reads.
     first: int
     next: int
     ahead: frozenset[tuple[int, tuple[Write, ...]]]
@@ -220,41 +223,41 @@ class Slot(NamedTuple):
     groups: tuple[int, ...]
     acknowledged: int
     is_quarantined: bool
-    # What was removed is there again.
+    # A file that was removed exists again.
     is_torn: bool
 
 
 class Statement(NamedTuple):
-    """What was sent to the store."""
+    """A statement that was sent to the store."""
 
     who: int
     slot: int
-    # `take`, `sync`, `free`
+    # `take`, `sync` or `free`
     kind: str
     term: int
     number: int
     writes: tuple[Write, ...]
-    # Points that are answered behind it, and whether an operator is.
+    # The points whose answers wait for this statement (NOTE: an operator's), and whether the sender waits for its answer.
     covers: int
     is_awaited: bool
 
 
 class Owner(NamedTuple):
-    """What an instance has in memory of a slot that it takes for its own."""
+    """What an instance holds in memory of a slot that it believes it owns."""
 
     term: int
-    # Of its next sync.
+    # The number of its next sync.
     number: int
-    # Points that its gateway knows, and those that are in no group.
+    # The points that its book has seen, and those that are in no group yet.
     seen: int
     pending: int
-    # What was written since the last sync, and points whose answers wait for one that begins now.
+    # What was written since the last sync, and the points whose answers wait for a sync that begins from now on.
     writes: tuple[Write, ...]
     fresh: int
-    # Syncs under way, and one whose answer was lost.
+    # The number of syncs in flight, and one with an unknown outcome.
     under_way: int
     doubt: Statement
-    # Groups that it may deliver.
+    # The groups that it may deliver.
     groups: tuple[int, ...]
     acknowledged: int
     is_quarantined: bool
@@ -262,7 +265,7 @@ class Owner(NamedTuple):
 
 
 class Taking(NamedTuple):
-    """A slot that is being taken, with what was read before, against the rule."""
+    """An instance that is taking a slot. `read` is what it read before it wrote the term, against the rule."""
 
     read: Slot
 
@@ -270,22 +273,21 @@ class Taking(NamedTuple):
 class State(NamedTuple):
     told: int
     tries: tuple[int, ...]
-    # By instance and slot: an owner, one that is taking it, or None.
+    # For each instance and slot an owner, an instance that is taking the slot, or None.
     owners: tuple[Owner | Taking | None, ...]
     waiting: tuple[Statement, ...]
-    # Executed on the primary, and not on the standby.
+    # Executed on the primary, but not yet on the standby.
     local: tuple[Statement, ...]
-    # The primary has started again, and shows what the standby does not have.
+    # The primary has restarted, and shows commits that the standby does not have.
     is_shown: bool
     primary: tuple[Slot, ...]
     standby: tuple[Slot, ...]
     # (slot, key, points)
     sink: frozenset[tuple[int, Key, int]]
-    # Slots whose quarantine was told; and once an operator was, the points taken and those sent by then.
+    # The slots whose quarantine is committed; and, from when an operator was told, the points accepted and sent by then.
     noted: int
     quarantine: tuple[int, int]
-    # A dump of the store; and once it was put back, how many groups of each slot it has, and the points of which that may be the
-    # fault.
+    # A dump of the store; and after it was restored, how many groups each slot has, and the points that are excused.
     dump: tuple[Slot, ...]
     returned: tuple[int, ...]
     excused: int
@@ -293,12 +295,12 @@ class State(NamedTuple):
 
 
 NO_SLOT = Slot(0, None, 0, 0, frozenset(), 0, (), 0, False, False)
-NOTE = 1 << 16  # among what a sync covers: an operator
-AGAIN = 100  # of a key: that of a number which the store has had before
+NOTE = 1 << 16  # NOTE in `covers` is an operator
+AGAIN = 100  # added to a key whose number the store has already used before
 
-# What happens, and the statement that it is of, if any.
+# What happens, and the statement that it is about, if any.
 Label = tuple[str | Statement, ...]
-# Each with the state after it.
+# Each event with the state after it.
 Events = Iterator[tuple[Label, State]]
 T = TypeVar("T")
 
@@ -345,7 +347,7 @@ def all_of(groups: Iterable[int]) -> int:
 
 
 def written(slot: Slot, number: int, writes: tuple[Write, ...]) -> Slot:
-    """The files with a sync's writes."""
+    """The slot after a sync's writes."""
     for kind, what in writes:
         if kind == "post":
             slot = slot._replace(journal=slot.journal | what)
@@ -377,7 +379,7 @@ def synced(rules: Rules, slot: Slot, one: Statement) -> Slot:
 
 
 def execute(rules: Rules, slot: Slot, one: Statement) -> Slot | None:
-    """The slot behind a statement, or None where it finds no row."""
+    """The slot after a statement, or None if the statement finds no row."""
     if one.kind == "take":
         if slot.term != one.term:
             return None
@@ -396,7 +398,7 @@ def store_steps(rules: Rules, world: World, state: State) -> Events:
         others = state._replace(waiting=state.waiting[:place] + state.waiting[place + 1:])
         yield from cut_off(rules, world, state, others, one)
         if not state.is_shown and any(other.slot == one.slot for other in state.local):
-            continue  # the slot's row is locked until the standby has it
+            continue  # the slot's row is locked until the standby has the commit
         yield from executed(rules, world, others, one)
     if state.primary != state.standby or state.local:
         done = state._replace(standby=state.primary, local=(), is_shown=False)
@@ -407,7 +409,7 @@ def store_steps(rules: Rules, world: World, state: State) -> Events:
 
 
 def cut_off(rules: Rules, world: World, state: State, others: State, one: Statement) -> Events:
-    """A connection is lost while its statement is on its way, and the statement is not."""
+    """The connection is lost while a statement is in flight; the statement may still be executed."""
     left = spend(state, "doubts")
     if not left or not one.is_awaited:
         return
@@ -431,7 +433,7 @@ def executed(rules: Rules, world: World, state: State, one: Statement) -> Events
     if not rules.a_commit_waits_for_the_standby or is_there and not rules.a_repeat_is_a_write:
         yield ("executed is", one), answered(rules, world, state._replace(primary=primary), one, True)
     elif not state.left.failures and state.primary == state.standby:
-        # Nothing can come between the primary and its standby.
+        # With no failures left nothing can happen between the commits of primary and standby.
         yield ("executed is", one), answered(rules, world, state._replace(primary=primary, standby=primary), one, True)
     else:
         local = tuple(sorted(state.local + (one,)))
@@ -452,7 +454,7 @@ def primary_fails(world: World, state: State) -> Events:
 
 
 def goes_back(state: State) -> Events:
-    """A dump is made of what is on both, and later put back."""
+    """A dump is made when primary and standby are equal, and restored later."""
     if state.left.returns and state.primary == state.standby:
         yield ("a dump is made",), state._replace(dump=state.standby, left=state.left._replace(returns=state.left.returns - 1))
     if state.dump and state.dump != state.standby:
@@ -491,13 +493,13 @@ def told_of_quarantine(rules: Rules, world: World, state: State, slot: int) -> S
 
 
 def counted_by(state: State) -> tuple[int, int]:
-    """The points that are taken, and those that are in groups."""
+    """The points that are accepted, and those that are in groups."""
     sent = all_of(all_of(slot.groups) for slot in state.standby)
     return sent | all_of(slot.journal for slot in state.standby), sent
 
 
 def answered(rules: Rules, world: World, state: State, one: Statement, is_done: bool) -> State:
-    """A statement's answer has come."""
+    """The answer to a statement arrives."""
     if not one.is_awaited:
         return state
     owner = state.owners[place_of(world, one.who, one.slot)]
@@ -531,7 +533,7 @@ def owned(rules: Rules, slot: Slot, term: int) -> Owner:
 
 
 def post_steps(rules: Rules, world: World, state: State) -> Events:
-    """A sender's next post, or a part of it, comes to an instance that takes itself for the owner."""
+    """A sender's next post, or a part of it, reaches an instance that believes it owns the slot."""
     place = next((place for place in range(len(world.points)) if not state.told >> place & 1), None)
     if place is None:
         return
@@ -576,7 +578,7 @@ def instance_steps(rules: Rules, world: World, state: State) -> Events:
 def take(rules: Rules, world: World, state: State, who: int, slot: int) -> Events:
     left = spend(state, "takeovers")
     is_first = not any(state.owners) and not state.waiting and not any(row.term for row in state.primary)
-    if not left or is_first and who:  # they are alike, so A comes first
+    if not left or is_first and who:  # the instances are alike, so A comes first
         return
     seen = visible(state)[slot]
     how = (f"{'AB'[who]} takes slot {slot}",)
@@ -643,7 +645,7 @@ def key_of(rules: Rules, state: State, slot: int, number: int) -> int:
 
 
 def deliver(rules: Rules, world: World, state: State, who: int, slot: int, owner: Owner) -> Events:
-    """The first group that is not acknowledged. That the sink's answer is lost is no case: the ack may be lost behind it."""
+    """Delivers the first group that is not acknowledged. A lost answer of the sink needs no case: the ack may be lost later."""
     left = spend(state, "deliveries")
     number = owner.acknowledged
     if not left or number == len(owner.groups):
@@ -664,14 +666,14 @@ def deliver(rules: Rules, world: World, state: State, who: int, slot: int, owner
 
 
 def fault_of(rules: Rules, state: State) -> str | None:
-    """The name of what is wrong, or None."""
+    """The name of the fault, or None."""
     if any(slot.is_torn for slot in state.standby):
         return UNREADABLE
     sets = [points for _, _, points in state.sink]
     sent = {(slot, key if isinstance(key, int) else key[0]) for slot, key, _ in state.sink}
     for place, slot in enumerate(state.standby):
         keys = [(place, key_of(rules, state, place, number)) for number in range(len(slot.groups) + 1)]
-        if keys[-1] not in sent:  # else its group will go out under a key that the sink has
+        if keys[-1] not in sent:  # otherwise the next group would go out under a key that the sink already has
             sets.append(slot.journal)
         sets += [points for number, points in enumerate(slot.groups) if number >= slot.acknowledged and keys[number] not in sent]
     once = twice = 0
@@ -705,7 +707,7 @@ class Found(NamedTuple):
 
 
 def explore(rules: Rules, world: World, left: Left) -> Found:
-    """All states by breadth, until one is at fault."""
+    """A breadth-first search of all states that stops at the first fault."""
     begin = begin_of(world, left)
     parents: dict[State, tuple[State, Label] | None] = {begin: None}
     waiting = deque([begin])
@@ -740,7 +742,7 @@ def text_of(label: Label) -> str:
 
 def main() -> int:
     checks = Checks()
-    gc.disable()  # No state is part of itself: to look for that among so many takes a tenth of the time.
+    gc.disable()  # No state refers to itself. Looking for cycles among so many objects takes a tenth of the time.
     for world, left in WHOLE:
         found = explore(Rules(), world, left)
         bounds = ", ".join(f"{count} {kind.replace('_', '-')}" for kind, count in left._asdict().items() if count)
