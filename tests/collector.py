@@ -1,15 +1,16 @@
 #!/usr/bin/env python3
-"""The examples of docs/COLLECTOR.md, each posted as its sender would.
+"""Posts by each example of docs/COLLECTOR.md as its sender would.
 
     tests/collector.py TOTXEGUN
 
-Of each block the endpoint, the headers, the packing and the encoding are read, and cumulative points are posted by them, over HTTP or
-gRPC, as an SDK or a Collector sends them: so each is taken, and the sink has it under the name that the example gives its sender. A
-repeat after a kill of the service, as a queue on the disk makes it, counts once. Of a Collector's settings it is looked that they lose
-nothing: no batch in memory, a queue on the disk, one consumer, no end of the retries; and a request of the page's size is below the
-limit. It needs PyYAML and python3-grpcio; without them all is left out, with status 77.
+The test reads the endpoint, headers, compression and encoding of each example, and posts cumulative points by them over
+HTTP or gRPC, as an
+SDK or a Collector does. Each must be accepted, and the sink must have it under the name that the example gives its sender. A duplicate
+after a kill of the service, as a queue on disk sends it, must count once. A Collector's settings must lose nothing: no batch in memory, a
+queue on disk, one consumer, endless retries; and a request of the page's size must be below the limit. It needs PyYAML and
+python3-grpcio; without them everything is left out, with status 77.
 
-Each line is one check; the last line counts those that passed and failed, and the status is 0 where none failed.
+Each line is a check; the last line counts passes and failures. The status is 0 if none failed.
 """
 import gzip
 import importlib.util
@@ -36,20 +37,20 @@ PAGE = f"{ROOT}/docs/COLLECTOR.md"
 HTTP, GRPC = 4318, 4317
 CUMULATIVE = 2
 METHOD = "/opentelemetry.proto.collector.metrics.v1.MetricsService/Export"
-# Of the page: "2,000 points with ten attributes is some 1 MB".
+# From the page: "2,000 points with ten attributes is some 1 MB".
 POINTS, ATTRIBUTES, LIMIT = 2_000, 10, 4 << 20
-# A cumulative series begins with its process.
+# A cumulative series begins when its process begins.
 START = time.time_ns() - 60 * 10**9
 
 
 class Way:
-    """How a sender posts, as an example says it."""
+    """How a sender posts, as an example describes it."""
 
     def __init__(self, endpoint: str, headers: dict[str, str], is_packed: bool) -> None:
         self.endpoint, self.headers, self.is_packed = urllib.parse.urlsplit(endpoint), headers, is_packed
 
     def post(self, service: Service, port: int, body: bytes) -> str:
-        """What it is answered: nothing where all is well."""
+        """Posts a body. Returns "" if everything was accepted, and the answer otherwise."""
         if self.endpoint.port == GRPC:
             return self.call(port, body)
         headers = {"Content-Type": PROTOBUF, **self.headers, **({"Content-Encoding": "gzip"} if self.is_packed else {})}
@@ -73,7 +74,7 @@ def blocks(kind: str) -> list[str]:
 
 
 def of_sdk(block: str) -> tuple[Way, dict[str, str]]:
-    """How an SDK with these variables posts, and its resource."""
+    """How an SDK with these environment variables posts, and its resource."""
     variables = dict(line.split("=", 1) for line in block.splitlines() if line)
     name = "OTEL_EXPORTER_OTLP_METRICS_"
     pairs = [pair.split("=", 1) for pair in variables[f"{name}HEADERS"].split(",")]
@@ -83,7 +84,7 @@ def of_sdk(block: str) -> tuple[Way, dict[str, str]]:
 
 
 def of_collector(exporter: str, settings: dict[str, Any]) -> Way:
-    """Over HTTP it adds the path to its endpoint; over gRPC that is a host and a port."""
+    """Over HTTP a Collector adds the path to its endpoint; for gRPC the endpoint is a host and a port."""
     endpoint = settings["endpoint"]
     whole = f"{endpoint}/v1/metrics" if exporter.startswith("otlphttp") else f"http://{endpoint}"
     return Way(whole, settings["headers"], settings["compression"] == "gzip")
@@ -94,7 +95,7 @@ def text_attribute(key: str, value: str) -> bytes:
 
 
 def request(resource: dict[str, str], name: str, total: int, points: int = 1) -> bytes:
-    """What series with this resource have come to by now."""
+    """A request with the present cumulative totals of series of this resource."""
     end = START + total * 10**9
     data = b""
     for number in range(points):
@@ -107,7 +108,7 @@ def request(resource: dict[str, str], name: str, total: int, points: int = 1) ->
 
 
 def senders_in(path: str) -> dict[str, tuple[str, int]]:
-    """By instance, who posts the series of `orders`, and its total."""
+    """For each instance the sender of its series `orders`, and the series' total."""
     database = sqlite3.connect(f"file:{path}?mode=ro", uri=True)
     rows = database.execute("select resource ->> '$.\"service.instance.id\"', sender, total_low from series join series_totals"
                             " on series_totals.series = series.id where name = 'orders'").fetchall()
@@ -146,7 +147,7 @@ def run(checks: Checks, program: str, folder: str) -> None:
         for total in (1, 5):
             for name, way, resource in ways:
                 checks.same(f"{name}: its post is taken", "", way.post(service, port, request(resource, "orders", total)))
-        # The answer was lost.
+        # As if the answer had been lost.
         service.kill()
         service.start()
         checks.true("it is ready again", service.wait_ready(), service.last_lines())

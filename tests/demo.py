@@ -1,14 +1,14 @@
 #!/usr/bin/env python3
-"""The demo in short: programs on OpenTelemetry's SDK, PostgreSQL and Prometheus, and kills of all that is between them.
+"""Runs the demo briefly: programs on OpenTelemetry's SDK, PostgreSQL and Prometheus, while everything between them is killed.
 
     tests/demo.py TOTXEGUN [SECONDS] [SEED]
 
-The programs have each kind of instrument, and nothing is set but where they post: so their points are cumulative. At the end
-their own counts, the database's and Prometheus' are the same, by series and bucket; the SDK has logged no error; their gauges are
-at the other receiver; no alert of operate/ has fired; each query of operate/dashboard.json that is not of several machines has
-rows; and the picture of the run is drawn. What is missing is said, and left out with status 77.
+The programs use each kind of instrument, and configure only the address, so their points are cumulative. At the end the counts of the
+programs, the database and Prometheus must be equal, by series and bucket; the SDK must have logged no error; the gauges must be at the
+other receiver; no alert of operate/ may have fired; each query of operate/dashboard.json that is not about several machines must have
+rows; and the picture of the run must be drawn. If a program is missing, a line says so, and the status is 77.
 
-Each line is one check; the last line counts those that passed and failed, and the status is 0 where none failed.
+Each line is a check; the last line counts passes and failures. The status is 0 if none failed.
 """
 import json
 import os
@@ -31,7 +31,7 @@ from run import LIBRARIES, build_sender
 SECONDS = 25
 SERIES = 30
 BASE_UNIT = b'use base unit "seconds" instead of "microseconds"'
-# A kill may show in these alone, where it lasts.
+# Only these may show a kill, while it lasts.
 OF_KILLS = {"TotxegunDown", "TotxegunPostsTurnedAway"}
 GO_PACKAGES = {"golang-opentelemetry-otel-dev": "go.opentelemetry.io/otel/sdk/metric",
                "golang-google-protobuf-dev": "google.golang.org/protobuf/encoding/protowire"}

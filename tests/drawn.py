@@ -1,10 +1,10 @@
 #!/usr/bin/env python3
-"""Whether tools/pictures.py and tools/promise.py find what is wrong with the pictures, their words and the reading list.
+"""Tests that tools/pictures.py and tools/promise.py find faults in the pictures, their words and the reading list.
 
     tests/drawn.py
 
-Each line is one check: in a copy something is changed, and the tool has to say what. The last line counts those that passed
-and failed, and the status is 1 where one failed.
+Each line is a check: the test changes something in a copy, and the tool must say what is wrong. The last line counts passes and failures.
+The status is 1 if one failed.
 """
 import contextlib
 import functools
@@ -20,7 +20,7 @@ from testing import ROOT
 from testing.checks import Checks
 
 DESCRIBED = "docs/pictures/{}.drawn"
-# What is wrong, in which file, a text there and what stands in its place, and what the tool says.
+# For each fault the file, a text in it with its replacement, and what the tool must say.
 PICTURES = (
     ("a picture that was changed by hand", "docs/pictures/life.svg", ">stored<", ">kept<", "docs/pictures/life.svg"),
     ("other words beside a picture", "docs/MODEL.md", "![The life of a point.", "![A point.", "docs/MODEL.md"),
@@ -51,7 +51,7 @@ def copy(folder: str) -> None:
 
 
 def said(check: Callable[[], object]) -> tuple[object, str]:
-    """The status of a tool's check, and what it says."""
+    """The status of a tool's check and what it prints."""
     out = io.StringIO()
     with contextlib.redirect_stdout(out):
         try:
@@ -79,7 +79,7 @@ def main() -> int:
     checks = Checks()
     with tempfile.TemporaryDirectory() as folder:
         copy(folder)
-        # The tools of the copy. What they read of the crates, which no case changes, they read once.
+        # The tools of the copy. They read the crates only once, since no case changes them.
         sys.path.insert(0, f"{folder}/tools")
         pictures, promise = (importlib.import_module(name) for name in ("pictures", "promise"))
         setattr(promise, "laws", functools.cache(promise.laws))

@@ -1,16 +1,17 @@
 #!/usr/bin/env python3
-"""OTLP over gRPC, by gRPC's own client for Python.
+"""Tests OTLP over gRPC with gRPC's own client for Python.
 
     tests/grpc_calls.py TOTXEGUN
 
-What a call brings is in the sink, packed or not; a repeat, another's series and a quarantined sender are refused as over
-HTTP, and the log names both senders of a series. What is too long, packed too far, of another method or packed otherwise is
-refused. A deadline that passes, a call that is cancelled, a client that goes away, bytes that are no HTTP/2, and kills of
-the service leave each point counted once; so does SIGTERM after a deadline that has passed. Then SIGTERM ends the service
-while connections are open.
+The sink must have what a call brings, compressed or not. A duplicate, a series of another sender and a quarantined sender are refused as
+over HTTP, and the log names both senders of a series. A message that is too long, expands to too much, is of another method or has
+another compression is refused. An expired deadline, a cancelled call, a client that goes away, bytes that are not
+HTTP/2, and kills of the
+service must leave each point counted once, and so must SIGTERM after an expired deadline. At the end SIGTERM must end the service while
+connections are open.
 
-It needs python3-grpcio; where that is missing a line says so, and the status is 77. Each other line is one check; the last
-one counts those that passed and failed, and the status is 1 where one failed.
+It needs python3-grpcio; if it is missing, a line says so and the status is 77. Each other line is a check; the last line counts passes
+and failures. The status is 1 if one failed.
 """
 import contextlib
 import importlib.util
@@ -43,7 +44,7 @@ CALLS = 300
 
 
 class Client:
-    """A channel of its own, and what each call was answered: the name of its status, and its text."""
+    """A channel of its own, with the name and the text of each call's status."""
 
     def __init__(self, port: int) -> None:
         options = [("grpc.max_send_message_length", -1), ("grpc.use_local_subchannel_pool", 1),
@@ -69,7 +70,7 @@ def said(call: Any) -> tuple[str, str]:
 
 
 def refusals(checks: Checks, client: Client) -> None:
-    """What is no call of the method, or no message that is taken."""
+    """Calls that are not of the method, and messages that are not accepted."""
     for what, wanted, how in (
             ("another method", "UNIMPLEMENTED", {"body": b"", "method": METHOD.replace("metrics", "trace")}),
             ("deflate", "UNIMPLEMENTED", {"body": b"a" * 2000, "packing": grpc.Compression.Deflate}),
@@ -88,7 +89,7 @@ def one_point(place: int, value: int = 1, name: str = "calls") -> list[tuple[str
 
 
 def as_over_http(checks: Checks, service: Service, client: Client) -> None:
-    """Calls and posts of the same series: what the one took the other knows."""
+    """Calls and posts of the same series: each must know what the other brought."""
     first = in_protobuf(one_point(0, 5))
     checks.same("a call is taken", ("OK", b""), client.call(first))
     checks.same("its repeat is answered as the first time", ("OK", b""), client.call(first))
@@ -113,7 +114,7 @@ def as_over_http(checks: Checks, service: Service, client: Client) -> None:
 
 
 def broken_off(checks: Checks, service: Service, client: Client, grpc_port: int) -> None:
-    """Calls that end before they are answered: each is repeated until it is."""
+    """Calls that end before they are answered; each is retried until it is answered."""
     bodies = {sender: in_protobuf(one_point(2, 1, name)) for sender, name in
               (("A", "calls"), ("C", "cancelled"), ("D", "gone"))}
     service.signal(signal.SIGSTOP)
@@ -132,7 +133,7 @@ def broken_off(checks: Checks, service: Service, client: Client, grpc_port: int)
     for junk in (b"GET / HTTP/1.1\r\n\r\n", b"PRI * HTTP/2.0\r\n\r\nSM\r\n\r\n" + b"\xff" * 300, os.urandom(5000)):
         with socket.create_connection(("127.0.0.1", grpc_port), 5) as raw:
             raw.settimeout(5)
-            with contextlib.suppress(OSError):  # it may be closed before all is sent
+            with contextlib.suppress(OSError):  # the service may close the connection before all is sent
                 raw.sendall(junk)
                 raw.shutdown(socket.SHUT_WR)
                 while raw.recv(4096):
@@ -141,7 +142,7 @@ def broken_off(checks: Checks, service: Service, client: Client, grpc_port: int)
 
 
 def over_kills(checks: Checks, service: Service, client: Client) -> None:
-    """Calls one after another, each until it is answered, while the service is killed."""
+    """Calls, one after another, each retried until it is answered, while the service is killed."""
     answers: dict[str, int] = {}
     has_retry_info: list[bool] = []
 
@@ -176,7 +177,7 @@ def over_kills(checks: Checks, service: Service, client: Client) -> None:
 
 
 def timed(service: Service, client: Client, count: int = 200) -> None:
-    """A note of how long a call takes beside a post over HTTP, one after another. It is no check."""
+    """Prints how long a call takes compared with a post over HTTP, one after another. It checks nothing."""
     import http.client
     bodies = [[in_protobuf(one_point(place, 1, name)) for place in range(count)] for name in ("timed.grpc", "timed.http")]
     begun = time.monotonic()
@@ -193,8 +194,8 @@ def timed(service: Service, client: Client, count: int = 200) -> None:
 
 
 def given_up_at_the_end(checks: Checks, service: Service, port: int) -> None:
-    """A deadline that has passed when SIGTERM comes, and a service that finds both when it goes on: what a last flush has of
-    the call is in the journal too, so the next run knows the repeat."""
+    """A stopped service continues with an expired deadline and a SIGTERM. Whatever its last flush has of the call must
+    be in the journal too, so that the next run recognises the duplicate."""
     client, body = Client(port), in_protobuf(one_point(0, 3, "last"))
     client.call(in_protobuf(one_point(0, 1, "timed.last")), sender="T")  # there is a connection
     service.signal(signal.SIGSTOP)

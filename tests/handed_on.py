@@ -1,17 +1,17 @@
 #!/usr/bin/env python3
-"""One address for all that an SDK sends: doubles and seconds are taken in whole numbers of a finer unit without a word said of
-it, and what is not added up is handed on to another receiver.
+"""Tests one address for everything that an SDK sends: doubles and seconds are counted in whole numbers of a finer unit
+without any setting, and points of other types are forwarded to another receiver.
 
     tests/handed_on.py TOTXEGUN [SEED]
 
-First the units: sums and histograms of doubles, in both encodings, over kills and flushes. The sink has what this program
-added up by its own exact numbers, each metric in the one unit that it was first taken in, also where whole numbers came
-first, and where an earlier run was told `--integer-unit off`. Then exponential histograms of drawn values, delta and cumulative, at
-several scales: the sink has each value in that bucket of `--exponential` in which it is. Then `--forward-unsupported`: a receiver gets the
-gauges of each post as they came, byte for byte and each once, by way of a second service too; no answer rejects them, no
-metric calls them foreign, and neither a receiver that stalls nor one that is gone holds up a post.
+First the units: sums and histograms of doubles, in both encodings, over kills and flushes. The sink must have what this program added up
+in exact numbers, each metric in the unit in which it was first accepted, also if whole numbers came first, and if an earlier run had
+`--integer-unit off`. Then exponential histograms of random values, delta and cumulative, at several scales: the sink must have each value in the
+bucket of `--exponential` that contains it. Then `--forward-unsupported`: a receiver must get the gauges of each post byte for byte and
+once each, through a second service too. No answer may reject them, no metric may count them as rejected, and neither a receiver that
+stalls nor one that is gone may delay a post.
 
-Each line is one check; the last one counts those that passed and failed, and the status is 1 where one failed.
+Each line is a check; the last line counts passes and failures. The status is 1 if one failed.
 """
 import bisect
 import collections
@@ -40,7 +40,7 @@ POSTS = 60
 
 
 def nearest(value: float, factor: int) -> int:
-    """A number in the finer unit: of two that are as near the even one."""
+    """A value in the finer unit, rounded to the nearest whole number, half to even."""
     exact = decimal.Decimal(repr(value)) * factor
     return int(exact.to_integral_value(rounding=decimal.ROUND_HALF_EVEN))
 
@@ -88,7 +88,7 @@ def in_protobuf(metrics: Sequence[Metric], start: int) -> bytes:
 
 
 class Posts:
-    """Posts in both encodings in turn, later and later."""
+    """Posts in both encodings in turn; each post is later than the one before."""
 
     def __init__(self, service: Service, sender: str = "A") -> None:
         self.service, self.sender, self.start = service, sender, 1000
@@ -107,7 +107,7 @@ class Posts:
 
 
 def totals(path: str) -> dict[str, dict[str, int]]:
-    """What a sink has, by name: the units, and the total."""
+    """For each name in a sink the units and their totals."""
     with contextlib.closing(sqlite3.connect(f"file:{path}?mode=ro", uri=True)) as database:
         rows = database.execute("select name, unit, total from totals").fetchall()
     found: dict[str, dict[str, int]] = {}

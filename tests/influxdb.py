@@ -1,13 +1,12 @@
 #!/usr/bin/env python3
-"""InfluxDB as a back end, by operate/influxdb.py.
+"""Tests InfluxDB as a back end, with the bridge operate/influxdb.py.
 
     tests/influxdb.py TOTXEGUN [SECONDS] [SEED]
 
-Senders post to totxegun, whose sink is the bridge, while totxegun, the bridge and InfluxDB are killed. At the end
-InfluxDB has, series by series and bucket by bucket, what the senders were told is taken. Without InfluxDB all is left out,
-with status 77.
+Senders post to totxegun, whose sink is the bridge, while totxegun, the bridge and InfluxDB are killed. At the end InfluxDB must have, for
+each series and bucket, what the senders know to be accepted. Without InfluxDB everything is left out, with status 77.
 
-Each line is one check; the last line counts those that passed and failed, and the status is 0 where none failed.
+Each line is a check; the last line counts passes and failures. The status is 0 if none failed.
 """
 import importlib.util
 import json
@@ -51,7 +50,7 @@ bind-address = "127.0.0.1:{more}"
 
 
 class Program:
-    """A program that is killed and started again."""
+    """A program that can be killed and started again."""
 
     def __init__(self, words: list[str], log: str) -> None:
         self.words, self.log = words, log
@@ -80,7 +79,7 @@ class InfluxDb(Program):
         return json.loads(body)["results"][0].get("series", []) if status == 200 else None
 
     def totals(self) -> Any:
-        """What it has of each metric: a number, or (buckets, sum) of a histogram."""
+        """What InfluxDB has of each metric: a number, or (buckets, sum) for a histogram."""
         found = {}
         for one in self.ask("select sum(*) from /.*/"):
             row = {name.removeprefix("sum_"): number for name, number in zip(one["columns"], one["values"][0])}
@@ -100,7 +99,7 @@ def bridge_module() -> ModuleType:
 
 
 def request(names: list[str], key: str, value: str) -> dict[str, Any]:
-    """A point of each name, with one attribute."""
+    """A request with a point for each name, with one attribute."""
     attributes = [{"key": key, "value": {"stringValue": value}}]
     point = {"asInt": "5", "startTimeUnixNano": "1", "timeUnixNano": "2", "attributes": attributes}
     data = {"aggregationTemporality": 1, "dataPoints": [point], "isMonotonic": True}
@@ -110,7 +109,7 @@ def request(names: list[str], key: str, value: str) -> dict[str, Any]:
 
 
 def odd_names(checks: Checks, influxdb: InfluxDb) -> None:
-    """Each point is there, also where InfluxDB can't have its names as they are."""
+    """Checks that each point is there, even if InfluxDB cannot store its names unchanged."""
     bridge = bridge_module()
     influxdb.ask(f"create database {ODD}")
     names = [("#metric", "a"), ("", "a"), ("a,b= c", "a,b= c"), ("b", ""), ("c", "time"), ("d", "a\\"), ("d", "a/"),
@@ -123,7 +122,7 @@ def odd_names(checks: Checks, influxdb: InfluxDb) -> None:
 
 
 def long_request(checks: Checks, influxdb: InfluxDb) -> None:
-    """36 MB as lines: InfluxDB takes 25 at a time."""
+    """A request of 36 MB of lines; InfluxDB accepts 25 MB at a time."""
     bridge = bridge_module()
     influxdb.ask(f"create database {LONG}")
     names = [f"m{number}" for number in range(3000)]
@@ -134,7 +133,7 @@ def long_request(checks: Checks, influxdb: InfluxDb) -> None:
 
 
 def other_forms(checks: Checks, port: int) -> None:
-    """They wait until the service is started as the bridge wants it."""
+    """Requests in another form must wait until the service is started as the bridge requires."""
     for headers in ({"Content-Type": "application/x-protobuf"}, {"Content-Type": "application/json", "Content-Encoding": "gzip"}):
         wait_until(lambda: ask(port, "POST", "/v1/metrics", b"\n\0", headers)[0] is not None)
         status, body = ask(port, "POST", "/v1/metrics", b"\n\0", headers)

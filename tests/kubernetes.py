@@ -1,14 +1,14 @@
 #!/usr/bin/env python3
-"""The files for Kubernetes in operate/kubernetes, as far as they can be tried without a cluster.
+"""Tests the files for Kubernetes in operate/kubernetes, as far as this is possible without a cluster.
 
     tests/kubernetes.py TOTXEGUN
 
-They are parsed, and what they name is there: labels, volumes, ports, the Secret's files. kubectl, which asks no server for this, knows
-each field and reads each value as one of its type; of the StatefulSet and the Service it leaves nothing out. Their settings start a
-service, with its folders in another place, and each port of the pod is one at which it listens. The service is asked for each probe,
-which answers 200. Without PyYAML or openssl all is left out, with status 77, and without kubectl what it is asked.
+They are parsed, and what they name must exist: labels, volumes, ports, the Secret's files. kubectl, which asks no server for this,
+must know each field and read each value as one of its type; it leaves nothing out of the StatefulSet and the Service. Their settings
+must start a service, with its folders in another place, which listens on each port of the pod, and answers 200 to each probe. Without
+PyYAML or openssl everything is left out, with status 77, and without kubectl what it would check.
 
-Each line is one check; the last line counts those that passed and failed, and the status is 0 where none failed.
+Each line is a check; the last line counts passes and failures. The status is 0 if none failed.
 """
 import copy
 import json
@@ -35,7 +35,7 @@ WRITTEN_BY = {"StatefulSet": ["set", "env", "ANY=value"], "Service": ["set", "se
 
 
 def documents() -> dict[str, Any]:
-    """Each by its kind, of which there is one."""
+    """The documents by kind; there is one of each."""
     import yaml
     found = [it for it in yaml.safe_load_all(text_of(FILE)) if it]
     kinds = {it["kind"]: it for it in found}
@@ -107,12 +107,12 @@ def look_at_fields(checks: Checks, kinds: dict[str, Any]) -> None:
 
 
 def secrets() -> list[str]:
-    """The files of the Secret, as the head of the file has it made."""
+    """The files of the Secret, which the head of the file tells the operator to make."""
     return re.findall(r"--from-file=(\S+)", text_of(FILE))
 
 
 def with_own_places(kinds: dict[str, Any], folder: str) -> tuple[str, dict[str, int]]:
-    """The settings with folders in another place and free ports, and these by those of the file."""
+    """The settings with other folders and free ports, and the free port for each of the file's ports."""
     text = kinds["ConfigMap"]["data"]["totxegun.toml"]
     ports = {port: free_port() for port in re.findall(r'"0\.0\.0\.0:(\d+)"', text)}
     for port, free in ports.items():
@@ -142,7 +142,7 @@ def look_at_settings(checks: Checks, program: str, kinds: dict[str, Any], folder
     words = [program, *container["args"][:-1], f"{folder}/totxegun.toml"]
     checks.same("it is started by its settings", ["serve", "--config"], container["args"][:-1])
     with open(f"{folder}/log", "wb") as log:
-        # The port of --listen is the environment's, as in the image.
+        # The environment sets the port of --listen, as in the image.
         listen = f"127.0.0.1:{ports['4318']}"
         service = subprocess.Popen(words, env={**os.environ, **environment, "TOTXEGUN_LISTEN": listen}, stdout=log, stderr=log)
     try:

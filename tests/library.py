@@ -1,13 +1,13 @@
 #!/usr/bin/env python3
-"""What is said if the service can't be built from a clone, or must not be: the proved library, its sources, the machine.
+"""Tests what commands say if the service cannot or must not be built from a clone because of the library, its sources or the machine.
 
     tests/library.py
 
-In a clone of its own it changes a byte of book/libbook.a and a line of a crate, adds a crate and takes one away, and takes away
-Rust, Debian's packages, the port and the processor; each time the commands say in one line what to do, with status 1, before
-anything is installed or compiled, and leave nothing behind. Nothing is built.
+In a clone it changes a byte of book/libbook.a and a line of a crate, adds and removes a crate, and takes away Rust, Debian's packages,
+the port and the processor. Each time the commands must say in one line what to do, with status 1, before anything is installed or
+compiled, and leave nothing behind. Nothing is built.
 
-Each line is one check; the last line counts those that passed and failed, and the status is 1 if one failed.
+Each line is a check; the last line counts passes and failures. The status is 1 if one failed.
 """
 import contextlib
 import os
@@ -25,20 +25,20 @@ from testing.clone import Clone
 
 LIBRARY = "book/libbook.a"
 PROVENANCE = "book/PROVENANCE"
-# A crate on which nothing stands, one of its files, and a line to change there.
+# A crate that no other crate uses, one of its files, and a line to change in it.
 CRATE = "play"
 SOURCE = f"crates/{CRATE}/src/main.rt"
 CHECK = ["tools/book.py", "--check"]
 CI = [".ci/run"]
-# What a command leaves if it began to compile or to install.
+# Folders that exist if a command began to compile or to install.
 LEFT = ("out", "bin", "service/target")
 NOBODY = "65534"
-# What make adds, also below another make.
+# Lines that make itself adds, also if it runs under another make.
 MAKE = re.compile(r"make(\[\d+\])?: ")
 
 
 class Tried:
-    """Commands in the clone, and what they say."""
+    """Runs commands in the clone."""
 
     def __init__(self, checks: Checks, clone: Clone, folder: str) -> None:
         self.checks = checks
@@ -46,7 +46,7 @@ class Tried:
         self.folder = folder
 
     def refused(self, what: str, command: list[str], *wanted: str, path: str = "") -> None:
-        """That the command says one line with these words, has status 1, and leaves nothing."""
+        """Checks that the command prints one line with these words, has status 1, and leaves nothing behind."""
         environment = {**os.environ, "PATH": path or os.environ["PATH"], "PYTHONDONTWRITEBYTECODE": "1"}
         environment.pop("TOTXEGUN_BOOK", None)
         ran = subprocess.run(command, cwd=self.clone.folder, env=environment, stdin=subprocess.DEVNULL, stdout=subprocess.PIPE,
@@ -63,7 +63,7 @@ class Tried:
 
     @contextlib.contextmanager
     def changed(self, name: str, content: bytes | None) -> Iterator[None]:
-        """A file has other bytes as long as this lasts, or is gone."""
+        """Replaces or removes a file while the context lasts."""
         path = f"{self.clone.folder}/{name}"
         kept = open(path, "rb").read() if os.path.exists(path) else None
         self.put(path, content)

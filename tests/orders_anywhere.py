@@ -1,14 +1,14 @@
 #!/usr/bin/env python3
-"""Commands at any of two instances that share a store reach the slots of both, or say where to ask.
+"""Tests that commands at any of two instances that share a store reach the slots of both, or say where to ask.
 
     tests/orders_anywhere.py TOTXEGUN
 
-Two instances share the eight slots of a store, and deliver to another database of the same server. At the one and at the
-other it is flushed, quarantined, lifted, asked and closed: all of it is of all slots. Series are forgotten by the instance that
-has them, to which the other one sends, also over TCP with a token. A sender is renamed in the slots of both. One is stopped while the
-other is asked, and killed: the new name has what was taken over. Skipped without PostgreSQL.
+Two instances share the eight slots of a store, and deliver to another database of the same server. At either of them the test flushes,
+quarantines, releases, asks for status and closes a period: each command must cover all slots. A series is forgotten by the instance that
+has its slot; the other one sends the command on, also over TCP with a token. A sender is renamed in the slots of both. One instance is
+stopped while the other is asked, and killed: the new name has what was taken over. Without PostgreSQL the test is left out.
 
-Each line is one check; the last line counts those that passed and failed, and the status is 0 where none failed.
+Each line is a check; the last line counts passes and failures. The status is 0 if none failed.
 """
 import datetime
 import hashlib
@@ -35,7 +35,7 @@ from testing.slots import IN_THE_END, come_to_rest, owners  # noqa: E402
 
 SLOTS, PROCESSES = 8, 24
 TOKEN = "a-token-of-an-operator"
-# Commands that an instance may send on to another, over TCP.
+# Commands that need a token, because an instance may send them on to another over TCP.
 BY_TOKEN = ("forget",)
 METRICS = ("slots_owned", "slot_term", "slots_without_owner", "longest_without_owner_seconds", "instances", "heartbeat_age_seconds",
            "store_copies", "store_copies_asked", "store_unknown_outcome_seconds", "forwarded_posts_total", "store_writes_total",
@@ -67,7 +67,7 @@ class Both:
                        name, "--peer", peer, "--flush-interval", "1h", "--admin-tokens", self.tokens)
 
     def run(self, *words: str, at: Service | None = None) -> tuple[int, str]:
-        """The status of a command, and what it prints; at an instance."""
+        """The status and the output of a command, run at an instance if one is given."""
         place = [] if at is None else ["--data", at.data, *(["--token", self.token] if words[0] in BY_TOKEN else [])]
         done = subprocess.run([self.program, *words, *place], capture_output=True, text=True, check=False, timeout=180)
         return done.returncode, done.stdout + done.stderr
@@ -77,11 +77,11 @@ class Both:
         return json.loads(text) if code == 0 else {"slots": [], "cluster": {"instances": []}}
 
     def at_rest(self) -> bool:
-        """Whether each slot has come to its place."""
+        """Waits until each slot is at its home. Returns whether that happened."""
         return come_to_rest(self.server, SLOTS, "ab")
 
     def in_the_end(self, *words: str, at: Service, is_said: Callable[[int, str], object] = lambda code, text: code == 0) -> tuple[int, str]:
-        """The same of a command that is given again until it says so: a slot may be on its way to another."""
+        """Repeats a command until `is_said` accepts the result, since a slot may just be moving. Returns the last result."""
         said: list[tuple[int, str]] = []
 
         def is_done() -> object:
@@ -92,7 +92,7 @@ class Both:
         return said[-1]
 
     def post(self, at: Service, second: int, sender: str = "A") -> list[int | None]:
-        """A point of each process to one instance: the statuses. Where nobody has its slot it is posted again."""
+        """Posts a point for each process to one instance, and returns the statuses. Retries a post while its slot has no owner."""
         return [self.post_one(at, self.body(second, number), sender) for number in range(PROCESSES)]
 
     @staticmethod

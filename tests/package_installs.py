@@ -1,18 +1,17 @@
 #!/usr/bin/env python3
-"""What `make install` installs into a folder, and a service that runs from there.
+"""Tests what `make install` installs into a folder, with a service that runs from there.
 
     tests/package_installs.py TOTXEGUN
 
-The program is put where `make build` would have made it. Then: every file has its place and mode; the service started as
-the unit starts it, with the shipped settings, takes a point, flushes and shows it; the settings name every option, and all
-their defaults together start it too; user, group and folder are made of the installed files, and a SQLite file there is read by
-another user of the group, and by nobody else;
-settings that were there stay; the page names every option of the
-program and mandoc finds nothing; the completion completes; the version says whether the book inside was proved; systemd
-finds nothing in the unit; what is missing is said in one line.
+The program is put where `make build` would have made it. Then every file must have its place and mode. The service, started as the unit
+starts it with the shipped settings, accepts a point, flushes and shows it. The settings name every option, and also start the service
+with all defaults written out. User, group and folder are made by the installed files, and a SQLite file there can be read by another user
+of the group and by nobody else. Existing settings stay. The manual page names every option of the program, and mandoc finds nothing;
+the completion completes; the version says whether the book inside was proved; systemd finds nothing in the unit; and a line says what
+is missing.
 
-Each line is one check; the last line counts those that passed and failed, and the status is 0 where none failed, 77 where
-a part was left out for want of a program.
+Each line is a check; the last line counts passes and failures. The status is 0 if none failed, 77 if a part was left out because a
+program is not installed.
 """
 import json
 import os
@@ -55,17 +54,17 @@ PLACES = {
     "usr/share/doc/totxegun/examples/dashboard.json": 0o644,
     "usr/share/doc/totxegun/examples/totxegun.yaml": 0o644,
 }
-# The most that the unit may be exposed, as systemd counts it.
+# The limit of the unit's exposure, as `systemd-analyze security` counts it.
 EXPOSURE = 1.2
 LONG = re.compile(r"^ +(?:-\w, )?--([a-z-]+)", re.MULTILINE)
-# A key with what it is by default, and a table.
+# A key with its default in a comment, and a table.
 SETTING = re.compile(r"^#([a-z-]+) = (.*)$|^(\[sink\])$", re.MULTILINE)
 POINT = ('{"resourceMetrics":[{"scopeMetrics":[{"metrics":[{"name":"a","sum":{"aggregationTemporality":1,"isMonotonic":true,'
          '"dataPoints":[{"asInt":"5","startTimeUnixNano":"%d","timeUnixNano":"%d"}]}}]}]}]}')
 
 
 def ran(words: list[str], **how: Any) -> tuple[int, str]:
-    """The status of a program, and all that it printed."""
+    """The status and all output of a program."""
     out = subprocess.run(words, stdin=subprocess.DEVNULL, stdout=subprocess.PIPE, stderr=subprocess.STDOUT, text=True,
                          check=False, timeout=60, **how)
     return out.returncode, out.stdout
@@ -76,7 +75,7 @@ def without_settings() -> dict[str, str]:
 
 
 def install(folder: str, program: str, destination: str) -> Any:
-    """`make install` as a package calls it."""
+    """Runs `make install` as a package would."""
     made = f"{folder}/made"
     os.makedirs(made, exist_ok=True)
     shutil.copy2(program, f"{made}/totxegun")
@@ -95,7 +94,7 @@ def look_at_files(checks: Checks, root: str) -> None:
 
 
 def shipped_settings(root: str) -> tuple[list[str], str]:
-    """The key of each line of the settings, and a file of those that have a default."""
+    """The key of each line of the settings, and a file with those that have a default."""
     keys, lines, table = [], [], ""
     for key, value, head in SETTING.findall(text_of(f"{root}/etc/totxegun/totxegun.toml")):
         table = table or ("sink." if head else "")
@@ -107,7 +106,7 @@ def shipped_settings(root: str) -> tuple[list[str], str]:
 
 
 def serve(checks: Checks, what: str, root: str, folder: str, settings: str | None = None) -> None:
-    """A first use: a post, a flush, the totals, an end by SIGTERM."""
+    """A first use: a post, a flush, the totals, and SIGTERM."""
     words = shlex.split(re.search(r"^ExecStart=(.*)$", text_of(f"{root}/lib/systemd/system/totxegun.service"), re.M)[1])
     words = [word.replace("%S", folder).replace("/etc/", f"{root}/etc/") for word in words]
     if settings is not None:
@@ -148,14 +147,14 @@ def serve(checks: Checks, what: str, root: str, folder: str, settings: str | Non
     shutil.rmtree(f"{folder}/totxegun")
 
 
-# Where a group may read the sink's file, by the unit's settings, and who reads how.
+# The place of a sink's file that a group may read, by the unit's settings.
 SHARED = "/var/lib/totxegun-read"
 NOBODY = 65534
 READER = "import sqlite3, sys; print(sqlite3.connect(f'file:{sys.argv[1]}', uri=True).execute('select total from totals').fetchall())"
 
 
 def make_shared(checks: Checks, root: str) -> tuple[int, int, int]:
-    """The folder of the group as the installed files have systemd make it; user and group of the service, and that of its readers."""
+    """Makes the group's folder as systemd would by the installed files. Returns user and group of the service, and the group of readers."""
     for words in (["systemd-sysusers", f"--root={root}"], ["systemd-tmpfiles", f"--root={root}", "--create", f"--prefix={SHARED}"]):
         checks.true(f"{words[0]} takes what is installed", ran(words)[0] == 0, ran(words))
     users = dict(re.findall(r"^([a-z-]+):[^:]*:(\d+):", text_of(f"{root}/etc/passwd"), re.M))
@@ -171,7 +170,7 @@ def make_shared(checks: Checks, root: str) -> tuple[int, int, int]:
 
 
 def look_at_group(checks: Checks, program: str, root: str, folder: str) -> None:
-    """As the unit runs it: with that user and umask."""
+    """Runs the service as the unit does, with that user and umask."""
     lacks = [name for name in ("setpriv", "systemd-sysusers", "systemd-tmpfiles") if not shutil.which(name)]
     if not checks.has("a reader of the sink's group", *(lacks if os.geteuid() == 0 else ["root"])):
         return
@@ -212,7 +211,7 @@ def version() -> str:
 
 
 def look_at_settings(checks: Checks, root: str, program: str, folder: str) -> None:
-    """The file names each option that `config show` does, each once with a text, and can be used as it is."""
+    """Checks that the file names each option of `config show` once, each with a text, and that it can be used unchanged."""
     keys, defaults = shipped_settings(root)
     file = f"{root}/etc/totxegun/totxegun.toml"
     words = ["--config", file, "--data", folder]
@@ -236,7 +235,7 @@ def options_of(page: str) -> Any:
 
 
 def look_at_kept_settings(checks: Checks, folder: str, program: str) -> None:
-    """Settings that were there before."""
+    """Checks that existing settings stay."""
     root = f"{folder}/before"
     settings = f"{root}/etc/totxegun/totxegun.toml"
     os.makedirs(os.path.dirname(settings))
@@ -259,7 +258,7 @@ def look_at_pages(checks: Checks, root: str, program: str) -> None:
     checks.same("no place is left open", [], re.findall(r"@[A-Z]+@", page))
     if checks.has("the pages' form", *([] if shutil.which("mandoc") else ["mandoc"])):
         for name in sorted(os.listdir(man)):
-            # -W style: all that it knows; a page that names another, which is not installed here, is right.
+            # -W style turns on all checks. A reference to another page that is not installed here is no fault.
             status, said = ran(["mandoc", "-T", "lint", "-W", "style", f"{man}/{name}"])
             lines = [line for line in said.splitlines() if f"{name}:" in line and "referenced manual not found" not in line]
             checks.same(f"mandoc finds nothing in {name}", [], lines)
@@ -295,7 +294,7 @@ def look_at_version(checks: Checks, program: str) -> None:
 
 
 def look_at_unit(checks: Checks, root: str, folder: str) -> None:
-    """With the installed program in the place of the one that systemd would look for."""
+    """Checks the unit with the installed program in the place where systemd would look for it."""
     if not checks.has("the unit", *([] if shutil.which("systemd-analyze") else ["systemd-analyze"])):
         return
     unit = f"{folder}/totxegun.service"

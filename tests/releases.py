@@ -1,9 +1,9 @@
 #!/usr/bin/env python3
-"""Whether tools/release.py refuses what is not ready, and what it commits and tags. It runs in a clone, and builds nothing.
+"""Tests what tools/release.py refuses, and what it commits and tags. It runs in a clone and builds nothing.
 
     tests/releases.py
 
-Each line is one check; the last line counts those that passed and failed, and the status is 1 where one failed.
+Each line is a check; the last line counts passes and failures. The status is 1 if one failed.
 """
 import os
 import re
@@ -14,18 +14,18 @@ import tempfile
 from testing.checks import Checks
 from testing.clone import Clone
 
-# The same tool, but for what takes long.
+# The same tool without the steps that take long.
 RELEASE = "import sys; sys.path.insert(0, 'tools'); import release; release.make = lambda version: None; release.main([sys.argv[1]])"
 
 
 class Released(Clone):
-    """The repository, to be released."""
+    """The repository that is to be released."""
 
     def pass_gate(self) -> None:
         self.write("out/passed", self.git("rev-parse", "HEAD") + "\n")
 
     def release(self, version: str) -> str:
-        """What it says on standard error; nothing where it released."""
+        """What the tool prints to standard error; "" if it released."""
         ran = subprocess.run([sys.executable, "-c", RELEASE, version], cwd=self.folder, stderr=subprocess.PIPE, text=True, check=False)
         return ran.stderr.strip()
 

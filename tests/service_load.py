@@ -1,23 +1,24 @@
 #!/usr/bin/env python3
-"""The service under load, while it is killed and stopped.
+"""Runs the service under load while it is killed and stopped.
 
     tests/service_load.py TOTXEGUN [SECONDS] [SEED] [--max-series N,..] [--stalls]
 
-Four runs of a quarter of the seconds each (60): durable `disk` and `process`, with a sink of OTLP and a SQLite file. Each
-start has another number of books now and then, by a --max-series of those that are named (8000, 30000 and 100000).
+Four runs take a quarter of SECONDS (60) each: with `--durability disk` and `process`, with an OTLP sink and a SQLite file. Now and then
+the service starts with another number of books, because it gets another --max-series of those named (8000, 30000 and 100000).
 
-Senders post sums and histograms, in JSON and protobuf, packed or not, on connections that they keep, and repeat each post
-until it is answered; now and then one posts to another's series, and is refused. Meanwhile the service is killed, also twice
-in a row; it is stopped and goes on; senders are quarantined and released; the sink of OTLP answers late, 503, 400, not at
-all, or takes a request and loses its answer. With --stalls, which needs root, its folder is on a file system of its own that
-is frozen for 1 to 30 seconds now and then: `/healthz` answers meanwhile, `/readyz` says why no posts are taken, and sometimes
-the service is killed before the disk goes on.
+Senders post sums and histograms in JSON and protobuf, compressed or not, on connections that they keep, and retry each post until it is
+answered. Now and then one posts to a series of another sender, and is refused. Meanwhile the service is killed, also twice in a row, or
+stopped for a while; senders are quarantined and released; the OTLP sink answers late, with 503, with 400, not at all,
+or accepts a request
+and loses the answer. With --stalls, which needs root, the service's folder is on a file system of its own that is frozen for 1 to 30
+seconds now and then. Meanwhile `/healthz` must answer, and `/readyz` must say why no posts are accepted; sometimes the service is killed
+before the disk goes on.
 
-At the end a repeat of what was taken is answered as the first time, SIGTERM ends the service within ten seconds with status 0,
-while the sink does not answer; a second start brings all to the sink, what the sink had refused is sent again, and the sink has, series
-by series and bucket by bucket, what the senders were told is taken.
+At the end a duplicate of an accepted post must be answered like the first time. SIGTERM must end the service within ten seconds with
+status 0, although the sink does not answer. A second start must deliver everything, dead letters are sent again, and the sink must have,
+for each series and bucket, what the senders know to be accepted.
 
-Each line is one check; the last line counts those that passed and failed, and the status is 0 where none failed.
+Each line is a check; the last line counts passes and failures. The status is 0 if none failed.
 """
 import argparse
 import contextlib
@@ -42,13 +43,13 @@ SECONDS = 60
 MOODS = ["well"] * 6 + ["late", "busy", "silent", "lose", "refuse"]
 TIME_TO_END = 10
 STALLS = [1, 1, 3, 5, 10, 30]
-# A call has to be under way for two seconds, and a post or a mark comes first.
+# The service reports a stall when a call has taken two seconds; before that a post or a heartbeat must have begun the call.
 SEEN_AFTER = 6
 NO_ANSWER = b"the disk does not answer"
 
 
 class Trouble:
-    """What is done to the service while senders post: one event after another, drawn by chance."""
+    """Events that befall the service while senders post, one after another, drawn by chance."""
 
     def __init__(self, service: Service, senders: list[Sender], seed: str, max_series: list[int], disk: OwnDisk | None) -> None:
         self.service = service
@@ -59,7 +60,7 @@ class Trouble:
         self.counts: dict[str, int] = {}
         self.events = [self.kill_service, self.kill_twice, self.change_books, self.stop_service, self.flush, self.quarantine, self.lift]
         self.disk = disk
-        self.silences: list[str] = []  # what the service did not say while the disk stood still
+        self.silences: list[str] = []  # what the service failed to say while the disk stalled
         if disk is not None:
             self.events += [self.stall]
 
@@ -71,12 +72,12 @@ class Trouble:
             self.let_post(self.chance.choice([0, 5, 20, 20, 100]), until)
 
     def let_post(self, count: int, until: float) -> None:
-        """Waits until so many posts more were answered, and three seconds at most."""
+        """Waits until this many more posts were answered, for at most three seconds."""
         wanted = count + sum(sender.posts for sender in self.senders)
         wait_until(lambda: sum(sender.posts for sender in self.senders) >= wanted or time.monotonic() > until, 3)
 
     def start(self) -> None:
-        """Starts it where it does not run: senders would try for ever."""
+        """Starts the service if it is not running; otherwise senders would retry for ever."""
         if not self.service.is_running():
             self.service.start()
 
@@ -85,13 +86,13 @@ class Trouble:
         self.start()
 
     def kill_twice(self) -> None:
-        """The second kill meets a service that is starting."""
+        """Kills the service, and again while it is starting."""
         self.kill_service()
         time.sleep(self.chance.choice([0, 0.01, 0.05, 0.2]))
         self.kill_service()
 
     def change_books(self) -> None:
-        """Another number of them, by two starts of which the first one is killed."""
+        """Starts it with another number of books. The first of two such starts is killed."""
         self.service.words[-1] = str(self.chance.choice(self.max_series))
         self.kill_twice()
 
@@ -101,7 +102,7 @@ class Trouble:
         self.service.signal(signal.SIGCONT)
 
     def stall(self) -> None:
-        """The disk stands still for a while, also for a service that is killed meanwhile."""
+        """Freezes the disk for a while. The service may be killed meanwhile."""
         is_serving, is_written = self.service.is_ready(), self.is_taken_of_some()
         until = time.monotonic() + self.chance.choice(STALLS)
         with self.disk.frozen():
@@ -117,13 +118,13 @@ class Trouble:
             self.kill_service()
 
     def is_taken_of_some(self) -> bool:
-        """Whether posts of some sender are taken: where all are quarantined nothing is written, so no call stands still."""
+        """Whether posts of some sender are accepted. If all are quarantined, nothing is written, and no call stalls."""
         status = self.service.status()
         quarantined = {sender for slot in status["slots"] for sender in slot["quarantined"]} if status else set()
         return len(quarantined) < len(self.senders)
 
     def look(self, seconds: float, is_written: bool) -> None:
-        """What must be said while the disk has been still for so long."""
+        """Checks what the service says after the disk has been frozen this long."""
         status, _ = self.service.asked("GET", "/healthz", 2)
         if status != 200:
             self.silences.append(f"/healthz {status} after {seconds:.1f} s")
@@ -141,12 +142,12 @@ class Trouble:
         self.service.order(f"/quarantine/{sender}", 5)
 
     def lift(self) -> None:
-        """What was ordered without an answer may be done or not, so it is ordered again at the end."""
+        """Releases senders. An order without an answer may or may not have been done, so `release_all` repeats it at the end."""
         if self.quarantined:
             self.service.order(f"/release/{self.chance.choice(sorted(self.quarantined))}", 5)
 
     def lift_all(self) -> bool:
-        """Whether none is quarantined, by what the service says."""
+        """Whether the service says that nobody is quarantined."""
         def is_done() -> bool:
             status = self.service.status()
             left = [sender for slot in status["slots"] for sender in slot["quarantined"]] if status else [None]
@@ -157,7 +158,7 @@ class Trouble:
 
 
 def intrude(sender: Sender, senders: list[Sender]) -> None:
-    """Now and then, a post to a series that another sender has: it is refused."""
+    """Now and then posts to a series of another sender, which must be refused."""
     if sender.chance.random() > 0.05:
         return
     other = sender.chance.choice([it for it in senders if it is not sender])
@@ -213,7 +214,7 @@ def letters(service: Service) -> Any:
 
 
 def send_letters_again(service: Service) -> bool:
-    """Whether what the sink had refused is taken."""
+    """Sends the dead letters again. Returns whether the sink took them."""
     def is_done() -> bool:
         left = letters(service)
         for key in left or ():
@@ -228,7 +229,7 @@ def repeat_late(checks: Checks, what: str, senders: Sequence[Sender]) -> None:
 
 
 def end(checks: Checks, what: str, service: Service, sink: Sink, senders: list[Sender]) -> None:
-    """The end, a start after it, and what the sink has."""
+    """Ends the service, starts it again, and checks the sink."""
     surprises = [surprise for sender in senders for surprise in sender.surprises]
     checks.same(f"{what}: no post was answered otherwise", [], surprises[:3])
     repeat_late(checks, f"{what}: late repeats are answered as the first time", senders)
@@ -244,7 +245,7 @@ def end(checks: Checks, what: str, service: Service, sink: Sink, senders: list[S
     service.order("/flush")
     checks.true(f"{what}: all is delivered", wait_until(service.is_drained), service.status())
     if isinstance(sink, SqliteSink):
-        # It refuses a span that it has: a point that was counted twice.
+        # The sink refuses an interval that it already has, which means that a point was counted twice.
         checks.same(f"{what}: the sink has refused nothing", [], letters(service))
     checks.true(f"{what}: what was refused is taken", send_letters_again(service), service.last_lines())
     compare(checks, what, sink, senders)

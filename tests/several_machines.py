@@ -1,29 +1,28 @@
 #!/usr/bin/env python3
-"""Three instances over a store, each on a machine of its own, while machines and what is between them fail.
+"""Runs three instances over a store, each on a machine of its own, while machines and the network between them fail.
 
     tests/several_machines.py TOTXEGUN [SECONDS [SEED,..]] [--sink otlp|postgres] [--long] [--other TOTXEGUN] [--keep FOLDER]
 
-Machines are network namespaces: three instances, a primary and its synchronous standby, and haproxy, which shares posts out in
-turn. Senders post requests of two resources, and so for two slots, by way of haproxy or each to one instance for a while, and
-repeat each post until it is answered. For SECONDS (90) it befalls machines, drawn by SEED, each kind once before one comes again:
+Machines are network namespaces: three instances, a primary and its synchronous standby, and haproxy, which distributes posts in turn.
+Senders post requests of two resources, and so for two slots, through haproxy or for a while each to one instance, and retry each post
+until it is answered. For SECONDS (90) faults happen to machines, drawn by SEED, each kind once before one comes again:
 
-  - an instance is killed, with its folder or without; all are; one is stopped for a while and goes on; one is ended, and hands over
-  - one is a zombie: it is stopped while it delivers, until others have its slots, and goes on with the sink's answers
-  - what goes from one machine to another is lost: instance and servers, instance and instance, haproxy and instance, instance and
-    sink, one way only too
-  - the primary is killed; it is lost, unplugged, or cut off while it lives, and the standby is promoted; its commits are cancelled
-    in the wait for the standby, and then it is lost; the standby goes and comes back; the two are cut off from each other; both are
-    away
+  - an instance is killed, with or without its folder; all are killed; one is stopped for a while; one ends and hands over its slots
+  - an instance is a zombie: it is stopped while it delivers, until others have its slots, and then goes on with the sink's answers
+  - packets from one machine to another are lost: between instance and servers, two instances, haproxy and instance, or instance and
+    sink, also in one direction only
+  - the primary is killed; it is lost, unplugged, or cut off while it lives, and the standby is promoted; its commits are cancelled while
+    they wait for the standby, and then it is lost; the standby goes and comes back; the two are cut off from each other; both are away
 
-The clocks of two instances are an hour ahead and an hour late, and instances are of two versions: TOTXEGUN, and a copy that says
-another version, or the program after --other. For half of the time the sink is one of OTLP, and then the database that the store is
-in, on other machines. With --long what goes wrong lasts up to a minute, and the store is away for two; each four minutes it is looked
-what the sink has.
+The clocks of two instances are an hour ahead and an hour late. Instances have two versions: TOTXEGUN, and a copy that reports another
+version, or the program after --other. For half of the time the sink is an OTLP sink, and then the database of the store, on other
+machines. With --long faults last up to a minute, and the store is away for two; the sink is checked every four minutes.
 
-At the end the sink has, series by series and bucket by bucket, what senders were told; no spans overlap, and each key brought the
-same bytes. With --keep what all have written, and what befell them when, stays in FOLDER. It needs root, for the machines,
-PostgreSQL, haproxy, ip and gcc; where one is missing a line says so, and the status is 77. Each other line is one check; the last one
-counts those that passed and failed, and the status is 1 where one failed.
+At the end the sink must have, for each series and bucket, what the senders know to be accepted; no intervals may
+overlap, and each key must
+have had the same bytes each time. With --keep all logs stay in FOLDER, with the times of the faults. It needs root for the machines,
+PostgreSQL, haproxy, ip and gcc; if one is missing, a line says so and the status is 77. Each other line is a check; the last line counts
+passes and failures. The status is 1 if one failed.
 """
 import argparse
 import collections
@@ -62,7 +61,7 @@ SEEDS = "59,28"
 BALANCED = 5
 PATIENCE = [0, 1, 5, 15]
 LONG_PHASE = 240
-# Whatever a machine has to do beside.
+# In seconds; long enough for a busy machine.
 IN_THE_END = 300
 MOODS = ["well"] * 6 + ["late", "busy", "lose"]
 VERSIONS = "select string_agg(distinct version, ' and ') from totxegun_store.instance"
@@ -91,7 +90,7 @@ backend instances
 
 
 class Instance(Service):
-    """On a machine of its own; what starts it anew where it has ended stands for its unit."""
+    """An instance on a machine of its own. Like its unit would, a thread restarts it after it has ended."""
 
     def __init__(self, machine: Machine, folder: str, store: Any, sink: Any, clock: Clock, programs: Sequence[str],
                  note: Callable[[str], object]) -> None:
@@ -102,11 +101,11 @@ class Instance(Service):
         self.machine, self.clock, self.programs = machine, clock, programs
         self.place = self.words.index(programs[0])
         self.is_wanted, self.starts, self.note = False, 0, note
-        # One thread starts it for what befell it, and another where it has ended.
+        # One thread starts it after a fault, and another after it has ended by itself.
         self.starting = threading.Lock()
 
     def begin(self, chance: random.Random) -> None:
-        """In either version."""
+        """Starts it in either version."""
         self.words[self.place] = chance.choice(self.programs)
         self.is_wanted = True
         self.go_on()
@@ -120,7 +119,7 @@ class Instance(Service):
                 self.note(f"{self.machine.name} is started, process {self.process.pid}; the one before had status {ended}")
 
     def leave(self) -> None:
-        """From here on nobody starts it until it begins."""
+        """From now on nobody starts it until `begin`."""
         with self.starting:
             self.is_wanted = False
 
@@ -132,7 +131,7 @@ class Instance(Service):
 
 
 class Balancer:
-    """It asks each instance whether it takes posts, and shares them out in turn."""
+    """haproxy: asks each instance whether it accepts posts, and distributes posts in turn."""
 
     def __init__(self, machine: Machine, folder: str, instances: Sequence[Instance]) -> None:
         self.host, self.listen, self.machine = machine.address, LISTEN, machine
@@ -145,12 +144,12 @@ class Balancer:
             self.process = subprocess.Popen(words, stdin=subprocess.DEVNULL, stdout=log, stderr=log)
 
 
-# What a sender posts to.
+# Where a sender posts to.
 Door = Balancer | Instance
 
 
 class OverMachines(OfTwoSlots):
-    """Posts to one address; where it stays with an instance that gives no answer, to another one after a while."""
+    """Posts to one address. If its instance gives no answer for a while, it goes to another one."""
 
     def __init__(self, doors: Sequence[Door], number: int, seed: str) -> None:
         super().__init__(doors[0], number, seed)
@@ -164,7 +163,7 @@ class OverMachines(OfTwoSlots):
     def try_once(self, body: bytes, headers: dict[str, str]) -> Answer:
         answer = super().try_once(body, headers)
         self.refused = self.refused + 1 if answer[0] in (None, 503) else 0
-        # A repeat comes each 0.2 s.
+        # A retry comes each 0.2 s.
         if self.refused > 5 * self.patience:
             self.close()
             self.connection, self.refused = None, 0
@@ -173,7 +172,7 @@ class OverMachines(OfTwoSlots):
 
 
 def other_version(program: str, folder: str) -> str:
-    """A copy that says another version: instances have no other than what each writes of itself."""
+    """A copy of the program that reports another version. Instances know each other's version only from this report."""
     with open(program, "rb") as file:
         text = file.read()
     with open(os.path.join(os.path.dirname(os.path.dirname(os.path.abspath(__file__))), "VERSION"), "rb") as file:
@@ -186,7 +185,7 @@ def other_version(program: str, folder: str) -> str:
 
 
 class PostgresSink:
-    """The database that the store is in, at the address that is led to whatever server writes."""
+    """The database of the store, at the virtual address of the server that accepts writes."""
 
     SPANS = """select coalesce(json_agg(json_build_array(name, start_ns::text, end_ns::text, value::text, sum, buckets::bigint[])), '[]')
         from totxegun.intervals join totxegun.series on series.id = intervals.series"""
@@ -201,7 +200,7 @@ class PostgresSink:
                 for name, start, end, value, total, buckets in json.loads(self.store.ask(self.SPANS) or "[]")]
 
     def mood(self, moods: Sequence[str]) -> None:
-        """It has none."""
+        """Does nothing: it has no moods."""
 
     def wrong(self) -> list[str]:
         return []
@@ -211,7 +210,7 @@ class PostgresSink:
 
 
 def kept_folder(keep: str | None, name: str) -> str | None:
-    """A new one in the folder that is to be kept, where one is."""
+    """A new folder in the one that is to be kept, or None."""
     if keep:
         os.makedirs(keep, exist_ok=True)
         return tempfile.mkdtemp(prefix=f"{name}-", dir=keep)
@@ -219,7 +218,7 @@ def kept_folder(keep: str | None, name: str) -> str | None:
 
 
 class World:
-    """All machines, and what runs there."""
+    """All machines, and the processes on them."""
 
     def __init__(self, stack: contextlib.ExitStack, what: str, arguments: argparse.Namespace, seed: str, store: Callable[..., Any],
                  machines: Iterable[str], sink: str = "otlp") -> None:
@@ -243,12 +242,12 @@ class World:
         return Instance(self.router.machine(name), self.folder, self.store, self.sink, clock, programs, self.note)
 
     def note(self, text: str) -> None:
-        """What was done, and when, for who looks for a cause; the clocks of instances are others."""
+        """Notes an event and its time for whoever looks for a cause; the clocks of instances differ."""
         with open(f"{self.folder}/befell.log", "a", encoding="utf-8") as file:
             file.write(f"{datetime.datetime.now(datetime.timezone.utc):%H:%M:%S.%f} {text}\n")
 
     def keep_logs(self) -> None:
-        """What the servers wrote, beside what instances did."""
+        """Keeps the logs of the servers with those of the instances."""
         for server in self.store.all:
             shutil.copyfile(f"{server.folder}/log", f"{self.folder}/server-{server.machine.name}.log")
 
@@ -257,11 +256,11 @@ class World:
         return answer
 
     def points(self) -> list[Point]:
-        """What the sink has of all that these senders alone have posted."""
+        """The points in the sink that these senders have posted."""
         return [point for point in self.sink.points() if not self.has_others or point[0].startswith("sender-")]
 
     def missing(self) -> list[str]:
-        """The series of which the sink has something else than senders were told."""
+        """The series of which the sink does not have what senders know to be accepted."""
         found: dict[str, Value] = {}
         add_points(found, self.points())
         return differences(told_to_all(self.senders), found)
@@ -273,7 +272,7 @@ class World:
         return "".join(f"\n{one.machine.name}: {one.last_lines(8)}" for one in self.instances)
 
     def wrote(self) -> list[str]:
-        """Lines that no instance writes."""
+        """The lines in logs that no instance may write."""
         found: list[str] = []
         for one in self.instances:
             with open(one.log, encoding="utf-8", errors="replace") as file:
@@ -282,7 +281,7 @@ class World:
 
 
 def wait_for(what: Callable[[], object], seconds: float = IN_THE_END) -> bool:
-    """As wait_until, for what takes time to look at."""
+    """wait_until with a timeout for conditions that take long to check."""
     def is_so() -> object:
         found = what()
         if not found:
@@ -317,7 +316,7 @@ def phase(checks: Checks, world: World, troubles: Sequence[Trouble], seconds: fl
 
 @contextlib.contextmanager
 def serving(checks: Checks, world: World, seed: str) -> Iterator[bool]:
-    """The instances over a new store, as long as they are needed: whether they serve."""
+    """Runs the instances over a new store while the context lasts. Yields whether they serve."""
     words = [world.program, "store", "init", world.store.address, "--slots", SLOTS]
     made = subprocess.run(words, capture_output=True, text=True, check=False, timeout=LIMIT)
     checks.same(f"{world.what}: a store is made", (0, ""), (made.returncode, made.stderr))
@@ -345,7 +344,7 @@ def end(checks: Checks, world: World) -> None:
 
 
 def cut_twice(world: World) -> list[int]:
-    """How many rules of a way there are while it is cut twice, once, and no more, as where two things befall at a time."""
+    """How many rules there are while a way is cut twice, once, and no longer: two faults may cut the same way."""
     way = world.instances[0].machine.address, OWN
     counts: list[int] = []
 
@@ -383,7 +382,7 @@ def work(checks: Checks, arguments: argparse.Namespace, _: object) -> None:
 
 
 def missing(*more: str) -> list[str]:
-    """Which programs that are needed are not there."""
+    """The needed programs that are missing."""
     programs = ("haproxy", "gcc", "setpriv", *more)
     return [*([] if initdb() else ["postgresql"]), *(program for program in programs if not shutil.which(program)),
             *([] if may_have_machines() else ["network namespaces"])]
@@ -405,7 +404,7 @@ def options(about: str, seconds: float = 90) -> argparse.Namespace:
 
 def run(what: str, work: Callable[[Checks, argparse.Namespace, contextlib.ExitStack], object], arguments: argparse.Namespace,
         *lacking: str) -> int:
-    """Does the work, and ends all that it started, also where it is stopped."""
+    """Does the work, and ends all that it started, even if it is stopped."""
     checks = Checks()
     if checks.has(what, *lacking):
         signal.signal(signal.SIGTERM, lambda *_: sys.exit(1))

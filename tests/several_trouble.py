@@ -1,4 +1,4 @@
-"""What befalls several machines, drawn by chance: to instances and the network between all, and to the two servers of a store."""
+"""Random faults of several machines: of instances, of the network, and of the two servers of a store."""
 import contextlib
 import random
 import signal
@@ -14,23 +14,23 @@ from testing.service import Sender, wait_until
 SHORT: list[float] = [0.5, 1, 2, 4]
 LONG: list[float] = [1, 2, 5, 10, 20, 40, 60]
 AWAY = {False: 6, True: 120}
-# Between two troubles.
+# Seconds between two faults.
 POSTS, POST_WITHIN = [0, 10, 50], 5
-# After a silence of what is unplugged, which takes half a minute to be noticed.
+# Seconds after a fault in which a machine was unplugged, which takes half a minute to be noticed.
 ANSWERED_WITHIN = 150
 CANCEL = "select count(pg_cancel_backend(pid)) from pg_stat_activity where wait_event = 'SyncRep'"
-# Until others have a zombie's slots; it goes on anyway after that.
+# How long others may take to get a zombie's slots; then it goes on anyway.
 TAKEN_WITHIN = 30
 
 
 class OnMachine(Protocol):
-    """What has a machine of its own."""
+    """A process on a machine of its own."""
 
     machine: Machine
 
 
 class Instance(OnMachine, Protocol):
-    """What trouble has to know of an instance."""
+    """What a fault needs of an instance."""
 
     def begin(self, chance: random.Random) -> None: ...
 
@@ -46,7 +46,7 @@ class Instance(OnMachine, Protocol):
 
 
 class World(Protocol):
-    """And of all machines: which store and which sink they have is the test's."""
+    """What a fault needs of all machines. The test decides which store and sink they have."""
 
     router: Router
     store: Any
@@ -67,7 +67,7 @@ class World(Protocol):
 
 
 class Trouble:
-    """Kinds, one after another, each once before one comes again."""
+    """Kinds of faults, one after another, each once before one comes again."""
 
     def __init__(self, world: World, seed: str, is_long: bool) -> None:
         self.world, self.is_long = world, is_long
@@ -78,7 +78,7 @@ class Trouble:
         self.silences: list[str] = []
 
     def kinds(self) -> list[Callable[[], object]]:
-        """In any order."""
+        """All kinds in a random order."""
         raise NotImplementedError
 
     def go_on(self, until: float) -> None:
@@ -94,7 +94,7 @@ class Trouble:
             self.let_post(self.chance.choice(POSTS))
 
     def let_post(self, count: int, seconds: float = POST_WITHIN) -> bool:
-        """Whether so many posts more were answered within so many seconds."""
+        """Whether this many more posts were answered in time."""
         def posts() -> int:
             return sum(sender.posts for sender in self.world.senders)
         wanted = posts() + count
@@ -124,7 +124,7 @@ class Trouble:
 
 
 class OfMachines(Trouble):
-    """To instances, one at a time or all, and to what goes from one machine to another."""
+    """Faults of instances, one or all, and of the packets from one machine to another."""
 
     def kinds(self) -> list[Callable[[], object]]:
         return [self.killed, self.all_killed, self.stopped, self.ended, self.zombie, self.without_servers, self.without_each_other,
@@ -139,7 +139,7 @@ class OfMachines(Trouble):
         return [server.machine for server in self.world.store.all]
 
     def killed(self) -> None:
-        """As a machine that is lost, with its folder."""
+        """The machine is lost, with its folder."""
         one = self.one()
         one.vanish(with_folder=self.chance.random() < 0.5)
         self.wait()
@@ -158,7 +158,7 @@ class OfMachines(Trouble):
         one.signal(signal.SIGCONT)
 
     def ended(self) -> None:
-        """It hands its slots over, and is started in either version."""
+        """The instance hands over its slots, and is started in either version."""
         one = self.one()
         one.leave()
         status, seconds = one.end(2 * TAKEN_WITHIN)
@@ -166,7 +166,7 @@ class OfMachines(Trouble):
         one.begin(self.chance)
 
     def zombie(self) -> None:
-        """It has sent requests whose answers come while it is stopped."""
+        """The instance is stopped while the answers to its requests arrive."""
         one, usual = self.one(), self.world.sink.moods
         self.world.sink.mood(["late"])
         time.sleep(1.2)
@@ -178,7 +178,7 @@ class OfMachines(Trouble):
         one.signal(signal.SIGCONT)
 
     def without_servers(self) -> None:
-        """Its senders, and the other instances, still have it."""
+        """The instance is cut off from the servers; its senders and the other instances still reach it."""
         servers = self.servers()
         self.cut(*both_ways(self.one().machine, *self.chance.choice([servers, servers[:1], servers[1:]])))
 
@@ -187,7 +187,7 @@ class OfMachines(Trouble):
         self.cut(*both_ways(one.machine, other.machine))
 
     def unreached(self) -> None:
-        """By the others; the balancer and the servers have it still, so it hands its slots over."""
+        """The other instances cannot reach it; the balancer and the servers can, so it hands over its slots."""
         one = self.one()
         others = [other.machine for other in self.world.instances if other is not one]
         self.cut(*both_ways(one.machine, *others))
@@ -206,7 +206,7 @@ class OfMachines(Trouble):
 
 
 class OfServers(Trouble):
-    """To the servers: at the end of each kind one writes and the other is its synchronous standby."""
+    """Faults of the servers. After each, one accepts writes and the other is its synchronous standby."""
 
     def kinds(self) -> list[Callable[[], object]]:
         return [self.restarted, self.lost, self.unplugged, self.cut_off, self.cancelled, self.standby_gone, self.apart, self.away]
@@ -215,7 +215,7 @@ class OfServers(Trouble):
         self.world.store.restart()
 
     def lost(self) -> None:
-        """Its machine comes back as the standby."""
+        """The primary is lost; its machine comes back as the standby."""
         store: Pair = self.world.store
         store.primary.kill()
         store.promote()
@@ -223,7 +223,8 @@ class OfServers(Trouble):
         store.make_standby()
 
     def unplugged(self) -> None:
-        """No instance hears of it: it is silent from one moment to another, and the other server has a standby on its machine."""
+        """The primary is silent from one moment to the next and no instance notices. The other server takes over, with
+        a standby on the lost machine."""
         store: Pair = self.world.store
         with self.world.router.cut(*both_ways(store.primary.machine, *(one.machine for one in self.world.instances))):
             store.primary.kill()
@@ -233,7 +234,7 @@ class OfServers(Trouble):
                 self.silences.append(f"no posts were answered {ANSWERED_WITHIN} s after a server was unplugged")
 
     def cancelled(self) -> None:
-        """The standby is away, and who waits for it is told that his commit is done: then the primary is lost with that."""
+        """The standby is away, and waiting sessions are told that their commits are done. Then the primary is lost with these commits."""
         store: Pair = self.world.store
         with self.world.router.cut(*both_ways(store.primary.machine, store.standby.machine)):
             self.wait()
@@ -245,7 +246,7 @@ class OfServers(Trouble):
         store.make_standby()
 
     def cut_off(self) -> None:
-        """The old primary lives, and one instance still has it, while the standby takes its place."""
+        """The old primary lives, and one instance still reaches it, while the standby takes over."""
         store: Pair = self.world.store
         old, stays = store.primary.machine, self.chance.choice(self.world.instances).machine
         others = [one.machine for one in self.world.instances if one.machine is not stays]
@@ -277,7 +278,7 @@ class OfServers(Trouble):
 
 
 def befall(world: World, troubles: Sequence[Trouble], seconds: float) -> list[str]:
-    """For so long, side by side, while instances that have ended are started anew. What went wrong with that itself."""
+    """Runs the faults in parallel for this long, and restarts instances that have ended. Returns the errors of the faults themselves."""
     until = time.monotonic() + seconds
     threads = [threading.Thread(target=one.guarded, args=(until,), daemon=True) for one in troubles]
     for thread in threads:
