@@ -1,17 +1,17 @@
 #!/usr/bin/env python3
-"""The operator's pages in a browser, headless Chromium: what they show is what was posted and what the sink has, and what
-`totxegun status` prints.
+"""Tests the operator's pages in headless Chromium: they must show what was posted, what the sink has, and what `totxegun status` prints.
 
     tests/pages.py TOTXEGUN [FOLDER]
 
-Senders post to a service with a SQLite sink, also names that are markup, and posts and points that are not taken. Then the
-pages as the browser has them, with their script and without it, are compared with what was posted, and each total with the
-database's own. No name of a sender runs as a script or becomes an element, nothing is loaded from elsewhere, the browser
-complains of nothing, and no part is wider than a phone. What a reader has selected stays selected, who has scrolled sees that
-nobody answers, no short word is broken, and tables and plots say what they are of. With FOLDER, a picture of each page at 1280
-and 390 pixels, light and dark, is left there. Without Chromium all is left out, with status 77.
+Senders post to a service with a SQLite sink; some names are markup, and some posts and points are refused. Then the pages as the browser
+has them, with and without their script, are compared with what was posted, and each total with the database. No sender's name may run as
+a script or become an element, nothing may be loaded from elsewhere, the browser must report no error, and no part may be wider than a
+phone. A reader's selection must stay, a reader who has scrolled must see that the service does not answer, no short word may be broken,
+and tables and plots must have captions. With FOLDER, a picture of each page at 1280 and 390 pixels, light and dark, is
+left there. Without
+Chromium everything is left out, with status 77.
 
-Each line is one check; the last line counts those that passed and failed, and the status is 0 where none failed.
+Each line is a check; the last line counts passes and failures. The status is 0 if none failed.
 """
 import contextlib
 import html
@@ -49,7 +49,7 @@ def chromium() -> str | None:
 
 
 class Page(html.parser.HTMLParser):
-    """Elements, tables by their headings, and texts of a page."""
+    """The elements, tables by their headings, and texts of a page."""
 
     def __init__(self, text: str) -> None:
         super().__init__()
@@ -103,7 +103,7 @@ class Browser:
         return subprocess.run(command, capture_output=True, timeout=SECONDS, check=False).stdout.decode(errors="replace")
 
     def complaints(self, path: str) -> list[str]:
-        """What the browser writes into its console."""
+        """What the browser writes to its console."""
         command = [chromium(), "--headless", "--no-sandbox", "--disable-gpu", "--disable-dev-shm-usage", "--enable-logging=stderr",
                    f"--user-data-dir={self.folder}/chromium", "--dump-dom", "--virtual-time-budget=6000", self.place + path]
         said = subprocess.run(command, capture_output=True, timeout=SECONDS, check=False).stderr.decode(errors="replace")

@@ -1,29 +1,31 @@
 #!/usr/bin/env python3
-"""The service, interrupted at each of its calls on its files.
+"""Interrupts the service at each call on its files.
 
     tests/service_interrupted.py TOTXEGUN [EVERY [WAY ..]]
 
-It needs gcc. A preloaded library (interrupt_files.c) counts the calls that write, sync, cut, rename, delete or make files
-of the service's folder. A run is four senders' posts with flushes, a quarantine, a release, and an end by SIGTERM. For each
-call of such a run the run is made again, and interrupted there in each of these ways, or in those that are named. With EVERY
-each way has each EVERY-th call alone, from another one on than the way before, so that together they have many calls:
-  - before, middle, behind: the process is killed there; of what is written half is there, or all;
-  - ENOSPC, EIO: the call fails; where it is a write or a sync the service has to end by it;
-  - cut: the power is lost: of each file only what was synced is left, of each folder the names that were;
-  - torn: the power is lost, and all names and half of each file's bytes that were not synced are there;
+It needs gcc. A preloaded library (interrupt_files.c) counts the calls that write, sync, truncate, rename, delete or create files in the
+service's folder. A run is four senders' posts with flushes, a quarantine, a release, and an end by SIGTERM. For each call of such a run
+the test makes the run again and interrupts it there, in each of these ways or in the named ones. With EVERY each way interrupts only each
+EVERY-th call, beginning at another call than the way before, so that together they cover many calls:
+  - before, middle, behind: the process is killed before the call, after half of the write, or after the call;
+  - ENOSPC, EIO: the call fails; if it is a write or a sync, the service must end;
+  - cut: the power fails: each file keeps only what was synced, and each folder the names that it had then;
+  - torn: the power fails, and all names and half of each file's unsynced bytes are kept;
   - twice: the process is killed there, and again at one of the first calls of the next start;
-  - late: it is killed there, and at a later call of the next start the power is lost: so what an earlier run wrote and
-    did not sync is gone, unless the start has synced it;
-  - held: the call is a sync of the journal, and is held back; meanwhile the service goes on up to a sync of another file,
-    after which the power is lost. Where none comes it is lost five seconds later.
-Then the service is started without the library, and the run goes on where it was: each sender repeats what was not
-answered, each order is given again. At the end the sink, a SQLite file, has each point once that a sender was told is
-taken, and answers what it has already as the first time, late repeats too; and the service has found nothing that must not be.
+  - late: it is killed there, and at a later call of the next start the power fails: what the earlier run wrote and did not sync is
+    gone, unless the start has synced it;
+  - held: the call is a sync of the journal, and is held back; meanwhile the service goes on up to a sync of another file, after which
+    the power fails. If no such sync comes, it fails five seconds later.
+Then the service starts without the library, and the run goes on: each sender retries what was not answered, and each
+order is repeated. At
+the end the sink, a SQLite file, must have each point once that a sender knows to be accepted; the service must answer duplicates like the
+first time, late ones too, and report no fault.
 
-Others, of each sixth of such calls and in the ways in which no power is lost, are with `--durability process`.
-A last run forgets what was synced, and has to fail: so a loss of power is seen.
+Further runs, for each sixth of these calls and in the ways without a loss of power, use `--durability process`. A last
+run forgets what was
+synced, and must fail: this shows that the test sees a loss of power.
 
-A line for each run that failed; the last line counts those that passed and failed, and the status is 0 where none failed.
+A line for each run that failed; the last line counts passes and failures. The status is 0 if none failed.
 """
 import concurrent.futures
 import os
@@ -44,22 +46,22 @@ POWER = ("cut", "torn", "late", "held", "forgetful")
 FAULTS = ("ENOSPC", "EIO")
 SYNCS = ("fsync", "fdatasync")
 WRITES_AND_SYNCS = ("write", "pwrite", "writev", *SYNCS)
-# How long a step may take: the service neither ends nor answers.
+# The timeout of a step, in seconds, after which the service neither ends nor answers.
 SECONDS = 60
 SENDERS = "ABCD"
 # A letter is a post of this sender. What comes after it is ordered once the post is answered or interrupted.
 SCRIPT = ("A", "B", "A", "D/flush", "B", "C", "/quarantine/sender-B", "A", "/flush", "C", "A", "/flush", "C",
           "/release/sender-B", "B", "/flush", "A", "B", "C")
-# Of memory, where nothing else is said: what is durable is what the library has seen synced.
+# In memory, unless TMPDIR says otherwise: only what the library has seen synced counts as durable.
 FOLDERS = "/dev/shm" if os.access("/dev/shm", os.W_OK) and not os.environ.get("TMPDIR") else None
 
 
 class Failed(Exception):
-    """What is wrong with a run."""
+    """Why a run failed."""
 
 
 def build(folder: str) -> str:
-    """The library, built into a folder."""
+    """Compiles the library into a folder."""
     library = os.path.join(folder, "interrupt_files.so")
     command = ["gcc", "-O1", "-Wall", "-Wextra", "-Werror", "-Wno-unused-result", "-shared", "-fPIC"]
     subprocess.run(command + ["-o", library, os.path.join(TESTS, "interrupt_files.c")], check=True)
@@ -71,7 +73,7 @@ def build(folder: str) -> str:
 
 
 def lose_power(data: str, shadow: str, is_torn: bool) -> None:
-    """Makes the folder what a loss of power leaves of it, by what the library has kept."""
+    """Replaces the folder by what a loss of power would leave of it, according to the library's notes."""
     left = f"{data}.left"
     leave(data, left, shadow, is_torn)
     shutil.rmtree(data)
@@ -104,7 +106,7 @@ def synced_names(folder: str, shadow: str) -> dict[str, int]:
 
 
 def left_bytes(path: str | None, kept: str) -> bytes:
-    """What was synced of a file; where it is torn, also the first half of what has changed since."""
+    """The synced bytes of a file; if it is torn, also the first half of what has changed since."""
     synced = content(kept)
     if path is None:
         return synced
@@ -135,7 +137,7 @@ class Run:
                                "--admin", f"unix:{folder}/admin.sock")
         self.senders = {name: Sender(self.service, name, seconds=5) for name in SENDERS}
         self.library = library
-        # The call at which each start is interrupted; later starts are without the library.
+        # The call at which each start is interrupted; later starts run without the library.
         second = {"twice": at % 12 + 1, "late": at * 7 % 40 + 1}
         self.stages = [at, second[way]] if way in second else [at]
         self.until = time.monotonic() + SECONDS
@@ -153,7 +155,7 @@ class Run:
         self.service.start(environment if self.stages else None)
 
     def revive(self) -> None:
-        """Starts the service again where it has ended."""
+        """Starts the service again if it has ended."""
         if time.monotonic() > self.until:
             raise Failed("no end in time")
         with self.reviving:
@@ -169,7 +171,7 @@ class Run:
                 raise Failed("it does not start again")
 
     def step(self, step: str) -> None:
-        """A post, or an order of the operator, until it is done."""
+        """A post or an operator's order, repeated until it is done."""
         self.until = time.monotonic() + SECONDS
         self.revive()
         sender, order = self.senders.get(step[0]), step.lstrip(SENDERS)
@@ -200,7 +202,7 @@ class Run:
             self.revive()
 
     def make(self) -> None:
-        """The whole run. Raises Failed."""
+        """Makes the whole run. Raises Failed."""
         self.start()
         self.service.wait_ready(SECONDS)
         for step in SCRIPT:
@@ -215,7 +217,7 @@ class Run:
         self.look()
 
     def look(self) -> None:
-        """What is wrong at the end."""
+        """Checks the end of the run. Raises Failed."""
         if not wait_until(self.service.is_drained, SECONDS):
             raise Failed("the sink does not get all")
         found: dict[str, Value] = {}
@@ -229,14 +231,14 @@ class Run:
             raise Failed(str(wrong))
 
     def went_on(self) -> bool:
-        """Whether a write or a sync failed and the service did not end. It may go on without the record of acts."""
+        """Whether a write or a sync failed and the service went on. It may go on without the record of acts."""
         if self.way not in FAULTS or not os.path.exists(self.log):
             return False
         _, call, path = self.calls()[0].split(" ", 2)
         return call in WRITES_AND_SYNCS and path != "/acts.jsonl" and bool(self.stages)
 
     def calls(self) -> list[str]:
-        """The calls that were noted: all of a run that was not interrupted, else those that were."""
+        """The calls that the library noted: all of an uninterrupted run, otherwise those at which it was interrupted."""
         with open(self.log, encoding="utf-8") as file:
             return file.read().splitlines()
 
@@ -256,7 +258,7 @@ class Runs:
         return calls
 
     def made(self, at: int, way: str, durable: str = "disk") -> tuple[list[str], str | None]:
-        """Makes a run: its calls, and what is wrong with it."""
+        """Makes a run. Returns its calls, and what is wrong with it."""
         folder = tempfile.mkdtemp(dir=self.folder)
         run = Run(self.program, self.library, folder, at, way, durable)
         fault = None
@@ -264,7 +266,7 @@ class Runs:
             run.make()
         except Failed as failed:
             fault = f"{failed}; {run.service.last_lines(8)}"
-        except Exception as error:  # A test that breaks is a failure with its place.
+        except Exception as error:  # An error of the test counts as a failed run, with its place.
             fault = f"{type(error).__name__} {error}"
         finally:
             run.service.kill()
@@ -273,7 +275,7 @@ class Runs:
         return calls, fault
 
     def forgetful(self, at: int) -> None:
-        """A loss of power at this call, of which no sync of a file had any effect: a run that has to fail."""
+        """A loss of power at this call, as if no sync of a file had had any effect. Such a run must fail."""
         calls, fault = self.made(at, "forgetful")
         self.count(at, "forgetful", calls, None if fault else "a power loss without syncs is not seen")
 
@@ -293,7 +295,7 @@ def is_sync_of_journal(call: str) -> bool:
 
 
 def places_of(calls: list[str], every: int, ways: Sequence[str]) -> Iterator[tuple[int, str]]:
-    """Where a run is interrupted, and how: in each way at least once."""
+    """Where and how runs are interrupted: at least once in each way."""
     for number, way in enumerate(ways):
         places = [at for at, call in enumerate(calls, 1) if way != "held" or is_sync_of_journal(call)]
         first = number % max(1, min(every, len(places)))

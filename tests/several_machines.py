@@ -55,9 +55,9 @@ from store import OfTwoSlots, post_while
 LISTEN, OPERATE, PEER = 4318, 4319, 4320
 SLOTS, SENDERS = "12", 8
 SINKS = ("otlp", "postgres")
-# Of each sink one. By these two each kind of trouble comes once, where either has most of a minute.
+# One for each sink. With these two, each kind of trouble comes once if each run has most of a minute.
 SEEDS = "59,28"
-# By the balancer; the others stay with an instance for so many seconds.
+# How many senders post through the balancer. The others stay with an instance without an answer for one of these times, in seconds.
 BALANCED = 5
 PATIENCE = [0, 1, 5, 15]
 LONG_PHASE = 240

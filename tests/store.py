@@ -1,14 +1,14 @@
 #!/usr/bin/env python3
-"""The program over a store in PostgreSQL with a synchronous standby.
+"""Tests the program over a store in PostgreSQL with a synchronous standby.
 
     tests/store.py PROGRAM [SECONDS [SEED]]
 
-Senders post requests of two resources, and so to two slots, to an instance for so many seconds (30), while it is killed,
-stopped and ended, and the servers of the store are killed, promoted and held; for the second half there are two instances,
-that take slots from each other. Then what senders were told is compared with what the sink has. Rows of slots that the store
-has lost are told of. Skipped without PostgreSQL.
+For SECONDS (30) senders post requests of two resources, and so for two slots, to an instance, while the instance is killed, stopped and
+ended, and the servers of the store are killed, promoted and held. For the second half there are two instances, which take slots from each
+other. Then the sink must have what senders know to be accepted. Rows of slots that the store has lost are reported. Without PostgreSQL
+the test is left out.
 
-Each line is one check; the last line counts those that passed and failed, and the status is 0 where none failed.
+Each line is a check; the last line counts passes and failures. The status is 0 if none failed.
 """
 import json
 import os
@@ -36,7 +36,7 @@ SENDERS = 6
 
 
 class OfTwoSlots(Sender):
-    """Its sums and its histograms have a resource each."""
+    """A sender whose sums have one resource and whose histograms another."""
 
     def encoded(self, points: Sequence[Point]) -> Post:
         kind = self.chance.choice([JSON, PROTOBUF])
@@ -47,7 +47,7 @@ class OfTwoSlots(Sender):
 
 
 class AtAny(OfTwoSlots):
-    """Posts to one instance, and to any other one where there is no answer."""
+    """Posts to one instance, and to another one if there is no answer."""
 
     def __init__(self, instances: Sequence[Service], number: int) -> None:
         super().__init__(instances[0], number)
@@ -63,7 +63,7 @@ class AtAny(OfTwoSlots):
 
 
 def try_starts(checks: Checks, program: str, store: Pair, folder: str) -> None:
-    """What is refused, by name."""
+    """Starts that are refused, each with its reason."""
     def run(*words: str) -> tuple[int, str]:
         done = subprocess.run([program, *words], capture_output=True, text=True, check=False, timeout=60)
         return done.returncode, done.stdout + done.stderr
@@ -97,7 +97,7 @@ def instance(program: str, folder: str, name: str, store: Pair, sink: Addressed,
 
 
 def trouble(chance: random.Random, store: Pair, instances: Sequence[Service]) -> str:
-    """Something befalls an instance or a server."""
+    """Makes something happen to an instance or a server."""
     one = chance.choice(instances)
     kind = chance.choice(["kill", "kill", "stop", "end", "restart", "hold", "go over"])
     if kind == "kill":
@@ -124,7 +124,7 @@ class GivesUp(Exception):
 
 
 def post_while(senders: Sequence[Sender], work: Callable[[], object], seconds: float = 60) -> bool:
-    """Senders post while this is done: whether each post was answered in the end, within so many seconds more."""
+    """Senders post while `work` runs. Returns whether each post was answered, at the latest this many seconds later."""
     stop, late = threading.Event(), threading.Event()
     answered: list[Sender] = []
 
@@ -158,7 +158,7 @@ def post_while(senders: Sequence[Sender], work: Callable[[], object], seconds: f
 
 
 def troubles(seconds: float, chance: random.Random, store: Pair, instances: Sequence[Service], done: list[str]) -> None:
-    """What is done for so many seconds."""
+    """Makes trouble for this many seconds."""
     until = time.monotonic() + seconds
     while time.monotonic() < until:
         time.sleep(2)
@@ -171,7 +171,7 @@ def compare(checks: Checks, instances: Sequence[Service], senders: Sequence[Send
         add_points(found, sink.points())
         return differences(told_to_all(senders), found)
 
-    # Each flushes its own slots once a second.
+    # Each instance flushes its own slots once a second.
     wait_until(lambda: not missing())
     checks.true("the sink has what senders were told", not missing(), [missing(), *[one.last_lines() for one in instances]])
     points = sink.points()
@@ -221,12 +221,12 @@ def terms(store: Pair) -> int:
 
 
 def waiting(service: Service) -> int:
-    """How many requests its sink has not taken."""
+    """How many requests wait for the sink."""
     return sum(slot["waiting"] for slot in service.status()["slots"])
 
 
 def try_lost_rows(checks: Checks, program: str, store: Pair, folder: str, sink: OtlpSink) -> None:
-    """A slot of which the store has lost rows is not served. It is said why, and it is not taken all the time."""
+    """A slot of which the store has lost rows must not be served. The reason is shown, and nobody tries to take the slot all the time."""
     one = instance(program, folder, "c", store, sink)
     sink.mood(["busy"])
     one.start()
@@ -251,7 +251,7 @@ def try_lost_rows(checks: Checks, program: str, store: Pair, folder: str, sink: 
         time.sleep(2)
         before = terms(store)
         time.sleep(9)
-        # It is tried again after ten seconds, then later and later.
+        # The next attempt comes after ten seconds, and each further one later.
         taken = terms(store) - before
         checks.true("it is not taken all the time", taken <= int(lost or 0), f"{taken} times, of {lost} slots")
     finally:
@@ -259,7 +259,8 @@ def try_lost_rows(checks: Checks, program: str, store: Pair, folder: str, sink: 
 
 
 def try_repeat_without_its_standby(checks: Checks, program: str, store: Pair, folder: str) -> None:
-    """A request whose answer was lost, and that a restart of the sink's server shows, is taken once the standby has it too."""
+    """A request with an unknown outcome, which a restart of the sink's server shows, must count as delivered only after
+    the standby has it too."""
     sink = f"postgres://postgres@{store.primary.host}:{store.primary.port}/postgres"
     service = Service(program, f"{folder}/sink", sink, "--flush-interval", "1s")
     service.start()

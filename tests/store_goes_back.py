@@ -1,15 +1,15 @@
 #!/usr/bin/env python3
-"""A store that goes back: it is put back from a dump, and a standby that lacks its last seconds takes its place.
+"""Restores a store from a dump, and promotes a standby that lacks the last seconds.
 
     tests/store_goes_back.py PROGRAM
 
-Senders post to an instance, and the sink has what they were told. Then the store goes back to before that, and they go on, with new
-ones beside them. What the new ones are told has to be in the sink, of an OTLP receiver that knows repeats by their keys and of a
-PostgreSQL database. The database also has what the others were told: what was delivered before the store went back, and what came
-afterwards. It is said what the sink has beyond the store. A slot whose rows are gone is not served until an operator has said so.
-Skipped without PostgreSQL.
+Senders post to an instance, and the sink has what they know to be accepted. Then the store goes back to an earlier state, and they go on,
+with new senders beside them. What the new senders know to be accepted must be in the sink: in an OTLP receiver that recognises
+duplicates by their keys, and in a PostgreSQL database. The database must also have what the other senders know to be accepted: what was
+delivered before the store went back, and what came afterwards. The program must say what the sink has beyond the store. A slot whose rows
+are gone is not served until an operator has permitted it. Without PostgreSQL the test is left out.
 
-Each line is one check; the last line counts those that passed and failed, and the status is 0 where none failed.
+Each line is a check; the last line counts passes and failures. The status is 0 if none failed.
 """
 import json
 import os
@@ -32,7 +32,7 @@ POSTS = 12
 
 
 class HasTotals(Addressed, Protocol):
-    """A sink, and what it has by series."""
+    """A sink, and its totals by series."""
 
     def totals(self) -> dict[str, Value]: ...
 
@@ -40,7 +40,7 @@ class HasTotals(Addressed, Protocol):
 
 
 class ByKeys(OtlpSink):
-    """A receiver that knows a repeat by its key alone."""
+    """A receiver that recognises a duplicate by its key alone."""
 
     def totals(self) -> dict[str, Value]:
         found: dict[str, Value] = {}
@@ -67,7 +67,7 @@ class InPostgres:
 
 
 class Dump:
-    """A dump of the store, and its return."""
+    """A dump of the store, which can be restored."""
 
     name = "put back from a dump"
 
@@ -84,7 +84,7 @@ class Dump:
 
 
 class Lag:
-    """A standby that nobody waits for, and that stands still from a moment on."""
+    """An asynchronous standby that stands still from some moment on."""
 
     name = "in the place of which comes a standby that lags"
 
@@ -96,7 +96,7 @@ class Lag:
         store.ask("select pg_reload_conf()")
 
     def begin(self) -> None:
-        """It has all up to here."""
+        """The standby has everything up to this moment."""
         is_behind = "select count(*) from pg_stat_replication where replay_lsn < pg_current_wal_lsn()"
         wait_until(lambda: self.store.ask(is_behind) == "0")
         self.store.standby.kill()
@@ -175,7 +175,7 @@ def is_said(one: Service, part: str) -> bool:
     return wait_until(says)
 
 
-# What is gone, how it goes, how that is named, and what an operator says then.
+# Which rows are gone, how the test removes them, how the program names that, and what an operator then types.
 GONE: Sequence[tuple[str, str, str, Sequence[str]]] = (
     ("files", "delete from totxegun_store.piece; delete from totxegun_store.file", "although the slot had files", ()),
     ("a piece", "delete from totxegun_store.piece where number = (select min(number) from totxegun_store.piece)",
@@ -183,7 +183,7 @@ GONE: Sequence[tuple[str, str, str, Sequence[str]]] = (
 
 
 def begin_anew(checks: Checks, program: str, folder: str, sink: HasTotals) -> None:
-    """The rows of a slot's files are gone, and then those of one piece."""
+    """Removes the rows of a slot's files, and then those of one piece."""
     store = Pair()
     one = instance(program, folder, "b", store, sink)
     one.words += ["--store-copies", "1"]

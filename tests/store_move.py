@@ -1,17 +1,16 @@
 #!/usr/bin/env python3
-"""A folder is moved into a store, and killed at each step.
+"""Moves a folder into a store, and kills the move at each step.
 
     tests/store_move.py PROGRAM [KILLS [SEED]]
 
-A folder has all that there can be: series whose senders go on, cumulative ones among them, posts that are in no group, requests
-that wait, of which the sink has one already, a request that was refused for good, a quarantined sender with posts, and the sink
-that it was told. `totxegun store move` brings it into a store of PostgreSQL, and services go on over the store. KILLS (60) times
-a move of a copy is killed, drawn by SEED (1) of all calls on the folder's files (by the library interrupt_files.c, which needs
-gcc) and all requests to the server, before it or after it, and such a call may fail: then services start on the folder, or on
-the store, or on neither, and the same command again brings all of it there: each series has in the sink what its sender was told,
-once. Skipped without PostgreSQL.
+The folder has everything that there can be: series whose senders go on, cumulative ones among them; posts that are in no group; waiting
+requests, one of which the sink already has; a dead letter; a quarantined sender with posts; and the sink that it was started with.
+`totxegun store move` moves it into a store in PostgreSQL, and services go on over the store. KILLS (60) times a move of a copy is killed,
+before or after a call on the folder's files (by the library interrupt_files.c, which needs gcc) or a request to the server, drawn by SEED
+(1); or such a call fails. Then services start on the folder, or on the store, or on neither, and the same command again must move
+everything: the sink must have what senders know to be accepted, once. Without PostgreSQL the test is left out.
 
-Each line is one check; the last line counts those that passed and failed, and the status is 0 where none failed.
+Each line is a check; the last line counts passes and failures. The status is 0 if none failed.
 """
 import concurrent.futures
 import contextlib
@@ -45,18 +44,18 @@ SLOTS = "4"
 SENDERS = 4
 ONE_COPY = ("--store-copies", "1")
 CUMULATIVE = 2
-# Of databases: each move has its own.
+# Numbers the databases: each move has its own.
 NUMBERS = itertools.count(1)
 # What a copy of a folder does not have.
 LEFT = shutil.ignore_patterns("lock", "admin.sock")
 # At which request a move is killed, and whether before the server has it or after it.
 Kill = tuple[int, str]
-# The name of a way to kill a move, and the way: at a request, or, by what is added to its environment, at a call.
+# The name of a way to kill a move, with the way: at a request, or at a call, by additions to its environment.
 Way = tuple[str, Kill | None, dict[str, str] | None]
 
 
 class OfSlots(Sender):
-    """Its sums and its histograms have a resource each, in both encodings."""
+    """A sender whose sums have one resource and whose histograms another, in both encodings."""
 
     service: Service
 
@@ -78,7 +77,7 @@ class OfSlots(Sender):
 
 
 def scopes(request: bytes) -> bytes:
-    """What is in the one message of a short request."""
+    """The content of the only resource in a short request."""
     at = 1
     while request[at] > 127:
         at += 1
@@ -86,7 +85,7 @@ def scopes(request: bytes) -> bytes:
 
 
 class Running(Sender):
-    """It posts how much it has come to since its start."""
+    """A sender of a cumulative series."""
 
     service: Service
 
@@ -121,7 +120,7 @@ def post_all(senders: Iterable[OfSlots | Running], times: int = 1) -> None:
 
 
 class Filled:
-    """A folder with all that there can be."""
+    """A folder with everything that there can be."""
 
     def __init__(self, program: str, folder: str, checks: Checks) -> None:
         self.sink, self.data = OtlpSink(), f"{folder}/filled"
@@ -153,11 +152,11 @@ class Filled:
         post_all(others, 2)
         service.kill()
         self.sink.mood(["well"])
-        # What is copied is as it is now.
+        # The copies are made from what is there now.
         self.told, self.taken = told_to_all(self.senders), dict(self.sink.taken)
 
     def go_on(self, checks: Checks, what: str, instance: Service) -> None:
-        """A service over what was moved: nothing is missing, and nothing twice."""
+        """Runs a service over what was moved: nothing may be missing, and nothing may count twice."""
         instance.start()
         checks.true(f"{what}: it serves", instance.wait_ready(), instance.last_lines())
         for sender in self.senders:
@@ -207,8 +206,8 @@ def run(program: str, *words: str, environment: Mapping[str, str] | None = None,
 
 
 class Counting:
-    """Passes what a program asks of a server on, counts the requests, and ends the program at one of them: before the server has
-    it, or once the server has done it."""
+    """A proxy that counts a program's requests to a server, and kills the program at one of them: before the server
+    gets it, or after the server has done it."""
 
     def __init__(self, port: int) -> None:
         self.to, self.at, self.way = port, 0, "before"
@@ -288,11 +287,11 @@ def exactly(source: socket.socket, length: int) -> bytes:
 
 
 class Failed(Exception):
-    """What is wrong with a run."""
+    """Why a run failed."""
 
 
 class Moves:
-    """Moves of copies of a folder, each with a database of its own."""
+    """Moves copies of a folder, each into a database of its own."""
 
     def __init__(self, program: str, server: Server, folder: str, filled: Filled, checks: Checks) -> None:
         self.program, self.server, self.folder, self.filled, self.checks = program, server, folder, filled, checks
@@ -311,7 +310,7 @@ class Moves:
 
     def move(self, words: Sequence[str], proxy: Counting | None = None, kill: Kill = (0, "before"),
              environment: Mapping[str, str] | None = None) -> tuple[int, str, int]:
-        """A move that may be killed: its status and text, and how many requests it made."""
+        """Makes a move that may be killed. Returns its status, its text and the number of its requests."""
         with subprocess.Popen([self.program, "store", "move", *words, *ONE_COPY], stdout=subprocess.PIPE, stderr=subprocess.STDOUT,
                               text=True, env=dict(os.environ, **environment or {})) as process:
             if proxy:
@@ -323,7 +322,7 @@ class Moves:
         return process.returncode, text, proxy.end() if proxy else 0
 
     def look(self, address: str, folder: str) -> None:
-        """Services start on the folder, on the store, or on neither, as both say."""
+        """Checks that services start on the folder, on the store, or on neither, as both say."""
         status, text = run(self.program, "store", "check", address)
         if status:
             raise Failed(f"store check: {text}")
@@ -360,7 +359,7 @@ class Moves:
         raise Failed(f"it did not start, and did not say why: {text}")
 
     def one(self, kill: Kill | None = None, calls: Mapping[str, str] | None = None) -> tuple[int, int]:
-        """A move that is killed and called again; how many requests and calls it made."""
+        """Makes a move that is killed and repeated. Returns the numbers of its requests and calls."""
         place, proxy = tempfile.mkdtemp(dir=self.folder), Counting(self.server.port)
         folder, log = f"{place}/data", f"{place}/calls"
         name = self.database()
@@ -387,7 +386,8 @@ class Moves:
         return requests, made
 
     def deliver(self, address: str, data: str) -> None:
-        """All of the folder is in the store: an instance delivers what senders were told, also what was refused or held."""
+        """Checks that the whole folder is in the store: an instance delivers what senders know to be accepted, with the
+        dead letter and the quarantined posts."""
         sink = OtlpSink()
         sink.taken = dict(self.filled.taken)
         over = Service(self.program, data, sink.address, "--store", address, "--instance", "a", "--peer",
@@ -433,7 +433,7 @@ class Moves:
                 return None
             except Failed as failed:
                 return f"{way[0]}: {failed}"
-            except Exception as error:  # A test that breaks is a failure with its place.
+            except Exception as error:  # An error of the test counts as a failed run, with its place.
                 return f"{way[0]}: {type(error).__name__} {error}"
 
         with concurrent.futures.ThreadPoolExecutor(4) as pool:
@@ -445,7 +445,7 @@ class Moves:
 
 
 def go_there(checks: Checks, program: str, moves: Moves, filled: Filled, folder: str) -> None:
-    """Services go on over the store."""
+    """Runs services over the store."""
     data = f"{folder}/data"
     shutil.copytree(filled.data, data, ignore=LEFT)
     name = moves.database()
@@ -467,7 +467,7 @@ def go_there(checks: Checks, program: str, moves: Moves, filled: Filled, folder:
     checks.true("no service starts on the folder any more", not moves.starts_on("--data", data), "it went on")
     status, text = run(program, "serve", "--data", f"{folder}/x", "--sink", "http://127.0.0.1:1/", *options, *addresses())
     checks.true("another sink than the folder's is refused", status == 1 and "the instances of this store deliver to" in text, text)
-    over = Service(program, data, filled.sink.address, *options)  # what it had is in the store
+    over = Service(program, data, filled.sink.address, *options)  # the store has what the folder had
     filled.go_on(checks, "over the store", over)
     letters = json.loads(over.asked("GET", "/dead-letters")[1])
     for letter in letters:

@@ -1,18 +1,19 @@
 #!/usr/bin/env python3
-"""TLS and names at the senders' addresses, by real clients.
+"""Tests TLS and names at the senders' addresses with real clients.
 
     tests/tls.py TOTXEGUN [SECONDS]
 
-An address beyond loopback is refused without both, and says what to do. `totxegun token` makes a token that is taken, and that
-nothing has but who was given it. Then curl, Python and gRPC's client for Python post by certificate and by token, over TLS 1.2
-and 1.3; without either, with a wrong one, or under another's name they are refused as docs/FORMATS.md says. A token and a root
-that are taken out of their files stop. At last programs on OpenTelemetry's SDK for Go count by HTTP and gRPC, by certificate
-and by token, and senders post on connections that they keep or make anew, for so many seconds (8), while the certificate is
-renewed again and again, once by halves, and handshakes stall: no post is lost, none is answered otherwise than 200, and the
-sink has what they counted, each under its own name.
+An address beyond loopback is refused without both, with a text that says what to do. `totxegun token` makes a token that is accepted and
+that only its holder has. Then curl, Python and gRPC's client for Python post by certificate and by token, over TLS 1.2 and 1.3. Without
+either, with a wrong one, or under another sender's name they are refused as docs/FORMATS.md says. A token and a root
+that are removed from
+their files stop working. At last programs on OpenTelemetry's SDK for Go count over HTTP and gRPC, by certificate and by
+token, and senders
+post on kept and on new connections, for SECONDS (8), while the certificate is renewed again and again, once in halves, and handshakes
+stall. No post may be lost, each must be answered 200, and the sink must have what they counted, each under its own name.
 
-It needs curl, openssl, python3-grpcio, and what tests/sdk_go.py needs; where one is missing a line says so, and the status is
-77. Each other line is one check; the last one counts those that passed and failed, and the status is 1 where one failed.
+It needs curl, openssl, python3-grpcio, and what tests/sdk_go.py needs; if one is missing, a line says so and the status is 77. Each
+other line is a check; the last line counts passes and failures. The status is 1 if one failed.
 """
 import contextlib
 import functools
@@ -52,7 +53,7 @@ except ImportError:
 SECONDS = 8
 METHOD = "/opentelemetry.proto.collector.metrics.v1.MetricsService/Export"
 KEY = ["-newkey", "ec", "-pkeyopt", "ec_paramgen_curve:prime256v1", "-nodes"]
-# How each Go program sends, and by what it is named.
+# How each Go program sends, and what names it.
 PROGRAMS = [("json", "cert"), ("protobuf", "token"), ("grpc", "cert"), ("grpc", "token")]
 
 
@@ -69,7 +70,7 @@ def root(at: str, name: str) -> None:
 
 
 def signed(at: str, name: str, by: str = "ca", names: str | None = None, days: int = 30) -> None:
-    """NAME.pem and NAME.key; the name of a sender is its DNS name."""
+    """Makes NAME.pem and NAME.key. The DNS name in a sender's certificate is the sender's name."""
     with open(f"{at}/names", "w", encoding="utf-8") as file:
         file.write(f"subjectAltName={names or f'DNS:{name}'}\nbasicConstraints=CA:FALSE\n")
     openssl(at, "req", *KEY, "-keyout", f"{name}.key", "-out", f"{name}.csr", "-subj", "/CN=other")
@@ -90,7 +91,7 @@ def make_certificates(at: str) -> None:
 
 
 def put(path: str, text: str) -> None:
-    """In its place at once, as who renews a file should."""
+    """Replaces a file atomically, as anybody who renews a certificate should."""
     with open(f"{path}.new", "w", encoding="utf-8") as file:
         file.write(text)
     os.replace(f"{path}.new", path)
@@ -108,7 +109,7 @@ def context(at: str, certificate: str | None = None) -> ssl.SSLContext:
 
 
 def refusals(checks: Checks, program: str, at: str) -> None:
-    """Each of these is refused with status 2, and says why."""
+    """Each of these starts must be refused with status 2 and its reason."""
     port, beyond = free_port(), "open to other machines"
     tls = ["--tls-cert", f"{at}/server.pem", "--tls-key", f"{at}/server.key"]
     for what, words, status, why in (
@@ -133,7 +134,7 @@ def refusals(checks: Checks, program: str, at: str) -> None:
 
 
 def make_token(program: str, at: str, who: str) -> str:
-    """What the command gives: its line is put into the file, its token returned."""
+    """Makes a token, puts its line into the file, and returns the token."""
     done = subprocess.run([program, "token", who], capture_output=True, text=True, timeout=60, check=True)
     with open(f"{at}/tokens", "a", encoding="utf-8") as file:
         file.write(done.stdout)
@@ -145,12 +146,12 @@ def make_token(program: str, at: str, who: str) -> str:
 
 
 class Clients:
-    """Each posts one point of a series of its own, and gives the status."""
+    """Clients, each of which posts one point of a series of its own and returns the status."""
 
     def __init__(self, at: str, service: Service, callers: int) -> None:
         self.at, self.service, self.callers = at, service, callers
         self.time = 10**9
-        # Tokens, once they are given.
+        # The tokens, after they are made.
         self.collector = self.fleeting = ""
 
     def body(self, write: Callable[[Sequence[Point]], bytes] = in_json) -> bytes:
@@ -158,7 +159,7 @@ class Clients:
         return write([(f"one.{self.time}", self.time, self.time + 10, 1)])
 
     def curl(self, *words: str, host: str = "localhost") -> str:
-        """The status, or none and what curl said."""
+        """The status, or what curl said if there is none."""
         command = ["curl", "-sS", "-o", "/dev/null", "-w", "%{http_code} %{http_version}", "--cacert", f"{self.at}/ca.pem", *words]
         command += ["-H", f"Content-Type: {JSON}", "-d", self.body().decode(), f"https://{host}:{self.service.listen}/v1/metrics"]
         done = subprocess.run(command, capture_output=True, text=True, timeout=60, check=False)
@@ -168,7 +169,7 @@ class Clients:
         return ["--cert", f"{self.at}/{name}.pem", "--key", f"{self.at}/{name}.key"]
 
     def python(self, certificate: str | None = None, token: str | None = None, sender: str | None = None) -> Sequence[Any]:
-        """The status, the text and the challenge of an answer; none where there is none."""
+        """The status, the text and the challenge of an answer; all None if there is no answer."""
         headers = {"Content-Type": PROTOBUF}
         headers |= {"Authorization": f"Bearer {token}"} if token else {}
         headers |= {"x-sender": sender} if sender else {}
@@ -193,7 +194,8 @@ class Clients:
         metadata = [("authorization", f"Bearer {token}")] if token else []
         metadata += [("x-sender", sender)] if sender else []
         options = [("grpc.use_local_subchannel_pool", 1)]
-        # Not 127.0.0.1: it would be sent as the name in the handshake, where no address may stand (RFC 6066, 3).
+        # localhost and not 127.0.0.1, because the client sends the host as the handshake's server name, which may not
+        # be an address (RFC 6066, 3).
         with grpc.secure_channel(f"localhost:{self.callers}", credentials, options=options) as channel:
             call = channel.unary_unary(METHOD, request_serializer=bytes, response_deserializer=bytes)
             try:
@@ -246,7 +248,7 @@ def post_by_python(checks: Checks, clients: Clients, token: str) -> None:
 
 
 def what_stops(checks: Checks, clients: Clients, at: str) -> None:
-    """A token and a root, on connections that are kept."""
+    """Removes a token and a root while connections are kept."""
     headers = {"Content-Type": JSON, "Authorization": f"Bearer {clients.fleeting}"}
     by_token = http.client.HTTPSConnection("localhost", clients.service.listen, timeout=20, context=context(at))
     by_root = http.client.HTTPSConnection("localhost", clients.service.listen, timeout=20, context=context(at, "stranger"))
@@ -285,7 +287,7 @@ def what_stops(checks: Checks, clients: Clients, at: str) -> None:
 
 
 class Poster(threading.Thread):
-    """Posts until it is told to end: on a connection that it keeps, or on a new one each time."""
+    """Posts until it is stopped, on one connection that it keeps or on a new one each time."""
 
     def __init__(self, at: str, service: Service, name: str, kept: bool) -> None:
         super().__init__(daemon=True)
@@ -318,7 +320,7 @@ class Poster(threading.Thread):
 
 
 def renew(at: str, seconds: float) -> int:
-    """New certificates, of which some come before their keys."""
+    """Renews the certificate again and again; every other time its key arrives 0.8 s later. Returns how often."""
     until, count = time.monotonic() + seconds, 0
     while time.monotonic() < until:
         os.makedirs(f"{at}/made", exist_ok=True)

@@ -1,18 +1,17 @@
 #!/usr/bin/env python3
-"""Senders on another machine, as README and OPERATING set it up, word by word.
+"""Sets up senders on another machine, word by word as README and OPERATING say.
 
     tests/two_networks.py TOTXEGUN [SECONDS]
 
-Two machines are network namespaces with a cable between them. On one the commands of docs/OPERATING.md, "TLS and names", are
-run as they stand, with other folders, and with the machine's name in the place of localhost; the service starts with the
-settings that they write. On the other a program on OpenTelemetry's SDK for Go posts over HTTP and gRPC by the certificate
-shop-1, a Python program by the token of shop-2, and Java's own client for HTTP by either, where there is a JDK, for so many
-seconds (4). A sender without either, and one that comes without TLS, is refused. At the end the sink has what they counted,
-each series of its own sender; the admin address is not reached from there.
+Two machines are network namespaces with a cable between them. On one the test runs the commands of docs/OPERATING.md, "TLS and names",
+unchanged except for other folders and the machine's name instead of localhost, and starts the service with the settings that they write.
+On the other, for SECONDS (4), a program on OpenTelemetry's SDK for Go posts over HTTP and gRPC with the certificate of shop-1, a Python
+program with the token of shop-2, and Java's own HTTP client with either, if there is a JDK. A sender without either, and one without TLS,
+must be refused. At the end the sink must have what they counted, each series of its own sender, and the admin address must not be
+reachable from there.
 
-It needs openssl, ip, the right to make network namespaces, and what tests/sdk_go.py needs; where one is missing a line says
-so, and the status is 77. Each other line is one check; the last one counts those that passed and failed, and the status is 1
-where one failed.
+It needs openssl, ip, the right to make network namespaces, and what tests/sdk_go.py needs; if one is missing, a line says so and the
+status is 77. Each other line is a check; the last line counts passes and failures. The status is 1 if one failed.
 """
 import contextlib
 import http.client
@@ -40,7 +39,7 @@ SECONDS = 4
 NAME = "gateway.test"
 LISTEN, GRPC, OPERATE = 4318, 4317, 4319
 GATEWAY, SHOP = "10.9.0.1", "10.9.0.2"
-# What this script is called with where it is a sender itself, on the other machine.
+# The first argument of this script if it runs as a sender on the other machine.
 AS_SENDER = "--as-sender"
 JAVA = """
 import java.net.URI; import java.net.http.*; import java.nio.file.*; import java.security.*; import java.security.cert.*;
@@ -79,7 +78,7 @@ public class Post {
 
 
 def make_machines(stack: contextlib.ExitStack) -> list[str]:
-    """Two, by their names. What they call the first one stands in their own /etc/hosts."""
+    """Makes two machines and returns their names. Each has the first one's name in an /etc/hosts of its own."""
     names = [f"totxegun-{os.getpid()}-{what}" for what in ("gateway", "shop")]
     for name in names:
         ip("netns", "add", name)
@@ -101,7 +100,7 @@ def make_machines(stack: contextlib.ExitStack) -> list[str]:
 
 
 def commands(folder: str, program: str) -> str:
-    """Those of the page, for a shell: with other folders, and no unit that is started anew."""
+    """The page's commands for a shell, with other folders, and without the restart of a unit."""
     with open(PAGE, encoding="utf-8") as file:
         block = re.search(r"^```\n(# umask 077; mkdir -p /root/totxegun-ca.*?)^```$", file.read(), re.DOTALL | re.MULTILINE)[1]
     text = re.sub(r"^# ", "", block, flags=re.MULTILINE)
@@ -121,7 +120,7 @@ def commands(folder: str, program: str) -> str:
 
 
 def post_by_python(at: str, seconds: float) -> None:
-    """A sender by token; prints how many points were taken. It is what the page says: no x-sender, and the root that it has."""
+    """Posts by token, as the page says without x-sender and with the root that it has. Prints how many points were accepted."""
     context = ssl.create_default_context(cafile=f"{at}/ca.pem")
     headers = {"Content-Type": JSON, "Authorization": f"Bearer {os.environ['TOKEN']}"}
     until, start, taken = time.monotonic() + seconds, 1000, 0
@@ -137,7 +136,7 @@ def post_by_python(at: str, seconds: float) -> None:
 
 
 def try_without(at: str) -> None:
-    """What who has neither is answered, over TLS and without."""
+    """Prints the answers to a sender with neither, over TLS and without."""
     context = ssl.create_default_context(cafile=f"{at}/ca.pem")
     connection = http.client.HTTPSConnection(NAME, LISTEN, timeout=20, context=context)
     connection.request("POST", "/v1/metrics", in_json([("none", 10, 20, 1)]), {"Content-Type": JSON, "x-sender": "shop-1"})
@@ -160,7 +159,7 @@ def start_go(program: str, folder: str, at: str, machine: str, number: int, enco
 
 
 def post_by_java(checks: Checks, folder: str, at: str, machine: str, token: str | None) -> list[str]:
-    """The names of series that it has posted; none where there is no JDK."""
+    """Posts by Java. Returns the names of its series; none if there is no JDK."""
     if not shutil.which("javac"):
         print("note: no JDK, so Java did not post", flush=True)
         return []

@@ -1,13 +1,13 @@
 #!/usr/bin/env python3
-"""Whether the shipped unit has room for the threads of the service.
+"""Tests that the shipped unit allows enough threads for the service.
 
     tests/unit_tasks.py TOTXEGUN
 
-The service is started with the most --threads, and its threads are counted while senders post. With those that long work may
-take beside them they have to be within TasksMax of operate/totxegun.service: where a thread can't be started, what was to be
-done by it fails.
+The service starts with the largest --threads, and its threads are counted while senders post. With the threads that
+long work may add, they
+must be within TasksMax of operate/totxegun.service, because work fails if its thread cannot be started.
 
-Each line is one check; the last line counts those that passed and failed, and the status is 1 where one failed.
+Each line is a check; the last line counts passes and failures. The status is 1 if one failed.
 """
 import contextlib
 import os
@@ -19,7 +19,7 @@ from testing.service import Sender, Service
 from testing.shipped import folder, run_script, shipped
 
 MOST_THREADS = 64
-# What long work may take: of each of these threads, and of the others together.
+# The threads of long work: how many of each of these, and of all others together.
 LONG_WORK, OTHER_LONG_WORK = 2, 16
 SENDERS, POSTS = 8, 40
 
@@ -29,7 +29,7 @@ def threads(service: Service) -> int:
 
 
 def post_all(service: Service) -> list[tuple[int | None, bytes]]:
-    """Senders at once; whether each was answered as it should be."""
+    """Posts by several senders at once, and returns the unexpected answers."""
     senders = [Sender(service, number) for number in range(SENDERS)]
 
     def go_on(sender: Sender) -> None:

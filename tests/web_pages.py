@@ -1,16 +1,17 @@
 #!/usr/bin/env python3
-"""Pages of somebody else in a browser, headless Chromium, at the admin address: they change nothing and read nothing.
+"""Tests that foreign pages in a browser (headless Chromium) change and read nothing at the admin address.
 
     tests/web_pages.py TOTXEGUN
 
-A page of another origin tries every route with every method that a page has: fetch with and without CORS, a form, an image, a
-script, a frame. So does one by a rebound name: its own address is the service's from the second connection on, as where a
-name is made to mean this machine once the page is there; what it asks for has its own origin then. No answer is shown to
-either but that of `/healthz`, `/readyz` and `/startupz`, nobody is quarantined or released, nothing is flushed, sent again or thrown away,
-and `acts.jsonl` has no line. The service takes orders over TCP by token, of which the pages have none; a page that has one
-is refused too. Without Chromium all is left out, with status 77.
+A page of another origin tries every route with every method that a page has: fetch with and without CORS, a form, an image, a script, a
+frame. So does a page by DNS rebinding: from the second connection on its own name leads to the service, and its requests then have its
+own origin. Neither may see an answer except those of `/healthz`, `/readyz` and `/startupz`; nobody may be quarantined
+or released, nothing
+flushed, sent again or dropped; and `acts.jsonl` must have no line. The service takes orders over TCP by token, which
+the pages do not have;
+a page that has one is refused too. Without Chromium everything is left out, with status 77.
 
-Each line is one check; the last line counts those that passed and failed, and the status is 0 where none failed.
+Each line is a check; the last line counts passes and failures. The status is 0 if none failed.
 """
 import contextlib
 import html
@@ -65,7 +66,7 @@ go();
 
 
 class Rebound:
-    """A port that is the page's own at first, and then the service's."""
+    """A port that serves the page at first, and is the service's afterwards."""
 
     def __init__(self, service: Service, page: bytes) -> None:
         self.service, self.page, self.served = service, page, threading.Event()
@@ -82,7 +83,7 @@ class Rebound:
             threading.Thread(target=self.serve, args=(stream,), daemon=True).start()
 
     def serve(self, stream: Any) -> None:
-        """A browser opens connections ahead, so it is the first request that gets the page."""
+        """A browser opens connections in advance, so the first request gets the page, not the first connection."""
         with stream, contextlib.suppress(OSError):
             first = stream.recv(65536)
             if not first:
@@ -108,7 +109,7 @@ def copy(source: socket.socket, target: socket.socket) -> None:
 
 
 def told(browser: Browser, place: str) -> Any:
-    """What a page had of each route: method, path, mode, status, text."""
+    """What a page got from each route: method, path, mode, status, text."""
     names = "--host-resolver-rules=MAP elsewhere.test 127.0.0.1,MAP rebound.test 127.0.0.1"
     dom = browser.run("--dump-dom", "--virtual-time-budget=20000", names, place=place)
     found = re.search(r"<pre id=\"told\">(.*?)</pre>", dom, re.DOTALL)
@@ -116,20 +117,20 @@ def told(browser: Browser, place: str) -> Any:
 
 
 def look(checks: Checks, what: str, found: Any, readable: bool) -> None:
-    """`readable` is whether the page's origin is that of what it asks for."""
+    """Checks what a page got. `readable` says whether the page has the origin of what it asks for."""
     checks.true(f"{what}: the page asked for all", isinstance(found, list) and len(found) == 3 * len(ROUTES), found)
     if not isinstance(found, list):
         return
     read = sorted({path for _, path, _, status, text in found if status == 200})
     checks.same(f"{what}: what it could read", sorted(FOR_ALL) if readable else [], read)
-    # What is refused says why, and nothing of the service.
+    # A refusal says why, and nothing about the service.
     texts = [text for _, path, _, _, text in found if path not in FOR_ALL and text]
     checks.true(f"{what}: refusals are all that it was shown", all("refused: " in text for text in texts), texts[:3])
     checks.true(f"{what}: no secret is in them", SECRET not in json.dumps(found), texts[:3])
 
 
 def state(service: Service) -> Any:
-    """All that an order would change."""
+    """Everything that an order would change."""
     status = service.status()
     slot = status["slots"][0]
     with open(f"{service.data}/acts.jsonl", encoding="utf-8") as file:

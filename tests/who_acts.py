@@ -1,13 +1,13 @@
 #!/usr/bin/env python3
-"""Whether the shipped unit lets the service know who gives an order.
+"""Tests that the shipped unit lets the service know who gives an order.
 
     tests/who_acts.py TOTXEGUN
 
-The service runs in a namespace of users as `PrivateUsers` of operate/totxegun.service says: of its own where that is set,
-which has root alone, else in that of the machine. Then root, a user of the socket's group, and root behind `sudo` quarantine a
-sender, and `acts.jsonl` has to name each. Needs root.
+The service runs in the user namespace that `PrivateUsers` of operate/totxegun.service gives it: one of its own, which has root alone, if
+that is set, and the machine's otherwise. Then root, a user of the socket's group, and root through `sudo` quarantine a sender, and
+`acts.jsonl` must name each of them. Needs root.
 
-Each line is one check; the last line counts those that passed and failed, and the status is 1 where one failed, 77 without root.
+Each line is a check; the last line counts passes and failures. The status is 1 if one failed, 77 without root.
 """
 import contextlib
 import json
@@ -23,7 +23,7 @@ USER = 12345
 
 
 def users_of_the_unit() -> list[str]:
-    """The words that run a program in the unit's namespace of users."""
+    """The words that run a program in the unit's user namespace."""
     found = re.search(r"^PrivateUsers=(\S+)$", shipped("totxegun.service", {}), re.MULTILINE)
     has_own = found is not None and found[1] not in ("no", "false", "off", "0")
     return ["unshare", "--user", "--map-root-user"] if has_own else []
