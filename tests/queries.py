@@ -1,14 +1,14 @@
 #!/usr/bin/env python3
-"""The questions of docs/QUERIES.md, asked of generated data, and its example of a month that is billed and closed.
+"""Runs the statements of docs/QUERIES.md on generated data, and its example of a month that is billed and closed.
 
     tests/queries.py PROGRAM [SERIES [DAYS]]
 
-So many days (35) of hours of so many series (250), up to the end of November, are put into a SQLite file and a PostgreSQL
-database whose schemas the program has made; what each statement gives is compared with plain sums of the same numbers. The time
-of each statement is shown, and how many bytes a row takes. Then the example is done as the page has it: its commands and
-statements, with shops that post. PostgreSQL is left out where there is none.
+The hours of DAYS (35) days of SERIES (250) series, up to the end of November, are put into a SQLite file and a PostgreSQL database whose
+schemas the program has made. The result of each statement must equal plain sums of the same numbers. The time of each statement and the
+bytes of a row are printed. Then the example is done as on the page: its commands and statements, with shops that post. PostgreSQL is left
+out if it is not installed.
 
-Each line is one check; the last line counts those that passed and failed, and the status is 0 where none failed.
+Each line is a check; the last line counts passes and failures. The status is 0 if none failed.
 """
 import collections
 import datetime
@@ -36,7 +36,7 @@ BOUNDS = (5, 10, 25, 50, 100, 250, 500, 1000, 2500, 5000)
 UTC = datetime.timezone.utc
 DAYS = int(sys.argv[3]) if len(sys.argv) > 3 else 35
 FIRST = datetime.datetime(2026, 12, 1, tzinfo=UTC) - datetime.timedelta(DAYS)
-# Of intervals there are no more days.
+# The limit of days of intervals.
 DAYS_OF_SPANS = 35
 LATE = 3
 SERIES = 250
@@ -66,7 +66,7 @@ class Series:
         return [(self.number + hour * 3 + place * 4) % 11 // (1 + place * fewer // 2) for place in range(len(BOUNDS) + 1)]
 
 
-# The same numbers as SQL, of `n` and `h`.
+# The same numbers in SQL, by `n` and `h`.
 VALUE = "((n * 7919 + h * 104729 + n % 89 * h) % 9973)"
 BUCKETS = [f"((n + h * 3 + {place} * 4) % 11 / (1 + {place} * (n % 4 + h / 24 % 3 * 4) / 2))" for place in range(len(BOUNDS) + 1)]
 COUNT = "(" + " + ".join(BUCKETS) + ")"
@@ -88,7 +88,7 @@ def page() -> str:
 
 
 def made(program: str, folder: str, sink: str) -> None:
-    """A sink as a start of the program makes it."""
+    """Makes a sink by starting the program."""
     service = Service(program, f"{folder}/data", sink)
     service.start()
     is_ready = service.wait_ready()
@@ -98,7 +98,7 @@ def made(program: str, folder: str, sink: str) -> None:
 
 
 def statements() -> dict[int, dict[str, str]]:
-    """Of each question, what each database is asked."""
+    """For each question the statement for each database."""
     parts = re.split(r"^## (\d+)\. .*$", page().partition(EXAMPLE)[0], flags=re.M)[1:]
     questions: dict[int, dict[str, str]] = {}
     for number, text in zip(parts[::2], parts[1::2]):
@@ -120,7 +120,7 @@ def asked() -> dict[int, dict[str, str]]:
 
 
 class Plain:
-    """What comes out by plain sums."""
+    """The results by plain sums."""
 
     def __init__(self, series: range) -> None:
         self.series = [Series(number) for number in series]
@@ -284,7 +284,7 @@ class Lite:
         return rows, time.process_time() - began
 
     def row_bytes(self, table: str) -> float:
-        """What a row takes with its indexes."""
+        """The bytes of a row with its indexes."""
         pages = "select sum(pgsize) from dbstat where name in (select name from sqlite_master where tbl_name = ?)"
         return float(self.file.execute(f"select 1.0 * ({pages}) / count(*) from {table}", (table,)).fetchone()[0])
 

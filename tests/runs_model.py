@@ -35,7 +35,7 @@ MOST_STATES = 2_000_000
 
 @dataclasses.dataclass(frozen=True)
 class Rules:
-    """What makes runs exact. Each is a switch, so that the search can do without it."""
+    """The rules that make runs exact. Each is a switch, so that the search can turn it off."""
 
     # The last point is read, and what is added is in the journal, under one lock.
     read_and_record_are_one_step: bool = True
@@ -74,7 +74,7 @@ class Point(NamedTuple):
 POINTS = (Point(1, 2, 1), Point(1, 4, 3), Point(4, 6, 2), Point(5, 12, 4), Point(4, 40, 5), Point(5, 150, 9))
 STARTS = (1, 4, 5)
 MOST_REPEATS = 2
-# A run that has been silent for so many of its intervals has ended.
+# A run that has been silent for this many of its intervals has ended.
 SILENT_INTERVALS = 3
 
 # Why a point adds nothing.

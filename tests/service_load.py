@@ -142,7 +142,7 @@ class Trouble:
         self.service.order(f"/quarantine/{sender}", 5)
 
     def lift(self) -> None:
-        """Releases senders. An order without an answer may or may not have been done, so `release_all` repeats it at the end."""
+        """Releases a sender. An order without an answer may or may not have been done, so `lift_all` repeats it at the end."""
         if self.quarantined:
             self.service.order(f"/release/{self.chance.choice(sorted(self.quarantined))}", 5)
 
@@ -172,7 +172,7 @@ def intrude(sender: Sender, senders: list[Sender]) -> None:
 
 def post_meanwhile(senders: Sequence[Sender], is_over: Callable[[], object],
                    between: Callable[[Sender], object] = lambda sender: None) -> list[threading.Thread]:
-    """Threads in which the senders post until it is over; each ends with a post that was answered."""
+    """Starts threads in which senders post until it is over. Each ends after an answered post."""
     def go_on(sender: Sender) -> None:
         while not is_over():
             sender.post(sender.next_points())
@@ -185,7 +185,7 @@ def post_meanwhile(senders: Sequence[Sender], is_over: Callable[[], object],
 
 def load(checks: Checks, what: str, service: Service, sink: Sink, seconds: float, seed: str, max_series: list[int],
          disk: OwnDisk | None) -> list[Sender]:
-    """Senders and trouble at once; whether all senders were answered."""
+    """Runs senders and trouble at once. Returns the senders."""
     service.start()
     checks.true(f"{what}: it is ready", service.wait_ready(), service.last_lines())
     until = time.monotonic() + seconds

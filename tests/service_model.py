@@ -1,30 +1,32 @@
 #!/usr/bin/env python3
-"""The rules of the service, tried on a model of it: every order of events, up to a bound.
+"""Tests the rules of the service on a model: every order of events, up to a bound.
 
     tests/service_model.py
 
-It needs no program. Two senders have three posts on two series, each of which is in a book of its own: A posts one point of x,
-then one of x and one of y; B posts one of y, so that one of the two senders owns y and the other is refused. Each point of x is
-of another hour, and that of y of a third one: so A's second post is of several hours. Posts are on the way at once, answers are
-lost, and a sender repeats until it is answered. Meanwhile there are checkpoints, a quarantine, a lift, and deliveries to a sink.
-In a search of its own the outbox has x ahead of its time, as a wrong clock has left it, and an operator has it put back: A posts
-once he was told so. Faults come at any place: the service is killed, the power is lost, a write of the outbox fails.
+It needs no program. Two senders have three posts on two series, each of which is in a book of its own: A posts one
+point of x, then one of
+x and one of y; B posts one of y, so that one of the two senders owns y and the other is refused. Each point of x is of another hour, and
+that of y of a third one, so A's second post covers several hours. Posts are in flight at once, answers are lost, and a sender retries
+until it is answered. Meanwhile there are checkpoints, a quarantine, a release, and deliveries to a sink. In a separate search the outbox
+has x ahead of its time, as a wrong clock leaves it, and an operator rewinds it; A posts after he was told so. Faults happen at any place:
+the service is killed, the power fails, a write of the outbox fails.
 
-In each state in which nothing is on its way:
-  - a post whose sender was told that it is taken (200, also as a duplicate) counts exactly once: in the sink,
-    in the outbox, or in the books, which have what the journal has;
+In each state in which nothing is in flight:
+  - a post whose sender was told that it is accepted (200, also as a duplicate) counts exactly once: in the sink, in the outbox, or in
+    the books, which have what the journal has;
   - a post whose sender was told that it is refused (`other writer`) does not count;
-  - any other post counts once or not at all, and all of its points do or none;
-  - a late repeat of a post that was taken is a duplicate: it is left out.
+  - any other post counts once or not at all, with all of its points or none;
+  - a late duplicate of an accepted post is recognised and left out.
 
-And in each state what is pending of a series, and each request, is of one hour, and requests have a series' points in order.
+In each state the pending points of a series, and each request, are of one hour, and requests have a series' points in order.
 
-With all rules kept no state breaks this, over all states of two faults and one checkpoint, of one fault and two checkpoints, and
-of one of each where x is put back. Without any one of the rules some state does: so the rule is needed, and the model can see it.
-The search goes by breadth, so what is printed is a shortest way. It takes a minute. That no state at all breaks it is proved of a
-coarser machine, in crates/service_law; this is what finds a way where a rule is missing.
+With all rules no state may break this, over all states of two faults and one checkpoint, of one fault and two checkpoints, and of one of
+each with x rewound. Without any single rule some state must, which shows that the rule is needed and that the model can
+see it. The search
+is breadth-first, so the path that it prints is a shortest one. It takes a minute. crates/service_law proves of a coarser machine that no
+state at all breaks this; this model finds a path if a rule is missing.
 
-Each line is one check; the last line counts those that passed and failed, and the status is 0 where none failed.
+Each line is a check; the last line counts passes and failures. The status is 0 if none failed.
 """
 import dataclasses
 import functools
@@ -37,57 +39,57 @@ from typing import NamedTuple, TypeVar
 
 from testing.checks import Checks
 
-# Where a search is cut off: that is a failure.
+# The limit of states. A search that reaches it fails.
 MOST_STATES = 1_000_000
 
 # --------------------------------------------------------------------------------------------------------------------
 # The rules
 
 
-# Compared by its identity, which what is remembered of a search asks for often.
+# Compared by identity, because the search's caches compare rules often.
 @dataclasses.dataclass(frozen=True, eq=False)
 class Rules:
-    """What makes the service exact. Each is a switch, so that the search can do without it."""
+    """The rules that make the service exact. Each is a switch, so that the search can turn it off."""
 
-    # A sender is answered 200 once the record of its post is synced.
+    # A sender is answered 200 after the record of its post is synced.
     answer_waits_for_journal: bool = True
-    # A refusal waits for all records before it, and so does what is said of a duplicate: that the first attempt is there for good.
+    # A refusal waits for all records before it. So does the answer to a duplicate, which says that the first attempt is durable.
     refusal_waits_for_journal: bool = True
-    # A post is admitted and confirmed, and has its place in the journal's queue, in one step under the lock.
+    # A post is admitted, confirmed and queued for the journal in one step under the lock.
     admission_and_place_are_one_step: bool = True
-    # A post is in all books that have a series of it, or in none.
+    # A post is in all books that have one of its series, or in none.
     post_is_in_all_books_or_none: bool = True
-    # A checkpoint takes what all books have, and turns the journal, in one step under the same lock.
+    # A checkpoint takes what all books have and rolls the journal, in one step under the same lock.
     take_and_turn_are_one_step: bool = True
-    # A group is committed once the records of all its posts are synced.
+    # A group is committed after the records of all its posts are synced.
     journal_before_outbox: bool = True
-    # The requests of a group count once all of it is there.
+    # The requests of a group count only if the whole group is there.
     groups_are_whole: bool = True
-    # What was taken of the books is in no file yet: where it can't be written the process ends.
+    # What a checkpoint has taken is in no file yet, so if it cannot be written, the process ends.
     failed_write_ends_the_service: bool = True
-    # A segment is numbered after all that the outbox says are in groups, also where the files of these are gone.
+    # A new segment gets a number above all that the outbox says are in groups, even if their files are gone.
     segments_are_numbered_after_the_outbox: bool = True
-    # A start gives fresh books each series' owner and frontier.
+    # A start primes fresh books with each series' owner and frontier.
     fresh_books_are_primed: bool = True
-    # Then the posts that no group has, in the order of the journal, those of quarantined senders last.
+    # Then it replays the posts that no group has, in the journal's order, those of quarantined senders last.
     replay_has_the_journals_order: bool = True
-    # At a checkpoint the posts of quarantined senders, which no flush takes, are held by the new segment.
+    # At a checkpoint the new segment holds the posts of quarantined senders, which no flush takes.
     quarantined_posts_are_held: bool = True
-    # A request is acknowledged in the outbox once the sink has said that it has it.
+    # A request is acknowledged in the outbox after the sink has said that it has it.
     sink_answers_before_the_ack: bool = True
-    # What is pending of a series is taken before a point of a later hour comes to it.
+    # The pending points of a series are taken before a point of a later hour is added.
     a_later_hour_takes_what_is_pending: bool = True
-    # What was taken so goes ahead of the other requests of its group.
+    # Requests taken that way precede the other requests of their group.
     earlier_hours_go_first: bool = True
-    # What a checkpoint takes is not given back: a later hour may have come.
+    # What a checkpoint has taken is not given back, because a point of a later hour may have been added.
     what_was_taken_is_not_given_back: bool = True
-    # A post of several hours is tried as a whole before it is put in hour by hour.
+    # A post of several hours is tried as a whole before it is added hour by hour.
     post_of_several_hours_is_tried_whole: bool = True
-    # What an earlier run wrote is synced at the start, before anybody is told of it.
+    # A start syncs what an earlier run wrote before it tells anybody about it.
     files_are_synced_before_they_are_believed: bool = True
-    # Where a series ends is put back durably before the books have it so.
+    # A rewound frontier is durable before the books have it,
     what_is_put_back_is_durable_first: bool = True
-    # The books are filled anew then.
+    # which are then filled anew.
     what_is_put_back_fills_the_books: bool = True
 
 
@@ -101,16 +103,16 @@ SERIES = (X, Y)
 
 class Post(NamedTuple):
     sender: str
-    # Of each series that it has a point of: the span (start, end].
+    # The interval (start, end] of each series of which the post has a point.
     spans: dict[int, tuple[int, int]]
 
 
 POSTS = (Post(A, {X: (0, 1)}), Post(A, {X: (1, 2), Y: (0, 1)}), Post(B, {Y: (0, 1)}))
-# A point is a post's part of one series. A set of points is a word with a bit for each.
+# A point is a post's part of one series. A set of points is a number with a bit for each.
 POINTS = tuple((post, series) for post, one in enumerate(POSTS) for series in one.spans)
 OF_POST = tuple(sum(1 << place for place, (post, _) in enumerate(POINTS) if post == number) for number in range(len(POSTS)))
 OF_SERIES = tuple(sum(1 << place for place, (_, series) in enumerate(POINTS) if series == one) for one in SERIES)
-# Of each series, by where a point of it ends, the hour.
+# For each series the hour of a point by the point's end.
 HOURS = ({1: 0, 2: 1}, {1: 2})
 OF_HOUR = tuple(sum(1 << place for place, (post, series) in enumerate(POINTS) if HOURS[series][POSTS[post].spans[series][1]] == hour)
                 for hour in range(3))
@@ -126,7 +128,7 @@ MOST_ATTEMPTS = 2
 
 
 class Told:
-    """What the sender knows of a post."""
+    """What a sender knows of a post."""
 
     NOTHING, TAKEN, REFUSED = range(3)
     TEXTS = ("nothing", "that it is taken", "that it is refused")
@@ -135,33 +137,33 @@ class Told:
 class Sync:
     """How durable a record is."""
 
-    # In the queue, in memory: a kill takes it, and the books with it.
+    # In memory, in the queue: a kill loses it, and the books with it.
     QUEUED = 0
-    # Written by this run: a power loss takes it.
+    # Written by this run: a loss of power loses it.
     WRITTEN = 1
-    # Written by an earlier run, and never synced: this run's syncs are of other files.
+    # Written by an earlier run and never synced: this run syncs other files.
     LEFT = 2
     SYNCED = 3
 
 
 class Request(NamedTuple):
-    """An attempt at a post that the books have answered, and the sender has not been."""
+    """An attempt at a post that the books have answered and whose answer has not reached the sender."""
 
     post: int
-    # NOTHING where a post that was taken has no place in the queue yet, which is against the rule.
+    # NOTHING if an accepted post is not queued yet, which is against the rule.
     answer: int
-    # Of the records that the answer waits for, the youngest one.
+    # The youngest record that the answer waits for.
     last: int
-    # Whether the sender still waits for it.
+    # Whether the sender still waits for the answer.
     is_awaited: bool
 
 
 class Books(NamedTuple):
-    """What the books have in memory. They take a post whole or refuse it whole."""
+    """What the books have in memory. They accept or refuse a post as a whole."""
 
-    # Of each series (owner, frontier), or None where it is not known.
+    # (owner, frontier) of each series, or None if the series is unknown.
     series: tuple[tuple[str, int] | None, ...]
-    # Points that were taken and not flushed.
+    # Points that were accepted and not flushed.
     pending: int
     # Requests of earlier hours, for the next group.
     earlier: tuple[int, ...]
@@ -173,7 +175,7 @@ class Record(NamedTuple):
 
     segment: int
     post: int
-    # Copied from an earlier segment: it counts only where its segment is the first that is replayed.
+    # Copied from an earlier segment: it counts only if its segment is the first that is replayed.
     is_held: bool
     sync: int
 
@@ -181,29 +183,29 @@ class Record(NamedTuple):
 class Outbox(NamedTuple):
     """What the outbox says."""
 
-    # Sets of points; a request's number is its place, from 1.
+    # Sets of points; a request's number is its position, from 1.
     requests: tuple[int, ...]
-    # So many of them are acknowledged.
+    # How many of them are acknowledged.
     acknowledged: int
     # The first segment of the journal whose posts are in no group.
     journal: int
-    # Of each series, where it was found; its frontier is that of its requests.
+    # The owner of each known series; its frontier is that of its requests.
     owners: tuple[str | None, ...]
     is_quarantined: bool
-    # Whether x ends ahead of its time, as A's.
+    # Whether x, owned by A, ends ahead of its time.
     is_ahead: bool
 
 
 class Step:
     """How far a checkpoint is."""
 
-    # TAKEN has no length where the rule is kept.
+    # With the rule, the step TAKEN takes no time.
     TAKEN, TURNED, COMMITTED, SYNCED = range(4)
 
 
 class Checkpoint(NamedTuple):
     step: int
-    # What was taken of the books: the requests of the group.
+    # What was taken from the books: the requests of the group.
     group: tuple[int, ...]
 
 
@@ -212,11 +214,11 @@ class Left(NamedTuple):
 
     faults: int
     checkpoints: int
-    # Answers that senders do not get, and that the service does not get of the sink.
+    # Answers that do not reach a sender, and answers of the sink that do not reach the service.
     lost_answers: int
     lost_takings: int
     quarantines: int
-    # How often a series is to be put back: A waits for it.
+    # How often a series is still to be rewound; A waits for it.
     repairs: int
 
 
@@ -224,16 +226,16 @@ class State(NamedTuple):
     told: tuple[int, ...]
     attempts: tuple[int, ...]
     requests: tuple[Request, ...]
-    # None where the service is down.
+    # None if the service is down.
     books: Books
     segment: int
-    # The queue is the end of it.
+    # The queue is the end of the journal.
     journal: tuple[Record, ...]
     outbox: Outbox
-    # What a power loss leaves of the outbox.
+    # What a loss of power leaves of the outbox.
     synced_outbox: Outbox
     checkpoint: Checkpoint
-    # Points that the sink has once, and those that it has twice; the highest number of a request that it has.
+    # The points that the sink has once and twice, and the highest number of its requests.
     sink: int
     twice: int
     highest: int
@@ -243,7 +245,7 @@ class State(NamedTuple):
 EMPTY_BOOKS = Books((None, None), 0, (), False)
 EMPTY_OUTBOX = Outbox((), 0, 1, (None, None), False, False)
 AHEAD_OUTBOX = EMPTY_OUTBOX._replace(owners=(A, None), is_ahead=True)
-# After all spans.
+# A time after all intervals.
 AHEAD = 9
 BEGIN = State(
     told=(Told.NOTHING,) * len(POSTS), attempts=(0,) * len(POSTS), requests=(), books=EMPTY_BOOKS, segment=1, journal=(),
@@ -257,7 +259,7 @@ T = TypeVar("T")
 
 
 def put(items: tuple[T, ...], place: int, item: T) -> tuple[T, ...]:
-    """The tuple with another item at this place."""
+    """The tuple with another item at this position."""
     return items[:place] + (item,) + items[place + 1:]
 
 
@@ -266,17 +268,17 @@ def without(items: tuple[T, ...], place: int) -> tuple[T, ...]:
 
 
 def answered(state: State, number: int, told: int) -> State:
-    """The sender knows what became of its post. How often it tried does not matter any more."""
+    """The sender learns the outcome of its post. The number of its attempts does not matter any more."""
     return state._replace(told=put(state.told, number, told), attempts=put(state.attempts, number, 0))
 
 
 def with_request(state: State, *requests: Request) -> State:
-    """The state with these requests more, in an order that does not tell which came first."""
+    """The state with these requests too, sorted, so that their order of arrival makes no new states."""
     return state._replace(requests=tuple(sorted(state.requests + requests)))
 
 
 def spend(state: State, kind: str) -> Left | None:
-    """The budget with one less of a kind, or None where it is used up."""
+    """The budget with one less of a kind, or None if it is used up."""
     return less(state.left, kind)
 
 
@@ -291,7 +293,7 @@ def less(left: Left, kind: str) -> Left | None:
 
 
 def answer_of(books: Books, post: int) -> int | None:
-    """What the books say to a post of a sender that is not quarantined."""
+    """The books' answer to a post of a sender that is not quarantined."""
     sender, spans = POSTS[post]
     for series in spans:
         known = books.series[series]
@@ -300,7 +302,7 @@ def answer_of(books: Books, post: int) -> int | None:
     for series, (start, _) in spans.items():
         known = books.series[series]
         if known and start < known[1]:
-            # A duplicate: senders send in order, so a repeat alone is out of order, and is answered as the first time.
+            # A duplicate: senders send in order, so only a duplicate can be out of order, and it is answered like the first time.
             return None
     return Told.TAKEN
 
@@ -310,7 +312,7 @@ def hour_of(post: int, series: int) -> int:
 
 
 def taken(rules: Rules, books: Books, post: int, only: Iterable[int] = SERIES, is_held: bool = False) -> Books:
-    """The books with a post that they take, or with its part of these series: hour by hour. Nothing is taken of what is held."""
+    """The books after they accept a post, or its part of these series, hour by hour. If `is_held`, a later hour takes nothing."""
     series, pending, earlier = list(books.series), books.pending, books.earlier
     for one in sorted(set(POSTS[post].spans) & set(only), key=lambda one: hour_of(post, one)):
         before = pending & OF_SERIES[one] & sum(OF_HOUR[:hour_of(post, one)])
@@ -322,7 +324,7 @@ def taken(rules: Rules, books: Books, post: int, only: Iterable[int] = SERIES, i
 
 
 def with_parts(rules: Rules, books: Books, post: int) -> Books:
-    """The books with those parts of a refused post that one book alone would take, or the hours before the one that is refused."""
+    """The books with the parts of a refused post that a single book would accept, or with the hours before the refused one."""
     sender, spans = POSTS[post]
     known = {one: books.series[one] or (sender, 0) for one in spans}
     kept = [one for one, (start, _) in spans.items() if known[one][0] == sender and known[one][1] <= start]
@@ -343,12 +345,12 @@ def flushable(books: Books) -> int:
 
 @functools.cache
 def next_post(told: tuple[int, ...], sender: str) -> int | None:
-    """The first post of the sender that it has no answer to, or None."""
+    """The sender's first post without an answer, or None."""
     return next((number for number, one in enumerate(POSTS) if one.sender == sender and not told[number]), None)
 
 
 def post(rules: Rules, state: State) -> Events:
-    """A sender posts what it does not have an answer to, if it waits for no attempt at it, and the books are asked."""
+    """A sender with no attempt in flight posts its next post, and the books are asked."""
     for sender in (A, B) if state.books else ():
         number = next_post(state.told, sender)
         if number is None or state.attempts[number] == MOST_ATTEMPTS or sender == A and state.left.repairs:
@@ -361,7 +363,7 @@ def post(rules: Rules, state: State) -> Events:
 
 
 def asked(rules: Rules, state: State, number: int) -> Event:
-    """The books take a post or refuse it."""
+    """The books accept or refuse the post."""
     if answer_of(state.books, number) != Told.TAKEN:
         return f"post {number} is refused", refused(rules, state, number)
     state = state._replace(books=taken(rules, state.books, number))
@@ -371,7 +373,7 @@ def asked(rules: Rules, state: State, number: int) -> Event:
 
 
 def placed(rules: Rules, state: State, number: int, is_awaited: bool) -> State:
-    """Its record is the last one of the queue."""
+    """Queues the post's record at the end of the journal."""
     state = state._replace(journal=state.journal + (Record(state.segment, number, False, Sync.QUEUED),))
     if not rules.answer_waits_for_journal:
         return answered(state, number, Told.TAKEN) if is_awaited else state
@@ -379,7 +381,7 @@ def placed(rules: Rules, state: State, number: int, is_awaited: bool) -> State:
 
 
 def refused(rules: Rules, state: State, number: int) -> State:
-    """A refusal waits for what has a place before it."""
+    """A refusal waits for what is queued before it."""
     answer = answer_of(state.books, number) or Told.TAKEN
     if not (rules.post_is_in_all_books_or_none and rules.post_of_several_hours_is_tried_whole):
         state = state._replace(books=with_parts(rules, state.books, number))
@@ -390,7 +392,7 @@ def refused(rules: Rules, state: State, number: int) -> State:
 
 
 def stop_waiting(rules: Rules, state: State) -> Events:
-    """A sender's time is over, or its connection broke: it never gets the answer to this attempt."""
+    """A sender times out or its connection breaks, so it never gets the answer to this attempt."""
     left = spend(state, "lost_answers")
     for place, request in enumerate(state.requests if left else ()):
         if request.is_awaited:
@@ -399,7 +401,7 @@ def stop_waiting(rules: Rules, state: State) -> Events:
 
 
 def place_late(rules: Rules, state: State) -> Events:
-    """Where that is a step of its own, a post that was taken gets its place."""
+    """Queues an accepted post late, if that is a step of its own."""
     for place, request in enumerate(state.requests):
         if request.answer == Told.NOTHING:
             others = state._replace(requests=without(state.requests, place))
@@ -412,7 +414,7 @@ def moved(records: tuple[Record, ...], before: int, after: int) -> tuple[Record,
 
 
 def write_journal(rules: Rules, state: State) -> Events:
-    """All of the queue, in its order."""
+    """Writes the whole queue, in order."""
     if any(record.sync == Sync.QUEUED for record in state.journal):
         requests = (one._replace(last=Sync.WRITTEN) if one.answer != Told.NOTHING else one for one in state.requests)
         yield "the queue is written to the journal", state._replace(
@@ -420,7 +422,7 @@ def write_journal(rules: Rules, state: State) -> Events:
 
 
 def sync_journal(rules: Rules, state: State) -> Events:
-    """One sync is for all that was written, and for all who wait for it."""
+    """One sync is for everything that was written, and for everybody who waits for it."""
     if all(record.sync != Sync.WRITTEN for record in state.journal):
         return
     done = [one for one in state.requests if one.last == Sync.WRITTEN]
@@ -437,7 +439,7 @@ def sync_journal(rules: Rules, state: State) -> Events:
 
 
 def begin_checkpoint(rules: Rules, state: State) -> Events:
-    """All that may be flushed is taken of the books, a request a series, and the journal turns."""
+    """Takes everything that may be flushed from the books, one request for each series, and rolls the journal."""
     left = spend(state, "checkpoints")
     if not left or not state.books or state.checkpoint:
         return
@@ -449,7 +451,7 @@ def begin_checkpoint(rules: Rules, state: State) -> Events:
 
 
 def all_taken(rules: Rules, state: State) -> State:
-    """A flush that was taken is settled at once: its points are the checkpoint's alone."""
+    """A taken flush is settled at once: only the checkpoint has its points from then on."""
     points, earlier = flushable(state.books), state.books.earlier
     group = tuple(points & of for of in OF_SERIES if points & of)
     group = earlier + group if rules.earlier_hours_go_first else group + earlier
@@ -458,14 +460,14 @@ def all_taken(rules: Rules, state: State) -> State:
 
 
 def turn_late(rules: Rules, state: State) -> Events:
-    """Where that is a step of its own, posts come between."""
+    """If the roll is a step of its own, posts may come in between."""
     if state.checkpoint and state.checkpoint.step == Step.TAKEN:
         yield "the journal turns", turned(rules, state)
 
 
 def turned(rules: Rules, state: State) -> State:
-    """A new segment, in which the next posts have their places: it holds what no flush takes. Where these posts lie, in the
-    segment or in files that it names, is all one here: they count where it is the first that is replayed."""
+    """Begins a new segment for the next posts, which holds what no flush takes. Whether the held posts are copied or
+    named makes no difference here: they count if this segment is the first that is replayed."""
     segment = state.segment + 1
     held: tuple[Record, ...] = ()
     if state.books.is_quarantined and rules.quarantined_posts_are_held:
@@ -475,7 +477,7 @@ def turned(rules: Rules, state: State) -> State:
 
 
 def commit(rules: Rules, state: State) -> Events:
-    """What was taken is written as one group, which names the segment from which posts are in no group, and the owners of new series."""
+    """Writes what was taken as one group, which names the first segment with posts in no group, and the owners of new series."""
     if not state.checkpoint or state.checkpoint.step != Step.TURNED:
         return
     needed = (one for one in state.journal if one.segment < state.segment or one.is_held)
@@ -495,7 +497,7 @@ def commit(rules: Rules, state: State) -> Events:
 
 
 def give_back(rules: Rules, state: State) -> Events:
-    """There is no memory to write what was taken: with the rule that is tried again, or the process ends."""
+    """There is no memory to write what was taken. With the rule, the write is tried again or the process ends."""
     left = spend(state, "faults")
     if left and state.checkpoint and state.checkpoint.step == Step.TURNED and not rules.what_was_taken_is_not_given_back:
         books = state.books._replace(pending=state.books.pending | sum(state.checkpoint.group))
@@ -509,14 +511,14 @@ def sync_outbox(rules: Rules, state: State) -> Events:
 
 
 def end_checkpoint(rules: Rules, state: State) -> Events:
-    """The segments of the group are deleted."""
+    """Deletes the segments of the group."""
     if state.checkpoint and state.checkpoint.step == Step.SYNCED:
         journal = tuple(record for record in state.journal if record.segment >= state.outbox.journal)
         yield "the checkpoint ends", state._replace(journal=journal, checkpoint=None)
 
 
 def frontier(outbox: Outbox, series: int) -> int | None:
-    """Where the last forwarded point of a series ends, or None."""
+    """The end of the last forwarded point of a series, or None."""
     points = 0
     for request in outbox.requests:
         points |= request
@@ -525,7 +527,7 @@ def frontier(outbox: Outbox, series: int) -> int | None:
 
 
 def with_owners(outbox: Outbox, journal: tuple[Record, ...]) -> Outbox:
-    """The posts of a group, as the journal has them, say who owns its series."""
+    """Adds the owners of the series of a group's posts."""
     owners = list(outbox.owners)
     for series in SERIES:
         if owners[series] is None and frontier(outbox, series) is not None:
@@ -539,7 +541,7 @@ def with_owners(outbox: Outbox, journal: tuple[Record, ...]) -> Outbox:
 
 
 def deliver(rules: Rules, state: State) -> Events:
-    """The sink gets the first request that is not acknowledged. It takes a number once. Its answer may be lost."""
+    """The sink gets the first request that is not acknowledged. It accepts a number once. Its answer may be lost."""
     is_committing = state.checkpoint is not None and state.checkpoint.step == Step.COMMITTED
     number = state.outbox.acknowledged + 1
     if not state.books or number > len(state.outbox.requests) - (len(state.checkpoint.group) if is_committing else 0):
@@ -565,9 +567,9 @@ def delivered(state: State, number: int) -> State:
 
 
 def quarantine(rules: Rules, state: State) -> Events:
-    """All books have it, and then it is noted in the outbox: a kill between the two leaves neither."""
+    """All books get it, and then the outbox notes it; a kill between the two leaves neither."""
     left = spend(state, "quarantines")
-    # What was taken of earlier hours is in a group before: it can't be held any more.
+    # What was taken for earlier hours is in a group first, since it can't be held any more.
     if left and state.books and not state.checkpoint and not state.outbox.is_quarantined and not state.books.earlier:
         yield f"{QUARANTINED} is quarantined", noted(state._replace(left=left), True)
 
@@ -578,14 +580,14 @@ def lift(rules: Rules, state: State) -> Events:
 
 
 def noted(state: State, is_quarantined: bool) -> State:
-    """A record of its own, synced at once; what was written before it is synced with it."""
+    """A record of its own, synced at once together with everything written before it."""
     outbox = state.outbox._replace(is_quarantined=is_quarantined)
     return state._replace(books=state.books._replace(is_quarantined=is_quarantined), outbox=outbox, synced_outbox=outbox)
 
 
 def put_back(rules: Rules, state: State) -> Events:
-    """Under the lock, where nothing is taken of the books and on its way; then the operator is told so. A's first post is next: x
-    has no other points."""
+    """Rewinds x under the lock, when nothing taken from the books is in flight; then the operator is told. A's first
+    post is next: x has no other points."""
     left = spend(state, "repairs")
     if not left or not state.books or state.checkpoint:
         return
@@ -611,7 +613,7 @@ def replayed(outbox: Outbox, journal: tuple[Record, ...]) -> tuple[Record, ...]:
 
 @functools.cache
 def fresh_books(rules: Rules, outbox: Outbox, journal: tuple[Record, ...]) -> Books:
-    """Primed, then given the posts that no group has, then the quarantine."""
+    """Primes fresh books, replays the posts that no group has, and then quarantines."""
     known = tuple((owner, frontier(outbox, series)) if owner and frontier(outbox, series) is not None else None
                   for series, owner in enumerate(outbox.owners))
     books = EMPTY_BOOKS._replace(series=known) if rules.fresh_books_are_primed else EMPTY_BOOKS
@@ -630,13 +632,13 @@ def kill_service(rules: Rules, state: State) -> Events:
 
 
 def ended(state: State) -> State:
-    """Books and queue go with the service, and all that is on the way. What was written stays."""
+    """The service ends: books, queue and everything in flight are lost. What was written stays."""
     written = tuple(record for record in state.journal if record.sync != Sync.QUEUED)
     return state._replace(requests=(), books=None, checkpoint=None, journal=moved(written, Sync.WRITTEN, Sync.LEFT))
 
 
 def lose_power(rules: Rules, state: State) -> Events:
-    """What was not synced is gone."""
+    """What was not synced is lost."""
     left = spend(state, "faults")
     if left:
         journal = tuple(record for record in state.journal if record.sync == Sync.SYNCED)
@@ -644,7 +646,7 @@ def lose_power(rules: Rules, state: State) -> Events:
 
 
 def start_service(rules: Rules, state: State) -> Events:
-    """Files are synced, read and believed; a segment begins after all that are there or that the outbox names."""
+    """A start syncs, reads and believes the files. Its segment comes after all that exist or that the outbox names."""
     if state.books:
         return
     journal, synced_outbox = state.journal, state.synced_outbox
@@ -671,14 +673,14 @@ def is_quiet(state: State) -> bool:
 
 
 def counted(state: State) -> list[int]:
-    """Of each point, how often it counts, where nothing more is posted and nothing fails."""
+    """How often each point counts, if nothing more is posted and nothing fails."""
     waiting = state.outbox.requests[max(state.outbox.acknowledged, state.highest):]
     sets = (state.sink, state.twice, state.books.pending, *state.books.earlier, *waiting)
     return [sum(points >> place & 1 for points in sets) for place in range(len(POINTS))]
 
 
 def fault_of_hours(state: State) -> str | None:
-    """Which series is in two hours at once, or out of order; or None."""
+    """The series whose pending points or requests are of two hours or out of order, or None."""
     group = state.checkpoint.group if state.checkpoint and state.checkpoint.step < Step.COMMITTED else ()
     return fault_of_sets((state.books.pending, *group, *state.books.earlier) if state.books else (), state.outbox.requests)
 
@@ -697,7 +699,7 @@ def fault_of_sets(pending: tuple[int, ...], requests: tuple[int, ...]) -> str | 
 
 
 def fault_of(state: State) -> str | None:
-    """What is wrong in a state in which nothing is on its way, or None."""
+    """The fault of a state in which nothing is in flight, or None."""
     counts = counted(state)
     for post, told in enumerate(state.told):
         found = {counts[place] for place, (of, _) in enumerate(POINTS) if of == post}
@@ -730,7 +732,7 @@ def way_to(parents: dict[State, Event | None], state: State) -> tuple[str, ...]:
 
 
 def explore(rules: Rules, left: Left) -> Found:
-    """All states by breadth, until one is at fault."""
+    """A breadth-first search of all states that stops at the first fault."""
     begin = BEGIN._replace(left=left)
     if left.repairs:
         begin = begin._replace(outbox=AHEAD_OUTBOX, synced_outbox=AHEAD_OUTBOX, books=fresh_books(rules, AHEAD_OUTBOX, ()))
@@ -756,7 +758,7 @@ def show(found: Found) -> None:
 
 def main() -> int:
     checks = Checks()
-    gc.disable()  # No state is part of itself: to look for that among so many takes an eighth of the time.
+    gc.disable()  # No state refers to itself. Looking for cycles among so many objects takes an eighth of the time.
     for left in BOUNDS:
         found = explore(Rules(), left)
         repaired = ", x put back" if left.repairs else ""
