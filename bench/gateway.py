@@ -20,7 +20,7 @@ The programs run in turn, each run in a fresh process whose series are there alr
 are medians of the runs; a ratio is of the gateway's run to the plain program's beside it, its median, and the least and the
 most in brackets. A median and a 99th percentile of a request are as a sender sees them with all others beside it. With
 --kept the last run ends by 20 loads more, and bytes kept are what the process has grown by over these. --calls counts system
-calls by strace. What is printed says what was measured here, and asserts nothing.
+calls by strace. It prints what it measures on this machine and checks nothing.
 """
 import argparse
 import os

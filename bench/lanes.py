@@ -5,8 +5,8 @@
 
 PROGRAM is crates/lane_bench/out/lane_bench, as `rt run` in crates/lane_bench leaves it, where none is
 named. A figure is the bytes of one row by the processor time of one call: that of a run of about a
-second, the least of three, less that of a run with no call. `total` is a plain loop itself. What is
-printed says what was measured here, and asserts nothing.
+second, the least of three, less that of a run with no call. `total` is a plain loop itself. It prints what it measures on this machine
+and checks nothing.
 """
 import sys
 

@@ -7,7 +7,7 @@ PROGRAM is bin/play, as `make core` makes it, where none is named; POINTS are 20
 
 The requests look like those of a real exporter: 200 points of 200 series each, ten attributes of
 the resource, three of the point. Each series gets one point a request, so after the first request
-every point is of a known series. What is printed says what was measured here, and asserts nothing.
+every point is of a known series. It prints what it measures on this machine and checks nothing.
 """
 import json
 import os

@@ -5,8 +5,8 @@
 
 PROGRAM is bin/gateway where none is named. Each POINTS,POSTS is a run of its own: a round of so many posts with
 so many points each, of 9,997 series, posted by four processes. The last posts of the round and the first of the next
-one come from one sender, one after another, so that one of them waits over the end. What is printed says what was
-measured here, and asserts nothing.
+one come from one sender, one after another, so that one of them waits over the end. It prints what it measures on this machine and
+checks nothing.
 """
 import multiprocessing
 import socket

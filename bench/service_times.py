@@ -19,8 +19,8 @@
 
 The program is bin/totxegun where none is named, `--durability` is process. FOLDER has totxegun and gateway of a revision whose
 service starts a gateway (1383c49c): checkpoint, kill and replay are done to it too, in turn, with up to 10,000 series. Each is
-done `--times` times (5; a replay and a backlog once): the median, and the least and the most in brackets. What is printed says
-what was measured here, and asserts nothing.
+done `--times` times (5; a replay and a backlog once): the median, and the least and the most in brackets. It prints what it measures on
+this machine and checks nothing.
 """
 import argparse
 import contextlib

@@ -1,23 +1,23 @@
 #!/usr/bin/env python3
-"""Measures instances over a store in PostgreSQL with a synchronous standby, beside one over a folder, in one run.
+"""Measures instances over a store in PostgreSQL with a synchronous standby, and compares them with one over a folder.
 
     bench/several_machines.py [--totxegun FILE] [--parts NAME,..] [--rows NAME,..] [--senders N,..] [--parties NAME,..] [--runs N]
                               [--seconds N] [--series N] [--slots N] [--times N] [--after N] [--size N] [--data DIR]
 
-The program is bin/totxegun, as `make build` makes it, where none is named; in about ten minutes it does these parts:
+FILE is bin/totxegun by default, as `make build` makes it. The parts take about ten minutes:
 
   - posts: posts a second, the median and the 99th percentile of a post, and the WAL that the primary writes for one, with 64 and 512
     senders, by rows json-1, json-20 and protobuf-103. Parties: disk, a folder with --durability disk; store, an instance over a store
     of SLOTS slots (12). A ratio is to disk's run beside it.
-  - wal: of a post of 1 point (or of the first of ROWS), with each number of senders, the records of that WAL by kind, and posts and
-    rows a commit: the same whatever else the machine does, but for how many posts come to a commit.
-  - takeover: two instances that have 10,000 series, while 32 senders post to one of them. The other is killed: seconds from the kill
-    until the first and the last sender of a slot that it had is answered. It comes back and is ended by SIGTERM: the longest time
-    that a sender of a slot which is handed over waits.
+  - wal: for a post of 1 point (or of the first of ROWS), with each number of senders, the records of that WAL by kind, and posts and
+    rows in each commit. These do not depend on the machine's load, except through how many posts join a commit.
+  - takeover: two instances have 10,000 series, and 32 senders post to one of them. The other is killed: seconds from the kill until the
+    first and the last sender of its slots is answered. It comes back and is ended by SIGTERM: the longest time that a sender of a slot
+    that is handed over waits.
   - size: the table of journals and outboxes, with its indexes, while 64 senders post 20 points each for SIZE (120) seconds.
 
-All servers, folders and the load are on this machine; the files are in DIR, which is out/bench where none is named: one disk for all.
-The sink is one of OTLP, in this process. What is printed says what was measured here, and asserts nothing.
+All servers, folders and the load are on this machine. The files are in DIR (out/bench), so on one disk. The sink is an OTLP sink in this
+process. It prints what it measures on this machine and checks nothing.
 """
 import argparse
 import contextlib

@@ -5,8 +5,7 @@
 
 PROGRAM is bin/play, as `make core` makes it, where none is named. Each figure is the processor
 time of a script less that of the same script without the calls that are measured, so it holds the
-reading of their lines and the writing of their replies too. What is printed says what was measured
-here, and asserts nothing.
+reading of their lines and the writing of their replies too. It prints what it measures on this machine and checks nothing.
 """
 import sys
 

@@ -19,7 +19,7 @@ Sample = dict[str, Any]
 
 
 class Panel:
-    """A part of the picture with an axis of its own."""
+    """A part of the picture with its own axis."""
 
     def __init__(self, place: int, name: str, end: float, most: float) -> None:
         self.top = TOP + place * (PANEL + GAP)
@@ -55,7 +55,7 @@ class Panel:
 
 
 def nice(most: float) -> int:
-    """A round number that is not below it."""
+    """The next round number that is not smaller."""
     step = 1
     while step * 10 < most:
         step *= 10
@@ -63,7 +63,7 @@ def nice(most: float) -> int:
 
 
 def rates(samples: list[Sample], which: int) -> list[tuple[float, float]]:
-    """How many posts a second, second by second."""
+    """The posts of each second."""
     found: list[tuple[float, float]] = []
     last = (0.0, 0)
     for one in samples:
@@ -74,7 +74,7 @@ def rates(samples: list[Sample], which: int) -> list[tuple[float, float]]:
 
 
 def downs(samples: list[Sample]) -> Iterator[tuple[float, float]]:
-    """From when to when the service took no posts."""
+    """The times in which the service accepted no posts."""
     since = None
     for one in samples:
         if since is None and not one["ready"]:

@@ -1,14 +1,15 @@
 #!/usr/bin/env python3
-"""From an SDK to a database while all between them is killed: `make demo`, or `make demo SEED=7 SECONDS=20`.
+"""Counts from an SDK to a database while everything between them is killed: `make demo`, or `make demo SEED=7 SECONDS=20`.
 
     demo/run.py [SEED] [SECONDS]
 
-It needs what `tools/needs demo` installs, builds what is missing, and then runs for SECONDS (60): two programs that are
-measured by OpenTelemetry's SDK as it is by default, one posting in protobuf and one in JSON; totxegun; PostgreSQL in a folder
-of its own; Prometheus with the alerts of operate/; and a receiver of the gauges. It kills totxegun and PostgreSQL, by the
-chances of SEED (1). At the end it prints what the programs have counted by themselves beside what PostgreSQL and Prometheus
-have, by series, and draws a picture of the run. The status is 0 where nothing differs and no alert fired. All files are in
-out/demo.
+It needs what `tools/needs demo` installs, builds what is missing, and then runs for SECONDS (60): two programs with
+OpenTelemetry's SDK in
+its default configuration, one posting protobuf and one JSON; totxegun; PostgreSQL in a folder of its own; Prometheus with the alerts of
+operate/; and a receiver of the gauges. It kills totxegun and PostgreSQL at random times, drawn by SEED (1). At the end
+it prints, by series,
+what the programs counted and what PostgreSQL and Prometheus have, and draws a picture of the run. The status is 0 if nothing differs and
+no alert fired. All files are in out/demo.
 """
 import os
 import signal
@@ -26,12 +27,12 @@ from service import build
 OUT = f"{ROOT}/out/demo"
 LIBRARIES = "/usr/share/gocode"
 SHOWN = {"service": "totxegun", "database": "PostgreSQL"}
-# Of each word its name, what it is where it is not given, and its least: a shorter run has no kill.
+# For each argument its name, its default and its least value: a shorter run has no kill.
 WORDS = (("SEED", 1, 0), ("SECONDS", 60, 10))
 
 
 def build_sender() -> str | None:
-    """The path of the program that posts, built from Debian's Go packages; nothing where that fails."""
+    """The path of the program that posts, built from Debian's Go packages; None if that fails."""
     os.makedirs(OUT, exist_ok=True)
     environment = {**os.environ, "GO111MODULE": "off", "GOPATH": LIBRARIES, "GOCACHE": f"{ROOT}/out/go", "GOFLAGS": ""}
     done = subprocess.run(["go", "build", "-o", f"{OUT}/sender", "."], cwd=f"{DEMO}/sender", env=environment, check=False)
@@ -42,14 +43,14 @@ def build_sender() -> str | None:
 
 
 def shown(values: Total | None) -> str:
-    """A total, and of a histogram how many values it has."""
+    """A total; for a histogram also the number of its values."""
     if values is None:
         return "-"
     return f"{values[0]:,} in {values[1]:,}" if values[2] else f"{values[0]:,}"
 
 
 def report(play: Play, rows: list[Row]) -> int:
-    """Prints the table and what it is of; returns by how much it differs, and what else is wrong."""
+    """Prints the table and a heading. Returns by how much it differs, and what else is wrong."""
     heads = ("program", "series", "counted", "in PostgreSQL", "in Prometheus", "difference")
     lines = [heads] + [(program, " ".join([name, *(value for _, value in attributes)]), *map(shown, values), f"{apart:,}")
                        for program, name, attributes, *values, apart in rows]
@@ -97,7 +98,7 @@ def run(seed: int, seconds: float) -> int:
 
 
 def read(words: list[str]) -> list[int]:
-    """The seed and the seconds, or ends this with a line that says what they have to be."""
+    """The seed and the seconds. Ends the script with a line that says what they must be if they are wrong."""
     if len(words) > len(WORDS):
         sys.exit(f"usage: {sys.argv[0]} [SEED] [SECONDS]")
     for (name, _, least), word in zip(WORDS, words):

@@ -9,8 +9,8 @@ Call: tests/gateway_answers.py PROGRAM, with the path of the built gateway.
   - two quarantined senders, of which one is released
   - each reply of a back end, whole and broken off, with what becomes of its flush and what it was sent
   - lines that are served, and lines that are faulty
-What is wanted is written out from docs/FORMATS.md. Each line is one check; the last line counts those that passed
-and failed, and the status is 0 where none failed.
+What is wanted is written out from docs/FORMATS.md. Each line is a check; the last line counts passes and failures. The status is 0 if
+none failed.
 """
 import json
 import socket

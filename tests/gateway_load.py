@@ -8,8 +8,7 @@ the back end refuses one request in three. So what it took plus what is stored a
 accepted, whatever the order was. The same with a round for each 50 connections; and with one sender that
 never ends its request, beside which the others are served by the other receiver.
 
-Each line is one check; the last line counts those that passed and failed, and the status is 0 where all
-passed.
+Each line is a check; the last line counts passes and failures. The status is 0 if none failed.
 """
 import re
 import socket

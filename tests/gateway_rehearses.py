@@ -6,8 +6,8 @@ Call: tests/gateway_rehearses.py PROGRAM, with the path of the built gateway.
   - the rehearsal with its defaults, 20 times in a row
   - the shortest and the longest, five times each
   - one that is not: a line that is faulty
-What is wanted is written out from docs/FORMATS.md. Each line is one check; the last line counts those that passed
-and failed, and the status is 0 where none failed.
+What is wanted is written out from docs/FORMATS.md. Each line is a check; the last line counts passes and failures. The status is 0 if
+none failed.
 """
 import subprocess
 import sys

@@ -11,8 +11,8 @@ Call: tests/gateway_serves.py PROGRAM, with the path of the built gateway. It ne
   - senders that go away or say nothing do not keep others from being served
   - faults of the command line, of the address, of a connection and of standard output end the program with their
     text and status
-What is wanted is written out from docs/FORMATS.md. Each line is one check; the last line counts those that passed
-and failed, and the status is 0 where none failed. How long a slow party may take is in tests/slow_parties.py.
+What is wanted is written out from docs/FORMATS.md. Each line is a check; the last line counts passes and failures. The status is 0 if
+none failed. How long a slow party may take is in tests/slow_parties.py.
 """
 import json
 import os

@@ -7,8 +7,8 @@ No contract excludes a false answer `no memory`, so what is named as a limit is 
 which is as many as its options give, 10,000 series and 1,000 quarantined senders over the ends of rounds, 1,000 and 60,000
 points in a post, bodies of 4,194,304 bytes, one of them in chunks of 64 KiB, and flushes of 1,000 series with 4 MB of text.
 
-All checks, or those that are named. The last line counts those that passed and failed, and the status is 0 where none
-failed. tests/wrong_sizes.py tries wrong gateways.
+All checks, or those that are named. The last line counts passes and failures. The status is 0 if none failed. tests/wrong_sizes.py
+tries wrong gateways.
 """
 import json
 import sys

@@ -10,8 +10,7 @@ Call: tests/hostile_input.py PROGRAM, with the path of the built gateway.
   - The back end closes in the middle of flush 1, a later point of the series is admitted meanwhile, and
     flush 2 forwards one point over both with their sum.
   - A back end that does not answer holds one flusher: another flush and the receivers go on.
-Each line is one check; the last line counts those that passed and failed, and the status is 0 where none
-failed.
+Each line is a check; the last line counts passes and failures. The status is 0 if none failed.
 """
 import os
 import socket

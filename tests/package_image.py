@@ -8,7 +8,7 @@ its own user, variables and words, and nothing of this machine but /proc and a f
 seconds with status 0 and all that was taken in the outbox; a start on the same folder delivers that. The operator asks from
 inside, as `exec` does.
 
-Each line is one check; the last line counts those that passed and failed, and the status is 0 where none failed, 77 where
+Each line is a check; the last line counts passes and failures. The status is 0 if none failed, 77 where
 the machine can't have it.
 """
 import json

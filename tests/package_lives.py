@@ -9,7 +9,7 @@ the package is installed as of an earlier version: it has these settings. It ser
 README's first use shows, and is replaced by DEB while senders post; the program is killed meanwhile. At the end the sink
 has, series by series, what the senders were told. A purge leaves what was taken, and says so.
 
-Each line is one check; the last line counts those that passed and failed, and the status is 0 where none failed, 77 where
+Each line is a check; the last line counts passes and failures. The status is 0 if none failed, 77 where
 the machine can't have it.
 """
 import contextlib

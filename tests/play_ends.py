@@ -7,7 +7,7 @@ Call: tests/play_ends.py PROGRAM, with the path of the built program.
   - 16,777,217 bytes of input, one too many: play: input too long, status 1, and no reply
   - 16,777,216 bytes of input: a reply, nothing on standard error, status 0
   - a standard input that can't be read: play: cannot read, status 1, and no reply
-Each line is one check; the last line counts those that passed and failed, and the status is 0 where none failed.
+Each line is a check; the last line counts passes and failures. The status is 0 if none failed.
 """
 import os
 import subprocess

@@ -8,8 +8,8 @@ primed with the owner and the frontier of each series that was sent, and gets th
 senders last. Then both go on for thirty steps. After each of them all series have the same owner, the same frontier and the
 same pending points, and each flush sends the same points.
 
-Then come the premises, each by two short scripts: what it leaves out is not recovered. Each line is one check; the last line
-counts those that passed and failed, and the status is 0 where none failed.
+Then come the premises, each by two short scripts: what it leaves out is not recovered. Each line is a check; the last line counts
+passes and failures. The status is 0 if none failed.
 """
 import random
 import subprocess

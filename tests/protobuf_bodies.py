@@ -11,8 +11,8 @@ them in protobuf too, and in JSON with names of fields and enums as in the defin
 protobuf. The answers count the foreign points. One flush then forwards for each series one point, over all its spans, with
 its values, buckets and sums added up here.
 
-It needs python3-protobuf; where that is missing a line says so, and the status is 77. Each other line is one check;
-the last one counts those that passed and failed, and the status is 1 where one failed.
+It needs python3-protobuf; if it is missing, a line says so and the status is 77. Each other line is a check; the last line counts
+passes and failures. The status is 1 if one failed.
 """
 import contextlib
 import gzip

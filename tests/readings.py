@@ -3,8 +3,8 @@
 
     tests/readings.py PROGRAM
 
-Each body is posted by itself; a batch is reported, and undone before the next. The last line counts the checks that passed and
-failed, and the status is 0 where none failed.
+Each body is posted by itself; a batch is reported, and undone before the next. The last line counts checks that passed and failed. The
+status is 0 if none failed.
 """
 import subprocess
 import sys

@@ -20,7 +20,7 @@ The service's texts may go on where the gateway's end: with the causes of foreig
 order` it says `duplicate or late` (`RENAMED`). Where it reads JSON by the protobuf mapping, its text is another (`wrong shape`,
 `not JSON`): of these the status alone is compared.
 
-Each line is one check; the last line counts those that passed and failed, and the status is 0 where none failed.
+Each line is a check; the last line counts passes and failures. The status is 0 if none failed.
 """
 import collections
 import contextlib

@@ -14,8 +14,8 @@ one that was killed what it was answered, or that with the batch that was under 
 into a SQLite file first, and then into PostgreSQL, where that is there.
 
 The exporter is in tests/sdk_go: Debian's package of the SDK has none. It needs golang-go, golang-opentelemetry-otel-dev,
-golang-google-grpc-dev and python3-protobuf; where one is missing a line says so, and the status is 77. Each other line is
-one check; the last one counts those that passed and failed, and the status is 1 where one failed.
+golang-google-grpc-dev and python3-protobuf; if one is missing, a line says so and the status is 77. Each other line is a check; the
+last line counts passes and failures. The status is 1 if one failed.
 """
 import contextlib
 import glob

@@ -22,7 +22,7 @@ after that.
 With all rules kept no state breaks this. Without any one of them some state does, and the shortest way to it is printed: so the
 rule is needed, and the model can see it.
 
-Each line is one check; the last line counts those that passed and failed, and the status is 0 where none failed.
+Each line is a check; the last line counts passes and failures. The status is 0 if none failed.
 """
 import dataclasses
 import itertools

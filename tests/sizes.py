@@ -8,7 +8,7 @@ series in a batch and in a report, flushes of 1,000 of them, 1,000 quarantined s
 round, 6,000 pending points and 1,100 batches of one series, 12,000 points in a body, 64 live flushes,
 1,024 open batches, 65,536 entries, 110 rounds, texts of 4,096 bytes, 128 attributes and values of a list, 255 bounds.
 What is one more of these is refused.
-The last line counts the checks that passed and failed, and the status is 0 where none failed.
+The last line counts checks that passed and failed. The status is 0 if none failed.
 """
 import json
 import subprocess

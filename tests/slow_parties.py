@@ -16,8 +16,8 @@ runs the crowd of 24 too, which takes three minutes.
   - The gateway is stopped and goes on while nobody has come, in the middle of a head, of a body and of an
     answer, and while a back end has not answered: each request is answered all the same.
   - Two orders to a back end that hangs: posts and the report are answered by the receivers that are left.
-All run side by side, in a little more than a minute, nearly all of it waiting. Each line is one check;
-the last line counts those that passed and failed, and the status is 0 where none failed.
+All run side by side, in a little more than a minute, nearly all of it waiting. Each line is a check; the last line counts passes and
+failures. The status is 0 if none failed.
 """
 import http.client
 import os

@@ -6,9 +6,9 @@
 They speak TLS with each other, and let nobody else in; a start waits for the store; without it posts are turned away at
 once; a slot that one can't open goes to another; what `--integer-unit auto` has decided stays where the slot goes; the sink is the
 one that the store knows; one whose clock is wrong has no slots; of two processes of one name the later one ends; a server that
-asks for no standby any more is seen. Skipped without PostgreSQL, openssl or gcc.
+asks for no standby any more is seen. Left out without PostgreSQL, openssl or gcc.
 
-Each line is one check; the last line counts those that passed and failed, and the status is 0 where none failed.
+Each line is a check; the last line counts passes and failures. The status is 0 if none failed.
 """
 import http.client
 import json

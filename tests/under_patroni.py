@@ -1,20 +1,20 @@
 #!/usr/bin/env python3
-"""The set-up of docs/SEVERAL_MACHINES.md by its letter, whose leader's machine is cut off for a minute and comes back, and is lost.
+"""Runs the set-up of docs/SEVERAL_MACHINES.md, whose leader's machine is cut off for a minute, comes back, and is lost in the end.
 
     tests/under_patroni.py TOTXEGUN [CUTS [SECONDS]] [--keep FOLDER]
 
-Machines are network namespaces, as in tests/several_machines.py. Each of three runs what the page says, of which the settings and
-commands are read there: etcd, PostgreSQL under Patroni, haproxy and an instance. On a fourth one haproxy shares posts out. Three
-programs on OpenTelemetry's SDK for Go post by way of it, one by gRPC, where that is installed, and senders that repeat each post
-until it is answered. Then, so often (CUTS, 3): the leader's machine is cut off from all others for so long (SECONDS, 60), and comes
-back. After that: it is cut off from the other two alone, so the balancer and its instance go on; its PostgreSQL is killed; a standby
-is cut off; an instance is not reached by the other instances, while the rest goes on; the leader's machine is lost with its disk, and
-replaced as the page says. A leader may not lead again because it comes back, and each time all three stream again.
+Machines are network namespaces, as in tests/several_machines.py. Each of three runs what the page says; the test reads the settings and
+commands from the page: etcd, PostgreSQL under Patroni, haproxy and an instance. On a fourth machine haproxy balances posts. Three
+programs on OpenTelemetry's SDK for Go post through it, one by gRPC, if the SDK is installed, and senders that repeat each post until it
+is answered. Then, CUTS times (3), the leader's machine is cut off from all others for SECONDS (60), and comes back. After that it is cut
+off from the other two alone, so the balancer still reaches its instance; its PostgreSQL is killed; a standby is cut off; an instance is
+not reached by the other instances; the leader's machine is lost with its disk, and replaced as the page says. A leader must not lead
+again because it comes back, and each time all three must stream again.
 
-At the end the sink has, series by series and bucket by bucket, what senders were told and what the programs counted. A note says
-after how many seconds posts were taken again. It needs what tests/several_machines.py needs, patroni, etcd-server, etcd-client,
-nftables, openssl and curl; where one is missing a line says so, and the status is 77. Each other line is one check; the last one
-counts those that passed and failed, and the status is 1 where one failed.
+At the end the sink must have, by series and bucket, what senders were told and what the programs counted. A note says after how many
+seconds posts were taken again. It needs what tests/several_machines.py needs, patroni, etcd-server, etcd-client, nftables, openssl and
+curl; if one is missing, a line says so and the status is 77. Each other line is a check; the last line counts passes and failures. The
+status is 1 if one failed.
 """
 import argparse
 import contextlib

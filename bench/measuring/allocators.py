@@ -1,32 +1,32 @@
-"""Allocators by their names, as an environment of a program."""
+"""Selects allocators by name, by a program's environment."""
 import argparse
 import glob
 import os
 from collections.abc import Iterator
 
-# What of an environment an allocator reads.
+# The environment variables that an allocator reads.
 ALLOCATORS = ("MALLOC_", "GLIBC_TUNABLES", "LD_PRELOAD", "MIMALLOC_", "TCMALLOC_")
-# By name, the library that is preloaded and its Debian package.
+# For each name the library that is preloaded and its Debian package.
 LIBRARIES = {"mimalloc": ("libmimalloc.so.2", "libmimalloc2.0"), "tcmalloc": ("libtcmalloc_minimal.so.4", "libtcmalloc-minimal4"),
              "jemalloc": ("libjemalloc.so.2", "libjemalloc2")}
 TUNED = {"GLIBC_TUNABLES": "glibc.malloc.tcache_count=200", "MALLOC_TRIM_THRESHOLD_": str(64 << 20)}
 
 
 def add_options(parser: argparse.ArgumentParser, default: list[str]) -> None:
-    """The options that say which allocators."""
+    """Adds the options that select allocators."""
     parser.add_argument("--allocators", type=lambda text: [name for name in text.split(",") if name], default=default)
     parser.add_argument("--preload")
     parser.add_argument("--environment", action="append", default=[])
 
 
 def library(name: str) -> str | None:
-    """The file of an allocator, or None where it is not installed."""
+    """The library of an allocator, or None if it is not installed."""
     found = glob.glob(f"/usr/lib/*/{LIBRARIES[name][0]}")
     return found[0] if found else None
 
 
 def names_there(arguments: argparse.Namespace) -> Iterator[str]:
-    """The allocators that were named, but for those that are not there; of these a line says so."""
+    """The selected allocators that are installed; a line names each of the others."""
     names = [*arguments.allocators, *(["own"] if arguments.preload or arguments.environment else [])]
     for name in names:
         if name in LIBRARIES and not library(name):
@@ -38,13 +38,13 @@ def names_there(arguments: argparse.Namespace) -> Iterator[str]:
 
 
 def shown(its_environment: dict[str, str]) -> str:
-    """What of an environment an allocator reads."""
+    """The environment variables that an allocator reads."""
     found = [f"{name}={value}" for name, value in sorted(its_environment.items()) if name.startswith(ALLOCATORS)]
     return " ".join(found) or "nothing for the allocator"
 
 
 def environment(name: str, arguments: argparse.Namespace | None = None) -> dict[str, str]:
-    """The whole environment in which a program has this allocator."""
+    """A whole environment in which a program uses this allocator."""
     plain = {key: value for key, value in os.environ.items() if not key.startswith(ALLOCATORS)}
     if name == "tuned":
         return plain | TUNED

@@ -1,4 +1,4 @@
-"""Posts by load.c, as the scripts of this folder order them."""
+"""Posts by load.c for the scripts of this folder."""
 import os
 import shutil
 import subprocess
@@ -11,12 +11,12 @@ MADE = f"{ROOT}/out/bench"
 LOAD = f"{MADE}/load"
 PACKAGES = ["gcc", "libc6-dev", "zlib1g-dev", "libssl-dev"]
 
-# Of a post that makes series.
+# The points of a post that creates series.
 MOST_POINTS = 1000
 
 
 class Posts(NamedTuple):
-    """What is posted: of which kind, how many points a request, over how many series, in which encoding, on which connections."""
+    """What is posted: the kind of point, the points of a request, the series, the encoding, and the connections."""
 
     kind: str
     points: int
@@ -26,7 +26,7 @@ class Posts(NamedTuple):
 
 
 class Loaded(NamedTuple):
-    """What came of it: times in seconds and microseconds."""
+    """The results of a load: times in seconds and microseconds."""
 
     requests: int
     failed: int
@@ -37,7 +37,7 @@ class Loaded(NamedTuple):
 
 
 def build(name: str = "load") -> str:
-    """Builds a program of this folder, or ends the script. Where it is then."""
+    """Builds a program of this folder and returns its path. Ends the script if that fails."""
     os.makedirs(MADE, exist_ok=True)
     words = ["gcc", "-O2", "-Wall", "-pthread", "-o", f"{MADE}/{name}", f"{ROOT}/bench/{name}.c", "-lz", "-lssl", "-lcrypto"]
     if not shutil.which("gcc") or subprocess.run(words, check=False).returncode:
@@ -46,7 +46,7 @@ def build(name: str = "load") -> str:
 
 
 def rounded(requests: int, clients: int) -> int:
-    """So many requests, or a few more, that each sender has as many."""
+    """This number of requests, rounded up so that each sender has the same number."""
     return -(-requests // clients) * clients
 
 
@@ -58,7 +58,7 @@ class Senders:
         self.posted = 0
 
     def load(self, requests: int, period: float = 0) -> Loaded:
-        """So many requests, each sender's as fast as they are answered, or once in a period of so many seconds."""
+        """Posts this many requests, each sender as fast as they are answered, or one in each period of this many seconds."""
         posts = self.posts
         words = [self.port, self.clients, requests, posts.points, posts.series, posts.kind, posts.encoding, posts.connections,
                  self.posted, period * 1e6]
@@ -68,7 +68,7 @@ class Senders:
         return Loaded(int(whole), int(failed), float(seconds), float(median), float(last), int(size))
 
     def make_series(self) -> None:
-        """Posts a point of each series, so that what comes next is of known series alone."""
+        """Posts a point of each series, so that later posts are of known series only."""
         each, points = -(-self.posts.series // self.clients), self.posts.points
         self.posts = self.posts._replace(points=min(each, MOST_POINTS))
         self.load(self.clients * -(-each // MOST_POINTS))

@@ -8,12 +8,12 @@ from measuring import ROOT
 SOURCE = f"{ROOT}/bench/plain"
 BUILT = f"{ROOT}/out/plain"
 PACKAGES = [f"librust-{crate}-dev" for crate in ("serde-json", "serde-derive", "httparse", "ahash-0.7", "hashbrown")]
-# Each with the profile that it is built by.
+# For each program the profile that it is built by.
 PROGRAMS = {"plain": "release", "plain-tree": "release", "plain-answers": "release", "plain-fast": "fast"}
 
 
 def build(name: str) -> str | None:
-    """The program of this name, or None where it can't be built, and then a line says so."""
+    """The program with this name, or None after a line that says that it cannot be built."""
     if name not in PROGRAMS:
         raise SystemExit(f"{name} is no plain program: {', '.join(PROGRAMS)}")
     profile = PROGRAMS[name]

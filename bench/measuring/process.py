@@ -1,4 +1,4 @@
-"""What the scripts of this folder share: the programs that they measure, and what the system says of a process."""
+"""Finds the programs that the scripts of this folder measure, and reads what the system says about a process."""
 import os
 import re
 import statistics
@@ -8,24 +8,24 @@ import tempfile
 import time
 from collections.abc import Sequence
 
-# Of the kernel's clocks, that of a process as the scheduler counts it (clock_getcpuclockid has the same number).
+# The kernel's clock of a process's processor time, as the scheduler counts it; clock_getcpuclockid returns the same number.
 SCHEDULED = 2
 
 
 def processor_seconds(pid: int) -> float:
-    """The processor time of a process so far, user's and system's: as in /proc/PID/stat, but in nanoseconds."""
+    """The processor time of a process so far, user and system: as in /proc/PID/stat, but in nanoseconds."""
     return time.clock_gettime(~pid << 3 | SCHEDULED)
 
 
 def memory(pid: int, row: str = "VmRSS") -> int:
-    """The memory of a process in bytes: VmRSS is what it has, VmHWM the most so far. 0 where it has ended."""
+    """The memory of a process in bytes: VmRSS is the present value, VmHWM the highest so far. 0 if it has ended."""
     with open(f"/proc/{pid}/status", encoding="ascii") as file:
         found = re.search(rf"^{row}:\s+(\d+)", file.read(), re.MULTILINE)
     return int(found[1]) * 1024 if found else 0
 
 
 def run_seconds(command: list[str], text: str = "") -> float:
-    """The processor time of a whole run over this input."""
+    """The processor time of a whole run with this input."""
     with tempfile.TemporaryFile() as stdin:
         stdin.write(text.encode())
         stdin.seek(0)
@@ -37,23 +37,23 @@ def run_seconds(command: list[str], text: str = "") -> float:
 
 
 def program_at(path: str) -> str:
-    """The path of a program, or ends the script where there is none."""
+    """The path of a program. Ends the script if it does not exist."""
     if not os.access(path, os.X_OK):
         sys.exit(f"{sys.argv[0]}: there is no program {path}")
     return path
 
 
 def numbers(text: str) -> list[int]:
-    """Numbers with commas between."""
+    """A number with commas between thousands."""
     return [int(word) for word in text.split(",")]
 
 
 def file_system(path: str) -> str:
-    """What kind of file system a file is on."""
+    """The type of the file system that a file is on."""
     return subprocess.run(["stat", "-f", "-c", "%T", path], stdout=subprocess.PIPE, text=True, check=True).stdout.strip()
 
 
 def spread(values: Sequence[float], form: str) -> str:
-    """The median, and the least and the most in brackets where there are several."""
+    """The median, with the least and the greatest in brackets if there are several values."""
     middle = f"{statistics.median(values):{form}}"
     return middle if len(values) == 1 else f"{middle} ({min(values):{form}} .. {max(values):{form}})"

@@ -1,4 +1,4 @@
-"""The service and the bare gateway, as the scripts of this folder run them."""
+"""Runs the service and the bare gateway for the scripts of this folder."""
 import argparse
 import contextlib
 import os
@@ -17,7 +17,7 @@ SET = re.compile(r"^Environment=(\w+=\S+)$", re.MULTILINE)
 
 
 class Measured(Service):
-    """With what a start has more in its environment."""
+    """A service with further environment variables at its start."""
 
     environment: dict[str, str] = {}
 
@@ -41,7 +41,7 @@ def path(word: str) -> str:
 
 
 def options(about: str) -> argparse.ArgumentParser:
-    """The options of a script that runs the service."""
+    """Adds the options of a script that runs the service."""
     parser = argparse.ArgumentParser(description=about)
     parser.add_argument("--totxegun", type=path, default=f"{ROOT}/bin/totxegun")
     parser.add_argument("--gateway", type=path, default=f"{ROOT}/bin/gateway")
@@ -54,7 +54,7 @@ def options(about: str) -> argparse.ArgumentParser:
 
 
 def start(one: Measured) -> None:
-    """Starts the service, and waits until it is ready."""
+    """Starts the service and waits until it is ready."""
     one.start(one.environment)
     if not one.wait_ready(300):
         raise SystemExit(f"the service is not ready: {one.last_lines()}")
@@ -90,7 +90,7 @@ def serving(arguments: argparse.Namespace, *words: str, sink: str | None = None,
 
 
 def processes(one: Service) -> list[int]:
-    """The process of a service, and those that an earlier one has started."""
+    """The process of a service, and those that an earlier version has started."""
     found = []
     for task in os.listdir(f"/proc/{one.process.pid}/task"):
         with contextlib.suppress(FileNotFoundError), open(f"/proc/{one.process.pid}/task/{task}/children", encoding="ascii") as file:

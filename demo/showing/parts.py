@@ -1,4 +1,4 @@
-"""What the demo is made of, each a process in a folder of its own: Prometheus and the programs that post."""
+"""The processes of the demo, each in a folder of its own: Prometheus and the programs that post."""
 import json
 import os
 import signal
@@ -27,7 +27,7 @@ scrape_configs:
 
 
 class Prometheus:
-    """It scrapes both pages of the admin address each second, and has the alerts that are shipped."""
+    """Prometheus, which scrapes both pages of the admin address each second and has the shipped alerts."""
 
     def __init__(self, folder: str, operate: int) -> None:
         self.port = free_port()
@@ -40,12 +40,12 @@ class Prometheus:
             self.process = subprocess.Popen(["prometheus", *words], stdin=subprocess.DEVNULL, stdout=log, stderr=log)
 
     def ask(self, query: str) -> list[tuple[dict[str, str], float]] | None:
-        """The samples of an answer: (labels, value) each. None where it does not answer."""
+        """The samples of an answer as (labels, value), or None if there is no answer."""
         found = self.found(query)
         return found and [(one["metric"], float(one["value"][1])) for one in found]
 
     def ask_series(self, query: str) -> list[tuple[dict[str, str], list[tuple[float, str]]]] | None:
-        """The series of an answer: (labels, [(when, value), ..]) each. None where it does not answer."""
+        """The series of an answer as (labels, [(when, value), ..]), or None if there is no answer."""
         found = self.found(query)
         return found and [(one["metric"], one["values"]) for one in found]
 
@@ -67,7 +67,7 @@ class Prometheus:
 
 
 class Shop:
-    """A program that is measured by OpenTelemetry's SDK, and counts by itself. It is told where to post, and nothing else."""
+    """A program with OpenTelemetry's SDK that also counts by itself. It is only told where to post."""
 
     def __init__(self, program: str | None, folder: str, listen: int, name: str, encoding: str, seconds: float,
                  seed: int) -> None:
@@ -87,7 +87,7 @@ class Shop:
             self.said = [int(word) for word in line.split()]
 
     def told(self) -> tuple[list[dict[str, Any]], int]:
-        """Its own counts, once it has ended, and the last value of its gauge."""
+        """Its own counts after it has ended, and the last value of its gauge."""
         if self.process.wait(SECONDS) != 0:
             raise RuntimeError(f"{self.name} has ended with status {self.process.returncode}: {self.own[:-5]}.log")
         with open(self.own, encoding="utf-8") as file:

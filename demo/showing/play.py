@@ -1,4 +1,4 @@
-"""One run: programs that post, what is killed meanwhile, and what each of them has at the end."""
+"""One run: programs post, other processes are killed meanwhile, and the results are read at the end."""
 import itertools
 import json
 import os
@@ -16,19 +16,19 @@ from testing.database import SECONDS, Database
 from testing.service import Service, wait_until
 
 SHOPS = (("shop-1", "protobuf"), ("shop-2", "json"))
-# What is killed first, each of it once; then any of it.
+# Each of these is killed once at first, then any of them.
 VICTIMS = ("service", "database")
-# Between two kills, and how long what was killed is down, in seconds.
+# Seconds between two kills, and how long a killed process is down.
 BETWEEN = (2.5, 5.5)
 DOWN = (0.2, 1.5)
-# A database takes longer, so that requests wait for it.
+# A database is down for longer, so that requests wait for it.
 DATABASE_DOWN = (2, 5)
 # Nothing is killed in the last seconds.
 LAST = 3
 SAMPLE = 0.2
 ORDERED = "select coalesce(sum(total), 0) from totxegun.totals where name = 'shop.orders'"
 
-# A series; what the program, the database and Prometheus have of it, and how far these differ.
+# A series; what the program, the database and Prometheus have of it; and by how much these differ.
 Row = tuple[str, str, Attributes, Total | None, Total | None, Total | None, int]
 
 
