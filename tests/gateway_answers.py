@@ -21,7 +21,7 @@ from collections.abc import Sequence
 from testing.checks import Checks
 from testing.loopback import SECONDS, BackEnd, Gateway, ordered, point, posted, read_all, response
 
-# Where nobody listens.
+# A port on which nobody listens.
 NOBODY = 9
 JSON = b"application/json"
 POST = b"POST /v1/metrics HTTP/1.1\r\n"
@@ -58,13 +58,13 @@ REFUSED: Sequence[tuple[bytes, tuple[bytes, str]]] = (
     (TYPED + TWO + b"[1", NOT_JSON),
     (TYPED + b"Content-Length: 0\r\n\r\n", NOT_JSON),
     (TYPED + TWO + b"[]", (BAD, "wrong shape")),
-    # Several faults: the first of path, method, sender, content and body is answered.
+    # Requests with several faults: the first of path, method, sender, content and body is answered.
     (b"GET /v1/traces HTTP/1.1\r\nx-sender: a b\r\n\r\n", PATH),
     (b"PUT /v1/metrics HTTP/1.1\r\nContent-Type: text/plain\r\nx-sender: a b\r\n" + TWO + b"[1", METHOD),
     (POST + b"Content-Type: text/plain\r\nx-sender: a b\r\n" + TWO + b"[1", SENDER),
     (POST + b"Content-Type: text/plain\r\n" + TWO + b"[1", CONTENT),
 )
-# Which method a path has instead, where another is wrong.
+# The method of a path, for requests with another one.
 ALLOWED = {b"/v1/metrics": b"POST", b"/flush": b"POST", b"/report": b"GET"}
 
 SERVED = (
@@ -75,7 +75,7 @@ SERVED = (
     ("chunks", EMPTY),
 )
 
-# What a back end replies, and what then becomes of its flush; of what is broken off nothing is known.
+# What a back end replies, and what then becomes of its flush; after a reply that breaks off nothing is known.
 REPLIES: Sequence[tuple[bytes, str, str]] = (
     (b"HTTP/1.1 204 No Content\r\n\r\n", "settled", ""),
     (b"HTTP/1.1 299 Fine\r\n\r\n", "settled", ""),
@@ -93,7 +93,7 @@ REPLIES: Sequence[tuple[bytes, str, str]] = (
 SERVE = ["serve", "--backend", f"127.0.0.1:{NOBODY}"]
 NONE = [*SERVE, "--connections", "0"]
 ANYWHERE = ["--listen", "127.0.0.1:0"]
-# The most and the least of each number.
+# The greatest and the least value of each number.
 LINES: Sequence[list[str]] = (
     [*NONE, *ANYWHERE],
     [*NONE, *ANYWHERE, "--round", "32000", "--flushers=4", "--receivers", "8", "--flush-series", "1000"],
@@ -109,7 +109,7 @@ FAULTY: Sequence[list[str]] = (
     ["rehearse", "-h"], ["rehearse", "--senders", "0"], ["rehearse", "--senders", "5"], ["rehearse", "--batches", "0"],
     ["rehearse", "--batches", "101"], ["rehearse", "--senders", "2", "--senders", "2"], ["rehearse", "--backend", "b:9"],
     ["rehearse", "more"], ["--receivers", "2", "rehearse"],
-    # An option stands once.
+    # An option may occur only once.
     *([*NONE, f"--{name}=1", f"--{name}=1"] for name in ("backend", "connections", "receivers", "round", "flushers")),
     [*NONE, *ANYWHERE, *ANYWHERE],
 )
@@ -134,7 +134,7 @@ def row(name: str, owner: str, frontier: int, **words: str) -> str:
 
 
 def empty_book(checks: Checks, program: str) -> None:
-    """What leaves nothing behind, sent in both ways to one gateway."""
+    """Sends requests that change nothing to one gateway, whole and byte by byte."""
     asked = [*((f"refused: {it[:60]!r}", it, refusal(*why, allow=ALLOWED[it.split()[1]] if why == METHOD else b""))
                for it, why in REFUSED), *((what, it, DONE) for what, it in SERVED)]
     gateway = Gateway(program, NOBODY, 2 * len(asked) + len(EMPTY) + 2)
@@ -156,7 +156,7 @@ def empty_book(checks: Checks, program: str) -> None:
 
 
 def posts(checks: Checks, program: str) -> None:
-    """Points that are taken, refused and counted as foreign; and two senders, of whom one is released."""
+    """Points that are accepted, refused and rejected; and two senders, one of which is released."""
     gauge = {"name": "g", "gauge": {"dataPoints": [{}, {}, {}]}}
     with_gauge = json.loads(point(10, 20, 5))
     with_gauge["resourceMetrics"][0]["scopeMetrics"][0]["metrics"].append(gauge)
@@ -189,7 +189,7 @@ def posts(checks: Checks, program: str) -> None:
         ("a later post of A", posted(point(20, 30, 5)), DONE),
         ("a later post of B", posted(point(20, 30, 7, "b"), "B"), refusal(b"403 Forbidden", "quarantined")),
     )
-    # In rounds of three connections what is quarantined stays so in the next round, and is carried into it.
+    # With rounds of three connections, quarantined points are carried into the next round and stay quarantined.
     for length in ("32000", "3"):
         gateway = Gateway(program, NOBODY, len(asked), options=["--round", length, "--receivers", "2"])
         for what, request, wanted in asked:
@@ -199,13 +199,13 @@ def posts(checks: Checks, program: str) -> None:
 
 
 def printed(gateway: Gateway) -> bytes:
-    """The report that it has printed, without the line that counts."""
+    """The report that the gateway has printed, without the line that counts."""
     lines = gateway.end()[1].splitlines(keepends=True)
     return b"".join(it for it in lines if not it.startswith(b"admitted "))
 
 
 class Replying(BackEnd):
-    """A back end that replies these bytes, one after another, and closes."""
+    """A back end that replies these bytes, one reply after another, and closes."""
 
     def __init__(self, replies: Sequence[bytes]) -> None:
         super().__init__()
@@ -221,7 +221,7 @@ class Replying(BackEnd):
 
 
 def replies(checks: Checks, program: str) -> None:
-    """A point and a flush for each reply."""
+    """Posts a point and orders a flush for each reply."""
     back_end = Replying([reply for reply, _, _ in REPLIES])
     gateway = Gateway(program, back_end.port, 2 * len(REPLIES))
     pending = 0
@@ -239,7 +239,7 @@ def replies(checks: Checks, program: str) -> None:
 
 
 def lines(checks: Checks, program: str) -> None:
-    """Lines that serve nobody and end, and faulty ones."""
+    """Command lines that serve nobody and end, and faulty ones."""
     for words in (*LINES, *FAULTY):
         ran = subprocess.run([program, *words], capture_output=True, timeout=SECONDS, check=False)
         wanted = (2, b"") if words in FAULTY else (0, b"end\nadmitted 0 acknowledged 0\n")

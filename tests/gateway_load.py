@@ -44,20 +44,20 @@ class RefusingBackEnd(BackEnd):
 
 
 def post(gateway: Gateway, sender: int, number: int) -> int:
-    """The status of a post of one point of value 1 of the sender's own sum."""
+    """The status of a post with one point of value 1 of the sender's own sum."""
     body = point(10 * number + 10, 10 * number + 20, 1, f"m{sender}")
     return ask(gateway.port, "POST", "/v1/metrics", body, posting(f"s{sender}"))[0]
 
 
 def start(program: str, back_end: int, connections: int, *options: str) -> Gateway:
-    """The gateway, once it listens."""
+    """Starts a gateway and returns when it listens."""
     gateway = Gateway(program, back_end, connections, options=options)
     wait_until(lambda: listens(gateway.port))
     return gateway
 
 
 def load(program: str, checks: Checks, what: str, *options: str) -> None:
-    """All senders at once, and flushes meanwhile."""
+    """Runs all senders at once, with flushes meanwhile."""
     back_end = RefusingBackEnd()
     gateway = start(program, back_end.port, SENDERS * POSTS + FLUSHES + 1, *options)
     statuses = []
@@ -97,7 +97,7 @@ def load(program: str, checks: Checks, what: str, *options: str) -> None:
 
 
 def slow(program: str, checks: Checks) -> None:
-    """A sender that never ends its request, and others beside it."""
+    """Runs a sender that never ends its request, and others beside it."""
     gateway = start(program, free_port(), 21, "--receivers", "2")
     silent = socket.create_connection(("127.0.0.1", gateway.port))
     silent.sendall(b"POST /v1/metrics HTTP/1.1\r\nContent-Length: 9\r\n\r\n{")

@@ -14,7 +14,7 @@ import sys
 
 from testing.checks import Checks
 
-# How often, the senders, the batches of each, and the arguments for it.
+# How often, how many senders, how many batches each, and the arguments for that.
 REHEARSALS: tuple[tuple[int, int, int, list[str]], ...] = (
     (20, 2, 3, []),
     (5, 1, 1, ["--senders", "1", "--batches", "1"]),
@@ -24,7 +24,7 @@ FAULTY = (["--senders", "5"], ["--batches", "0"], ["--connections", "1"])
 
 
 def wanted(senders: int, batches: int) -> str:
-    """What such a rehearsal prints."""
+    """What such a rehearsal must print."""
     row = f"{batches},{batches * (batches + 1) // 2},0"
     lines = [f"series req-{sender} monotonic owner s{sender} frontier {10 * batches + 10} accepted {row} acknowledged {row}"
              " dropped 0,0,0 in-flight 0,0,0 stored 0,0,0 quarantined 0,0,0" for sender in range(senders)]

@@ -31,7 +31,7 @@ from testing.loopback import SECONDS, BackEnd, Gateway, free_port, point, read_a
 from testing.service import wait_until
 from testing.shipped import listens
 
-# Where nobody listens: the port on which a server throws away what it gets. No gateway is given it.
+# The discard port, on which nobody listens. It is never given to a gateway.
 NOBODY = 9
 JSON = ["-H", "Content-Type: application/json"]
 FROM_A = [*JSON, "-H", "x-sender: A"]
@@ -47,7 +47,7 @@ def message(text: str) -> str:
 
 
 def line(name: str = "req", owner: str = "A", frontier: int = 20, stored: str = "0,0,0", **rows: str) -> str:
-    """A line of the report, with what is accepted, acknowledged and dropped."""
+    """A line of the report, with the rows that are accepted, acknowledged and dropped."""
     row = {"accepted": "0,0,0", "acknowledged": "0,0,0", "dropped": "0,0,0", **rows}
     told = " ".join(f"{key} {it}" for key, it in row.items())
     return f"series {name} monotonic owner {owner} frontier {frontier} {told} in-flight 0,0,0 stored {stored} quarantined 0,0,0"
@@ -65,7 +65,7 @@ def body(start: int, end: int, value: int, name: str = "req") -> list[str]:
 
 
 def forwarded(port: int, start: int, end: int, value: int) -> bytes:
-    """The request, head and body, that a point of the sum req is forwarded in."""
+    """The request, head and body, that forwards one point of the sum req."""
     one = {"asInt": str(value), "attributes": [], "startTimeUnixNano": str(start), "timeUnixNano": str(end)}
     total = {"aggregationTemporality": 1, "dataPoints": [one], "isMonotonic": True}
     scope = {"metrics": [{"name": "req", "sum": total, "unit": ""}], "scope": {"attributes": [], "name": "", "version": ""}}
@@ -76,7 +76,7 @@ def forwarded(port: int, start: int, end: int, value: int) -> bytes:
 
 
 class Served:
-    """A gateway that is asked by curl, with its back end."""
+    """A gateway with its back end; curl asks it."""
 
     def __init__(self, checks: Checks, program: str, connections: int, answers: list[bytes | None] | None = None,
                  options: Sequence[str] = ()) -> None:
@@ -87,7 +87,7 @@ class Served:
         until_it_listens(self.gateway)
 
     def ask(self, what: str, wanted: str, path: str, *words: str, status: int = 200) -> None:
-        """Checks the answer to what curl asks with these words."""
+        """Checks the answer to a request by curl with these words."""
         address = f"http://127.0.0.1:{self.gateway.port}{path}"
         found = subprocess.run(["curl", "-s", "-m", "60", "-w", "%{http_code}", *words, address],
                                capture_output=True, text=True, check=False).stdout
@@ -118,7 +118,7 @@ def connected(port: int) -> socket.socket:
 
 
 def posts_and_flushes(checks: Checks, program: str) -> None:
-    """What senders, an operator and a back end ask of one gateway."""
+    """What senders, an operator and a back end do with one gateway."""
     answers = [b"200 OK\r\n", b"503 Busy\r\nRetry-After: 2\r\n", b"400 Bad\r\n"]
     one = Served(checks, program, 20, answers)
     one.post("a body is posted", "{}", *FROM_A, *body(10, 20, 5))
@@ -200,7 +200,7 @@ def rounds(checks: Checks, program: str) -> None:
     one.ask("the report of the last round", STORED, "/report")
     one.end("rounds of one connection", f"{STORED}admitted 1 acknowledged 0\n")
 
-    # What is reported of a point in the round behind the one that settled it, and in the same.
+    # What is reported of a point in the round after the one that settled it, and in the same round.
     for length, text in (("1", report(line())), ("1000", report(line(accepted="1,5,0", acknowledged="1,5,0")))):
         what = f"rounds of {length}"
         one = Served(checks, program, 4, [], ["--round", length])
@@ -227,7 +227,7 @@ def silent_parties(checks: Checks, program: str) -> None:
 
 
 def run(program: str, words: Sequence[str | bytes], **more: Any) -> tuple[int, bytes, bytes]:
-    """Status, what was printed, and standard error."""
+    """The status, standard output and standard error of a run."""
     ran = subprocess.run([program, *words], stdout=subprocess.PIPE, stderr=subprocess.PIPE, timeout=SECONDS, check=False, **more)
     return ran.returncode, ran.stdout, ran.stderr
 
@@ -264,11 +264,11 @@ def ends(checks: Checks, program: str) -> None:
         address = f"127.0.0.1:{taken.getsockname()[1]}"
         checks.same("an address that is taken", cannot_listen, run(program, [*serve, "--connections", "1", "--listen", address]))
     cannot_accept = (1, b"", b"gateway: cannot accept\n")
-    # Its three ends and the listener are all that it may open.
+    # The limit allows its three standard files and the listener only.
     no_room = run(program, [*serve, "--connections", "1", *here],
                   preexec_fn=lambda: resource.setrlimit(resource.RLIMIT_NOFILE, (4, 4)))
     checks.same("no room for a connection", cannot_accept, no_room)
-    # Eight receivers wait. One of them serves a request and has no room for the next: the others wait no longer.
+    # Eight receivers wait. One of them serves a request and has no room for the next, and the others stop waiting.
     one = Served(checks, program, 100, options=["--receivers", "8"])
     resource.prlimit(one.gateway.process.pid, resource.RLIMIT_NOFILE, (3, 3))
     subprocess.run(["curl", "-s", "-m", "60", "-o", os.devnull, f"http://127.0.0.1:{one.gateway.port}/report"], check=False)

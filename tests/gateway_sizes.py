@@ -18,7 +18,7 @@ from testing import loopback
 from testing.checks import Checks
 from testing.loopback import BackEnd, Gateway, ordered, posted
 
-# For a gateway that is built with checks at run time, on a busy machine.
+# In seconds; long enough for a gateway with run-time checks on a busy machine.
 loopback.SECONDS = 180
 MOST_BODY = 4_194_304
 WRITE = 65_536
@@ -27,7 +27,7 @@ DONE = b"HTTP/1.1 200 OK\r\n"
 
 
 def points(first: int, count: int) -> list[dict[str, int]]:
-    """So many points of 1, one after another."""
+    """This many points of value 1, one after another."""
     return [{"asInt": 1, "startTimeUnixNano": at, "timeUnixNano": at + 1} for at in range(first, first + count)]
 
 
@@ -38,7 +38,7 @@ def body(metrics: Iterable[tuple[str, list[dict[str, int]]]]) -> bytes:
 
 
 class Asked:
-    """A gateway, and the requests that it did not answer as is wanted."""
+    """A gateway, and the requests that got another answer than wanted."""
 
     def __init__(self, program: str, connections: int, receivers: int = 1, flushers: int = 1, round: int = 32_000,
                  answers: Sequence[bytes] = ()) -> None:
@@ -60,7 +60,7 @@ class Asked:
         self.ask(what, ordered("POST /flush"), lambda answer: answer.endswith(b"\r\n\r\n" + end))
 
     def end(self, checks: Checks, what: str, last: str) -> None:
-        """Whether all was answered as is wanted, and the gateway ended with this line."""
+        """Checks that all answers were as wanted, and that the gateway ended with this line."""
         status, out, err = self.gateway.end()
         self.back_end.close()
         is_right = (status, err, self.wrong) == (0, b"", []) and out.endswith(f"end\n{last}\n".encode())
@@ -75,7 +75,7 @@ def seats(program: str, checks: Checks) -> None:
 
 
 def series(program: str, checks: Checks) -> None:
-    """As many series and quarantined senders as there may be, over a round for each 1,000 connections."""
+    """The most series and quarantined senders, over a round for each 1,000 connections."""
     it = Asked(program, 10 + 2_000 + 2 + 10, round=1_000)
     for k in range(10):
         it.post(f"series of post {k}", body((f"s{k}{i:03}", points(10, 1)) for i in range(1_000)))
@@ -90,7 +90,7 @@ def series(program: str, checks: Checks) -> None:
 
 
 def rounds(program: str, checks: Checks) -> None:
-    """Ends of rounds with as many series as there may be."""
+    """Ends of rounds with the most series."""
     it = Asked(program, 10 + 8, round=1)
     for k in range(10):
         it.post(f"series of post {k}", body((f"s{k}{i:03}", points(10, 1)) for i in range(1_000)))
@@ -110,7 +110,7 @@ def batches(program: str, checks: Checks) -> None:
 
 
 def bodies(program: str, checks: Checks) -> None:
-    """As many bytes as a body may have, in writes of 64 KiB."""
+    """The longest body, in writes of 64 KiB."""
     it = Asked(program, 2)
     for name in ("a", "b"):
         text = body([(name, points(10, 1_000))])
@@ -126,7 +126,7 @@ def bodies(program: str, checks: Checks) -> None:
 
 
 def flushes(program: str, checks: Checks) -> None:
-    """Flushes of 1,000 series with much text: one that comes back, and is sent again."""
+    """Flushes of 1,000 series with much text, one of which comes back and is sent again."""
     it = Asked(program, 5 + 4, answers=[b"503 Service Unavailable\r\n"])
     for k in range(5):
         it.post(f"long names {k}", body((f"{LONG}{k}{i:03}", points(10, 1)) for i in range(200)))

@@ -40,7 +40,7 @@ def post(name: str, points: list[dict[str, Any]], field: str = "sum", unit: str 
 
 
 class Script:
-    """Lines, each with how its reply begins and how many lines it has."""
+    """Lines, each with the beginning of its reply and the number of the reply's lines."""
 
     def __init__(self) -> None:
         self.lines: list[str] = []
@@ -60,7 +60,7 @@ class Script:
         self.say(f"confirm {self.batches}", f"confirmed {self.batches}\n")
 
     def flush(self, number: int, points: int) -> None:
-        """A flush that takes so many series, each of which is sent as one point."""
+        """A flush of this many series, each of which is sent as one point."""
         self.say(f"take {points}", f"flush {number} points {points}\npoint ", 1 + points)
 
     def run(self, program: str, checks: Checks, what: str) -> None:
@@ -77,7 +77,7 @@ class Script:
 
 
 def series(program: str, checks: Checks) -> None:
-    """As many series as there may be, and quarantined senders."""
+    """The most series and quarantined senders."""
     it = Script()
     it.say("admit A " + " ".join(f"s{i:05} 10 20 1" for i in range(10_001)), "refused too-many-series\n")
     it.admit("admit A " + " ".join(f"s{i:04} 10 20 1" for i in range(10_000)))
@@ -113,7 +113,7 @@ def points(program: str, checks: Checks) -> None:
 
 
 def open_ends(program: str, checks: Checks) -> None:
-    """As many open batches and live flushes as there may be."""
+    """The most open batches and live flushes."""
     it = Script()
     for i in range(1_024):
         it.bring(f"admit A s{i % 65:02} {20 + i} {21 + i} 1")
@@ -133,7 +133,7 @@ def open_ends(program: str, checks: Checks) -> None:
 
 
 def entries(program: str, checks: Checks) -> None:
-    """As many entries as a round may have, of which the last is kept for the end of a live flush."""
+    """The most entries of a round, the last of which is reserved for the end of a live flush."""
     it = Script()
     it.admit("admit A s 10 20 1")
     it.flush(1, 1)
@@ -152,7 +152,7 @@ def entries(program: str, checks: Checks) -> None:
 
 
 def counted(bounds: int, start: int, least: int) -> dict[str, Any]:
-    """A histogram's point whose buckets have this many points, one more, two more and so on."""
+    """A histogram's point with `least` points in its first bucket, and one more in each further bucket."""
     counts = list(range(least, least + bounds + 1))
     return {"startTimeUnixNano": start, "timeUnixNano": start + 10, "count": sum(counts), "sum": start,
             "explicitBounds": list(range(bounds)), "bucketCounts": counts}

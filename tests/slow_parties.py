@@ -34,7 +34,7 @@ from testing.loopback import BackEnd, Gateway, ordered, point, posted, read_all,
 from testing.service import wait_until
 from testing.shipped import listens
 
-# What a request and an answer may take, as docs/FORMATS.md has it, and what the test allows beside.
+# How long a request and an answer may take by docs/FORMATS.md, and the test's tolerance.
 REQUEST_SECONDS = 60
 ANSWER_SECONDS = 30
 REFUSED_SECONDS = 5
@@ -64,12 +64,12 @@ def asked(gateway: Gateway, request: bytes) -> tuple[bytes | str, float]:
 
 
 def batch(number: int, name: str = "a") -> bytes:
-    """A post of one point behind those of lower numbers."""
+    """A post of one point, after those with lower numbers."""
     return posted(point(10 * number + 10, 10 * number + 20, 1, name))
 
 
 def report(points: int, name: str = "a") -> bytes:
-    """What is printed at the end of so many batches."""
+    """What the gateway prints at the end of this many batches."""
     frontier = 10 * points + 10
     return (f"series {name} monotonic owner A frontier {frontier} accepted {points},{points},0 acknowledged 0,0,0 "
             f"dropped 0,0,0 in-flight 0,0,0 stored {points},{points},0 quarantined 0,0,0\nend\n"
@@ -77,13 +77,13 @@ def report(points: int, name: str = "a") -> bytes:
 
 
 def end_of(gateway: Gateway) -> Any:
-    """The status and what was printed, once the gateway has ended."""
+    """The status and the output, after the gateway has ended."""
     out, err = gateway.process.communicate(timeout=4 * REQUEST_SECONDS)
     return gateway.process.returncode, out, err
 
 
 class Slow(threading.Thread):
-    """A slow sender: what it does on its connection, what it read at last, and the seconds up to then."""
+    """A slow sender: what it does on its connection, what it read at last, and the seconds until then."""
 
     def __init__(self, connection: socket.socket | None, act: Callable[[socket.socket], None]) -> None:
         super().__init__(daemon=True)
@@ -114,7 +114,7 @@ def stall_in_body(connection: socket.socket) -> None:
 
 
 def trickle(connection: socket.socket) -> None:
-    """A byte a second, for as long as somebody takes them."""
+    """Sends a byte a second until the connection is closed."""
     connection.sendall(b"POST /v1/metrics HTTP/1.1\r\nContent-Length: 900\r\n\r\n")
     for _ in range(900):
         connection.sendall(b" ")
@@ -122,7 +122,7 @@ def trickle(connection: socket.socket) -> None:
 
 
 def late(connection: socket.socket) -> None:
-    """A body that is whole after three quarters of its time."""
+    """Completes a body after three quarters of its time."""
     request = batch(0, "late")
     connection.sendall(request[:-100])
     time.sleep(REQUEST_SECONDS * 3 / 4)
@@ -130,7 +130,7 @@ def late(connection: socket.socket) -> None:
 
 
 def slow_sender(program: str, checks: Checks, what: str, act: Callable[[socket.socket], None]) -> None:
-    """A slow sender in the first round; the posts of others."""
+    """A slow sender in the first round, and the posts of others."""
     posts = ROUND + 4
     gateway = Gateway(program, NOBODY, 1 + posts, options=["--round", str(ROUND), "--receivers", "4"])
     slow = Slow(gateway.connect(), act)
@@ -161,7 +161,7 @@ def never_reads(connection: socket.socket) -> None:
 
 
 def narrow(gateway: Gateway) -> socket.socket:
-    """A connection that takes few bytes until they are read."""
+    """A connection with a small receive buffer."""
     connection = socket.socket()
     connection.setsockopt(socket.IPPROTO_TCP, socket.TCP_MAXSEG, 536)
     connection.setsockopt(socket.SOL_SOCKET, socket.SO_RCVBUF, 4096)
@@ -170,7 +170,7 @@ def narrow(gateway: Gateway) -> socket.socket:
 
 
 def many_series(count: int) -> bytes:
-    """A body with one point of each of so many series."""
+    """A body with one point of each of this many series."""
     one = '{{"name":"s{:04}","sum":{{"aggregationTemporality":1,"isMonotonic":true,"dataPoints":[{{"asInt":"1",' \
           '"startTimeUnixNano":"10","timeUnixNano":"20"}}]}}}}'
     metrics = ",".join(one.format(number) for number in range(count))
@@ -178,7 +178,7 @@ def many_series(count: int) -> bytes:
 
 
 def slow_reader(program: str, checks: Checks) -> None:
-    """A client that never reads its answer, which is longer than what sockets keep."""
+    """A client that never reads its answer, which is longer than the sockets' buffers."""
     posts = ROUND + 4
     gateway = Gateway(program, NOBODY, 2 + posts, options=["--round", str(ROUND), "--receivers", "4"])
     checks.same("a slow reader: 9,000 series", DONE, asked(gateway, many_series(9000))[0])
@@ -197,7 +197,7 @@ def slow_reader(program: str, checks: Checks) -> None:
 
 
 def crowd(program: str, checks: Checks, count: int, seconds: float) -> None:
-    """So many senders stall at 8 receivers, and one more comes."""
+    """This many senders stall at 8 receivers, and one more comes."""
     gateway = Gateway(program, NOBODY, count + 1, options=["--receivers", "8"])
     slow = [Slow(gateway.connect(), stall_in_body) for _ in range(count)]
     time.sleep(0.5)
@@ -210,7 +210,7 @@ def crowd(program: str, checks: Checks, count: int, seconds: float) -> None:
 
 
 def long_bodies(program: str, checks: Checks) -> None:
-    """A client that sends all before it reads."""
+    """A client that sends everything before it reads."""
     sizes = (9, 20, 50)
     gateway = Gateway(program, NOBODY, len(sizes))
     for size in sizes:
@@ -245,7 +245,7 @@ def refused_sender(program: str, checks: Checks) -> None:
 
 
 def refused_whole(program: str, checks: Checks) -> None:
-    """Senders whose request is whole and refused, and who keep their side open and say nothing more."""
+    """Senders whose whole request is refused, and who keep their side open and say nothing more."""
     refused = [
         ("out of order", batch(0), b'{"message":"out of order: point 0, frontier 20"}'),
         ("no JSON", posted(b"{"), b'{"message":"not JSON"}'),
@@ -266,7 +266,7 @@ def refused_whole(program: str, checks: Checks) -> None:
 
 
 def stop_and_go(gateway: Gateway) -> None:
-    """Stops the gateway while it waits, and lets it go on."""
+    """Stops the gateway while it waits, and continues it."""
     for pause in (signal.SIGSTOP, signal.SIGCONT):
         time.sleep(0.5)
         gateway.process.send_signal(pause)
@@ -274,7 +274,7 @@ def stop_and_go(gateway: Gateway) -> None:
 
 
 class LateBackEnd(BackEnd):
-    """A back end that takes requests and answers them once it is released."""
+    """A back end that takes requests, and answers them after it is released."""
 
     def __init__(self) -> None:
         self.released = threading.Event()
@@ -286,7 +286,7 @@ class LateBackEnd(BackEnd):
 
 
 def stopped(program: str, checks: Checks) -> None:
-    """The gateway is stopped and goes on in the middle of each thing that it waits for."""
+    """The gateway is stopped and continued while it waits for each thing."""
     back_end = LateBackEnd()
     gateway = Gateway(program, back_end.port, 6, options=["--receivers", "2"])
     wait_until(lambda: listens(gateway.port))
@@ -321,13 +321,13 @@ def stopped(program: str, checks: Checks) -> None:
     settled = response(b"200 OK", b"application/json", b'{"act":"settled","flush":"1","points":"1000"}')
     checks.same("stopped before a back end answers: the flush is settled", [settled], turns)
     status, out, err = end_of(gateway)
-    # Both points of the series that comes first were forwarded as one.
+    # Both points of the first series were forwarded as one.
     checks.same("stopped: the end", (0, b"admitted 9002 acknowledged 1001", b""), (status, out.splitlines()[-1], err))
     back_end.close()
 
 
 class HungBackEnd(BackEnd):
-    """A back end that takes requests and answers none until it is released."""
+    """A back end that takes requests, and answers none until it is released."""
 
     def __init__(self) -> None:
         self.released = threading.Event()

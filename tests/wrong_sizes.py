@@ -1,15 +1,16 @@
 #!/usr/bin/env python3
-"""Tries wrong gateways: a check of tests/gateway_sizes.py has to find what is wrong with each.
+"""Builds wrong gateways: for each a check of tests/gateway_sizes.py must find the mistake.
 
     tests/wrong_sizes.py [NAME ..]
 
-Each file wrong_sizes/NAME.edit makes a gateway that answers `no memory` where there is some, which no contract refuses.
-Behind `check:` it names the check that has to find it. The rest has the form of an edit of a crate: lines `file:`, `old:`,
-`new:`, where the old text is in that file exactly once. All edits, or those that are named, are tried one after another: the
-gateway is built with no proof, by tests/testing/unproved.py, in out/wrong_sizes. `none` is the gateway as it is, which all checks
-have to pass.
+Each file wrong_sizes/NAME.edit makes a gateway that answers `no memory` although there is some, which no contract
+excludes. `check:` names
+the check that must find it. The other lines are `file:`, `old:` and `new:`, as in an edit of a crate; the old text must
+occur exactly once
+in the file. All edits, or the named ones, are tried one after another: tests/testing/unproved.py builds the gateway without a proof in
+out/wrong_sizes. `none` is the unchanged gateway, which must pass all checks.
 
-A line for each; the last line counts those that were found and those that were not, and the status is 0 where all were.
+It prints a line for each. The last line counts those that were found and not found; the status is 0 if all were found.
 """
 import os
 import re
@@ -29,7 +30,7 @@ LIMIT = 1200
 
 
 def copy_crates() -> None:
-    """The crates as they are."""
+    """Copies the crates as they are."""
     shutil.rmtree(FOLDER, ignore_errors=True)
     shutil.copytree(f"{ROOT}/crates", f"{FOLDER}/crates", ignore=shutil.ignore_patterns("out"))
     for name in ("crates.txt", "HANDLES"):
@@ -37,7 +38,7 @@ def copy_crates() -> None:
 
 
 def apply(name: str) -> str | None:
-    """Makes an edit in the copy, and returns its check. What it says wrongly is an error."""
+    """Applies an edit to the copy, and returns its check. A wrong edit ends the script."""
     check = path = old = None
     with open(f"{EDITS}/{name}.edit", encoding="utf-8") as edit:
         lines = edit.read().splitlines()
@@ -61,13 +62,13 @@ def apply(name: str) -> str | None:
 
 
 def built() -> str:
-    """The path of the copy's gateway. Where it can't be built, the program ends."""
+    """The path of the copy's gateway. Ends the script if it cannot be built."""
     program, said = unproved.build(FOLDER, f"{FOLDER}/gateway")
     return program or sys.exit(f"the gateway could not be built:\n{said}")
 
 
 def seen(program: str, checks: list[str | None]) -> str | None:
-    """The first check that fails, or nothing."""
+    """The first check that fails, or None."""
     ran = subprocess.run([TEST, program, *checks], stdout=subprocess.PIPE, text=True, timeout=LIMIT, check=False)
     failed = re.search(r"^failed: (.*)$", ran.stdout, re.MULTILINE)
     if failed or ran.returncode:
