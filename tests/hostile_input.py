@@ -64,7 +64,7 @@ def break_off(gateway: Gateway, part: bytes) -> None:
 
 
 def end_early(gateway: Gateway, part: bytes) -> bytes | str:
-    """Sends a part of a message and nothing more, and gives the answer."""
+    """Sends a part of a message and nothing more. Returns the answer."""
     connection = gateway.connect()
     if connection is None:
         return "no connection"
@@ -75,7 +75,7 @@ def end_early(gateway: Gateway, part: bytes) -> bytes | str:
 
 
 def bad_inputs(program: str, checks: Checks) -> None:
-    """The inputs, and messages that break off or end, at one gateway."""
+    """The inputs, and messages that break off or end early, at one gateway."""
     message = posted(point(10, 20, 5))
     cuts = [1, 30, len(message) - 100, len(message) - 1]
     gateway = Gateway(program, 9, len(INPUTS) + len(cuts) + len(message))
@@ -90,7 +90,7 @@ def bad_inputs(program: str, checks: Checks) -> None:
 
 
 class HalfBackEnd(BackEnd):
-    """A back end that holds the first request in its middle, and then closes."""
+    """A back end that stops in the middle of the first request, and then closes."""
 
     def __init__(self) -> None:
         self.reached = threading.Event()
@@ -108,7 +108,7 @@ class HalfBackEnd(BackEnd):
 
 
 def later(gateway: Gateway, request: bytes, answers: list[bytes | str]) -> threading.Thread:
-    """Asks in a thread of its own."""
+    """Sends a request in a thread of its own."""
     def ask() -> None:
         answers.append(gateway.ask(request))
     thread = threading.Thread(target=ask)

@@ -76,7 +76,7 @@ DELTA, CUMULATIVE = 1, 2
 
 
 def add_field(message: Any, words: str) -> None:
-    """A field by its line in MESSAGES."""
+    """Adds the field that a line of MESSAGES describes."""
     name, number, kind, how = words.split()
     field = message.field.add(name=name, number=int(number))
     field.label = field.LABEL_REPEATED if how == "many" else field.LABEL_OPTIONAL
@@ -126,7 +126,7 @@ TEXTS = ["", "a", "service.name", "µs/ß", "😀 and \u0000", 'quote " and \\',
 
 
 def fill_value(chance: random.Random, value: Any, deep: bool = True) -> None:
-    """A value of the profile."""
+    """Fills in a value that the profile allows."""
     kind = chance.randrange(6 if deep else 4)
     if kind == 1:
         value.string_value = chance.choice(TEXTS)
@@ -141,7 +141,7 @@ def fill_value(chance: random.Random, value: Any, deep: bool = True) -> None:
 
 
 def fill_attributes(chance: random.Random, attributes: Any, first: int | None = None) -> None:
-    """A few attributes with keys that differ."""
+    """Adds a few attributes with different keys."""
     for key in chance.sample(TEXTS, chance.randrange(4)):
         entry = attributes.add(key=key)
         fill_value(chance, entry.value)
@@ -150,7 +150,7 @@ def fill_attributes(chance: random.Random, attributes: Any, first: int | None = 
 
 
 def value_of(value: Any) -> tuple[Any, Any]:
-    """What identifies of a value."""
+    """The part of a value that identifies it."""
     kind = value.WhichOneof("value")
     if kind == "array_value":
         return kind, tuple(value_of(one) for one in value.array_value.values)
@@ -162,7 +162,7 @@ def attributes_of(attributes: Any) -> frozenset[Any]:
 
 
 def fill_point(chance: random.Random, metric: Any, start: int, whole: bool) -> bool:
-    """A point of the metric; whether it is of the profile, where doubles are written as whole numbers or not."""
+    """Adds a point to the metric. Returns whether the profile allows it, which depends on whether doubles are written as whole numbers."""
     data = getattr(metric, metric.WhichOneof("data"))
     point = data.data_points.add(start_time_unix_nano=start, time_unix_nano=start + chance.randrange(1, 10))
     fill_attributes(chance, point.attributes)
@@ -201,7 +201,7 @@ def fill_metric(chance: random.Random, metric: Any, number: int) -> None:
 
 
 def fill_request(chance: random.Random, request: Any, number: int, start: int, whole: bool) -> tuple[list[Any], int]:
-    """A request, as a list of its points of the profile as they are forwarded, and how many others it has."""
+    """Fills in a request. Returns its points of the profile as they are forwarded, and how many others it has."""
     points: list[Any] = []
     foreign = 0
     for which in range(chance.randrange(1, 3)):
@@ -224,7 +224,7 @@ def fill_request(chance: random.Random, request: Any, number: int, start: int, w
 
 
 def later(request: Any, shift: int, points: list[Any]) -> list[Any]:
-    """The same points, that much later."""
+    """The same points, this much later."""
     for group in request.resource_metrics:
         for part in group.scope_metrics:
             for metric in part.metrics:
@@ -235,7 +235,7 @@ def later(request: Any, shift: int, points: list[Any]) -> list[Any]:
 
 
 def point_of(group: Any, part: Any, metric: Any, place: int) -> tuple[Any, Any, Any]:
-    """What a point of the profile is forwarded by: its series, its span, and its value or (buckets, sum)."""
+    """A point of the profile as it is forwarded: its series, its interval, and its value or (buckets, sum)."""
     kind = metric.WhichOneof("data")
     data = getattr(metric, kind)
     point = data.data_points[place]
@@ -251,7 +251,7 @@ def point_of(group: Any, part: Any, metric: Any, place: int) -> tuple[Any, Any, 
 
 
 def added(points: list[Any]) -> dict[Any, Any]:
-    """One point a series: over all spans, of all values."""
+    """One point for each series, over all intervals and of all values."""
     found: dict[Any, Any] = {}
     for series, (start, end), value in points:
         if series not in found:
@@ -277,7 +277,7 @@ def whole_numbers(value: Any) -> Any:
 
 
 def written(request: Any, how: str) -> tuple[str, bytes]:
-    """The kind and the bytes of a request."""
+    """The media type and the bytes of a request."""
     if how == "protobuf":
         return PROTOBUF, request.SerializeToString()
     if how == "JSON with the names of the definitions":
@@ -298,11 +298,11 @@ class Alone:
         self.port = gateway_at(stack, gateway, self.back_end.port).port
 
     def reads(self, how: str) -> bool:
-        """Whether whole doubles are read as they are written so."""
+        """Whether the gateway accepts whole doubles in this form."""
         return how == "JSON with whole numbers"
 
     def forwarded(self, message: Any) -> list[Any]:
-        """What one flush forwards. Unknown names and wrong types are refused."""
+        """The points that one flush forwards. Unknown names and wrong types are errors."""
         self.back_end.bodies.clear()
         flush_all(self.port)
         return [json_format.Parse(body, message(), ignore_unknown_fields=False) for body in self.back_end.bodies]
@@ -318,14 +318,14 @@ class Served:
         self.sink = OtlpSink()
         stack.callback(self.sink.close)
         data = stack.enter_context(tempfile.TemporaryDirectory(prefix="bodies-"))
-        # No flush but those that are ordered.
+        # Only orders flush.
         self.service = Service(totxegun, f"{data}/data", self.sink.address, "--sink-protobuf", "--flush-interval", "1h",
                                "--integer-unit", "off", "--cumulative", "off")
         stack.callback(self.service.kill)
         self.service.start()
         if not self.service.wait_ready():
             raise OSError(f"the service is not ready: {self.service.last_lines()}")
-        self.service.order("/flush")  # the first one is due at once
+        self.service.order("/flush")  # the first flush is due at once
         self.port = self.service.listen
 
     def reads(self, how: str) -> bool:
@@ -358,7 +358,7 @@ def rejected(response: Any, kind: str, text: bytes) -> int:
 
 
 def one_round(classes: dict[str, Any], checks: Checks, party: Alone | Served, number: int) -> tuple[int, int]:
-    """Requests of one kind of writing, posted one after another, and the flush of them."""
+    """Posts requests in one form, one after another, and flushes them."""
     chance = random.Random(SEED + number)
     how = party.writings[number % len(party.writings)]
     request = classes["ExportMetricsServiceRequest"]()

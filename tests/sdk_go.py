@@ -44,17 +44,17 @@ PACKAGES = {"golang-opentelemetry-otel-dev": "go.opentelemetry.io/otel/sdk/metri
             "golang-google-grpc-dev": "google.golang.org/grpc", "golang-google-protobuf-dev": "google.golang.org/protobuf"}
 SECONDS = 8
 DELTA, CUMULATIVE = 1, 2
-# How each program sends: the encoding, whether packed, whether it measures seconds, and its temporality.
+# How each program sends: the encoding, whether compressed, whether it measures seconds, and its temporality.
 PROGRAMS = [(encoding, packed, in_seconds, temporality)
             for encoding, packed in (("json", False), ("protobuf", True), ("grpc", False)) for in_seconds in (False, True)
             for temporality in (DELTA, CUMULATIVE)]
-# What becomes of each program, round by round.
+# The end of each program, round by round.
 ENDS, IS_KILLED = "ends", "is killed"
 ROUNDS = (ENDS, IS_KILLED, ENDS)
 TOTALS = """
 select coalesce(json_agg(json_build_array(name, unit, attributes, total, buckets)), '[]') from totxegun.totals
 where resource->>'service.instance.id' = '{}'"""
-# What a sender may be answered while the service is killed.
+# The answers that a sender may get while the service is killed.
 EXPECTED = ("200", "503", "no answer", "no whole answer", "OK", "Unavailable", "Unavailable with RetryInfo", "Canceled",
             "DeadlineExceeded")
 
@@ -66,7 +66,7 @@ def missing() -> list[str]:
 
 
 def build(folder: str) -> tuple[str, str]:
-    """The program, and OTLP's messages beside it; or what the compiler said."""
+    """Builds the program, and writes OTLP's messages beside it. Returns its path and the compiler's errors, "" if it compiled."""
     program = f"{folder}/sender"
     with open(f"{folder}/descriptors", "wb") as file:
         file.write(file_of_definitions())
@@ -101,7 +101,7 @@ class File:
         self.address = f"sqlite:{self.path}"
 
     def rows(self, instance: str) -> Any:
-        """Of a program each series: name, unit, attributes, total and buckets."""
+        """Each series of a program: name, unit, attributes, total and buckets."""
         query = "select name, unit, attributes, total, buckets from totals where resource like ?"
         with contextlib.closing(sqlite3.connect(f"file:{self.path}?mode=ro", uri=True)) as database:
             rows = database.execute(query, (f'%"{instance}"%',)).fetchall()
@@ -109,14 +109,14 @@ class File:
                 for name, unit, attributes, total, counts in rows]
 
     def kill(self) -> None:
-        """It has no process."""
+        """Does nothing: a file has no process."""
 
     def close(self) -> None:
-        """As above."""
+        """Does nothing."""
 
 
 class Postgres:
-    """A PostgreSQL of its own."""
+    """A PostgreSQL server of its own."""
 
     name = "PostgreSQL"
 
@@ -139,7 +139,7 @@ class Postgres:
 
 
 def trouble(service: Service, sink: Any, seconds: float) -> int:
-    """Kills, of which every other one is soon after a start."""
+    """Kills the service; every other kill comes soon after a start."""
     until, kills = time.monotonic() + seconds, 0
     while time.monotonic() < until:
         time.sleep(0.1 if kills % 2 else 0.7)
@@ -162,7 +162,7 @@ def add(all_: Any, told: Any) -> None:
 
 
 def told_of(folder: str, number: int) -> tuple[list[dict[str, Any]], dict[str, Any]]:
-    """What a program counted in all rounds, in each way that may be; and what it was answered."""
+    """What a program counted in all rounds, in each form that it may have, and what it was answered."""
     ways: list[dict[str, Any]] = [{"totals": {}, "buckets": {}} for _ in range(2)]
     answers: dict[str, Any] = {"answers": {}, "rejected": 0, "gave_up": 0}
     for round_, end in enumerate(ROUNDS):
@@ -179,7 +179,7 @@ def told_of(folder: str, number: int) -> tuple[list[dict[str, Any]], dict[str, A
 
 
 def found_of(sink: File, number: int) -> tuple[dict[str, Any], set[tuple[str, str]]]:
-    """What the sink has of a program: totals and buckets, by name and route; and the units."""
+    """What the sink has of a program: totals and buckets by name and route, and the units."""
     found: dict[str, Any] = {"totals": {}, "buckets": {}}
     units: set[tuple[str, str]] = set()
     for name, unit, attributes, total, counts in sink.rows(f"i-{number}"):
@@ -225,7 +225,7 @@ def look_at_others(checks: Checks, receiver: Receiver) -> None:
 
 
 def rounds(checks: Checks, program: str, folder: str, service: Service, grpc: int, sink: Any, seconds: float) -> int:
-    """Has all programs work, and be killed or end; how often the service was killed."""
+    """Runs all programs, which end or are killed. Returns how often the service was killed."""
     kills = 0
     for round_, end in enumerate(ROUNDS):
         programs = [start(program, folder, service, grpc, number, round_, seconds / len(ROUNDS) if end == ENDS else 600)
@@ -253,7 +253,7 @@ def run(checks: Checks, totxegun: str, seconds: float, folder: str, program: str
             what = f"{sink.name}, {encoding}{', gzip' if packed else ''}, {'seconds' if in_seconds else 'whole numbers'}"
             what += f", {'delta' if temporality == DELTA else 'cumulative'}"
             compare(checks, what, sink, number, folder)
-        # They are counted since the last start.
+        # The service counts these since its last start.
         rounded = service.status()["rounded"]
         checks.true("sums of doubles were rounded by next to nothing",
                     all(one["rule"] == "s=1000000:us" and one["together"] < 0.01 for one in rounded), rounded)

@@ -33,43 +33,43 @@ from typing import Any, NamedTuple, Optional
 
 from testing.checks import Checks
 
-ALWAYS = 99  # a time behind all others
-GONE = (-1, -1)  # a life in whose place is another one
+ALWAYS = 99  # a time after all others
+GONE = (-1, -1)  # replaces the identity of a life that another one has replaced
 
 
 @dataclasses.dataclass(frozen=True)
 class Rules:
-    """What keeps the sink from counting twice. Each is a switch, so that the search can do without it."""
+    """The rules that keep the sink from counting twice. Each is a switch, so that the search can turn it off."""
 
-    # A key is taken once.
+    # A key is accepted once.
     keys_are_taken_once: bool = True
-    # A request that was not added is not added when it is sent again.
+    # A request that was not added the first time is not added when it is sent again.
     what_was_not_added_never_is: bool = True
-    # What is sent in order begins where the series ends, or later.
+    # A request that is sent in order begins at the series' end or later.
     what_is_in_order_begins_at_the_end: bool = True
-    # What is sent in order is so also if a later number was taken: a copy that nobody could see sent it.
+    # Such a request counts as in order even if a later number was accepted, which then came from a copy that nobody could see.
     only_what_is_sent_by_hand_is_late: bool = True
-    # What is sent again by hand, behind later ones, begins at the floor of its life, or later.
+    # A request that is sent again by hand, after later ones, begins at the floor of its life or later,
     letters_begin_at_the_floor: bool = True
-    # It begins at the end of the series, where another life added last.
+    # but at the series' end if another life added last,
     letters_of_other_lives_begin_at_the_end: bool = True
-    # What was made before the series was put back begins at the end of the series.
+    # or if it was made before a rewind of the series.
     letters_of_before_a_rewind_begin_at_the_end: bool = True
-    # A letter that begins at the end of the series moves the floor there, too.
+    # A dead letter that begins at the series' end also moves the floor there.
     letters_at_the_end_move_the_floor: bool = True
     # The floor is where the series ended when its life began to add.
     a_life_has_its_own_floor: bool = True
-    # A rewind begins a life of its series, or its floor.
+    # A rewind begins a life of its series, or moves its floor.
     a_rewind_moves_the_floor: bool = True
-    # A rewind is a boundary for what was made before.
+    # A rewind is a boundary for requests that were made before it.
     a_rewind_is_a_boundary: bool = True
-    # An epoch that goes on from another is of its life,
+    # An epoch that continues another one belongs to that one's life,
     an_epoch_that_goes_on_is_of_the_life: bool = True
-    # unless the sink has requests of that life beyond.
+    # unless the sink has later requests of that life.
     an_epoch_that_lacks_some_begins_a_life: bool = True
-    # Another request under a key that was taken begins a life.
+    # Another request under an accepted key begins a life.
     another_request_of_a_key_begins_a_life: bool = True
-    # An operator's order to forget a series is a boundary for what was made before.
+    # An operator's order to forget a series is a boundary for requests that were made before it.
     an_order_to_forget_is_a_boundary: bool = True
 
 
