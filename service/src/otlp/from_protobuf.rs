@@ -5,7 +5,7 @@
 
 use super::output::Output;
 use super::schema::{exponential_histogram, Field, Kind, Message, Wire, EXEMPLAR, KEY_VALUE, REQUEST};
-use super::wire::{fixed64s, numbers, Fields, Payload};
+use super::wire::{fields, fixed64s, numbers, Fields, Payload};
 use super::{Reading, Refused};
 
 /// Messages may be nested as deep as protobuf's own readers allow.
@@ -39,19 +39,22 @@ fn refused(message: &Message, what: impl std::fmt::Display) -> Refused {
     Refused::Unreadable(format!("not protobuf of OTLP: {}: {what}", message.name))
 }
 
-/// Refuses a message of which a field is malformed, or of another wire type, or would be lost.
-fn check(of: &Message, bytes: &[u8]) -> Result<(), Refused> {
+/// Refuses a message of which a field is malformed, or of another wire type, or would be lost. The fields that are there, a bit each.
+fn check(of: &Message, bytes: &[u8]) -> Result<u32, Refused> {
+    let mut there = 0;
     for next in Fields::of(bytes) {
         let (number, payload) = next.map_err(|malformed| refused(of, malformed))?;
-        match (of.numbered(number), of.lost(number)) {
-            (Some(field), _) if !is_payload_of(field.kind, payload) => {
+        let place = of.fields.iter().position(|field| u32::from(field.number) == number);
+        match (place.map(|place| (place, &of.fields[place])), of.lost(number)) {
+            (Some((_, field)), _) if !is_payload_of(field.kind, payload) => {
                 return Err(refused(of, format_args!("{} of another wire type", field.name)))
             }
+            (Some((place, _)), _) => there |= 1 << place,
             (None, Some(lost)) => return Err(refused(of, format_args!("{} {}", lost.names[0], lost.why))),
-            _ => {} // another unknown field says nothing
+            (None, None) => {} // another unknown field says nothing
         }
     }
-    Ok(())
+    Ok(there)
 }
 
 /// What a message has of a field, in order.
@@ -71,9 +74,9 @@ impl<'a> Iterator for Found<'a> {
 }
 
 impl<'a> Found<'a> {
-    /// What does not count, and what does: of fields of which a message has one that is what is behind the last other one ("Oneof
-    /// Features" of protobuf's language guide).
-    fn both(of: &Message, field: &Field, bytes: &'a [u8]) -> [Found<'a>; 2] {
+    /// The bytes of what does not count, and what does: of fields of which a message has one that is what is behind the last other
+    /// one ("Oneof Features" of protobuf's language guide).
+    fn both(of: &Message, field: &Field, bytes: &'a [u8]) -> (&'a [u8], Found<'a>) {
         let number = field.number.into();
         let mut fields = Fields::of(bytes);
         let mut counted = fields;
@@ -86,7 +89,7 @@ impl<'a> Found<'a> {
             }
         }
         let before = &bytes[..bytes.len() - counted.rest().len()];
-        [Fields::of(before), counted].map(|fields| Found { fields, number })
+        (before, Found { fields: counted, number })
     }
 
     fn is_any(mut self) -> bool {
@@ -141,22 +144,27 @@ impl<'r> Writer<'r> {
         if depth >= MAX_DEPTH {
             return Err(refused(of, "nested too deep"));
         }
-        check(of, bytes)?;
+        let there = check(of, bytes)?;
         self.out.push("{");
         let inside = self.out.text.len();
-        for field in of.fields {
-            // Also what does not count is read: the readers of C++ and Go refuse what is malformed in it.
-            for (found, counts) in Found::both(of, field, bytes).into_iter().zip([false, true]) {
-                if !found.is_any() {
-                    continue;
-                }
-                let from = self.out.text.len();
-                self.out.separate(inside);
-                self.out.push(field.written);
-                self.value(of, field, found, depth)?;
-                if !counts || matches!(field.kind, Kind::Exemplars) {
+        let there = of.fields.iter().enumerate().filter(|(place, _)| there & 1 << place != 0);
+        for (_, field) in there {
+            let (before, counted) = Found::both(of, field, bytes);
+            let from = self.out.text.len();
+            // Also what does not count is read, each by itself: the readers of C++ and Go refuse what is malformed in it.
+            for (number, _, raw) in fields(before).into_iter().flatten() {
+                if number == counted.number {
+                    self.value(of, field, Found { fields: Fields::of(raw), number }, depth)?;
                     self.out.text.truncate(from);
                 }
+            }
+            if counted.is_any() {
+                self.out.separate(inside);
+                self.out.push(field.written);
+                self.value(of, field, counted, depth)?;
+            }
+            if let Kind::Exemplars = field.kind {
+                self.out.text.truncate(from);
             }
         }
         self.out.push("}");
@@ -214,7 +222,7 @@ impl<'r> Writer<'r> {
         }
         let mut whole = Vec::new();
         for part in all {
-            check(of, part.bytes())?;
+            let _there = check(of, part.bytes())?;
             whole.extend_from_slice(part.bytes());
         }
         let may_copy = self.may_copy.checked_sub(whole.len());

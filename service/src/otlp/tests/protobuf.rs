@@ -144,3 +144,17 @@ fn a_part_that_is_cut_is_refused() {
         assert_eq!(read(whole).series.len(), 1);
     }
 }
+
+/// Each that another one takes the place of goes by itself: they are no parts of one.
+#[test]
+fn values_that_take_each_other_s_place_are_read_however_many_they_are() {
+    let (list, text) = (bytes(5, &bytes(1, &bytes(1, b"in a list"))), bytes(1, b"t"));
+    let turns = [list.clone(), text.clone()].concat().repeat(500);
+    let read = read(sum(&[point(&attribute(&turns))]));
+    let series: Vec<String> = read.series.into_keys().map(|key| key.0.to_string()).collect();
+    assert_eq!(series, [r#"[[],"","",[],"","","sum",[{"key":"k","value":{"stringValue":"t"}}]]"#]);
+    // What is malformed in one of them is refused, though it does not count.
+    let cut = [bytes(5, &[10, 9, 1]), text].concat();
+    let refused = prepared(Encoding::Protobuf, sum(&[point(&attribute(&cut))])).unwrap_err();
+    assert!(refused.contains("ArrayValue: cut within a field"), "{refused}");
+}
