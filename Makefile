@@ -43,8 +43,8 @@ check: ## checks one crate: make check NAME=delta_book
 	@tools/toolchain
 	@tools/check.py $(NAME)
 
-# NAME is a crate or a folder of service/src: make quick NAME=delta_book, make quick NAME=sinks/postgres.
-quick: ## checks one part, and runs its tests: make quick NAME=sinks
+# NAME is a crate or a folder of service/src: make quick NAME=delta_book, make quick NAME=sink/postgres.
+quick: ## checks one part, and runs its tests: make quick NAME=sink
 	@tools/quick.py $(NAME)
 
 fmt: ## lays out the code of the service, and of the crates if the toolchain is there

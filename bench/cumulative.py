@@ -67,7 +67,7 @@ def snapshot(arguments: argparse.Namespace, kind: str) -> float:
             raise SystemExit("the sink has not all of it")
         one.kill()
         start(one)
-        latest = max(glob.glob(f"{one.data}/slot-0/outbox/*"), key=os.path.getmtime)
+        latest = max(glob.glob(f"{one.data}/shard-0/outbox/*"), key=os.path.getmtime)
         return float(os.path.getsize(latest) / arguments.series)
 
 

@@ -189,7 +189,7 @@ def resident(arguments: argparse.Namespace) -> None:
 
 
 def record(kind: int, *parts: bytes) -> bytes:
-    """A record of a file, as service/src/files/records.rs has it."""
+    """A record of a file, as service/src/storage/records.rs has it."""
     inner = bytes([kind]) + b"".join(parts)
     return struct.pack("<II", len(inner), zlib.crc32(inner)) + inner
 
@@ -242,14 +242,14 @@ def backlog(arguments: argparse.Namespace) -> None:
         one.end()
         with open(f"{one.data}/version", encoding="ascii") as file:
             epoch = re.search(r"epoch (\w+)", file.read())[1]
-        journal = int(os.path.basename(segments(f"{one.data}/slot-0/journal")[-1]).split(".")[0])
-        size = write_outbox(f"{one.data}/slot-0/outbox", epoch, journal, arguments.requests)
+        journal = int(os.path.basename(segments(f"{one.data}/shard-0/journal")[-1]).split(".")[0])
+        size = write_outbox(f"{one.data}/shard-0/outbox", epoch, journal, arguments.requests)
         took: list[float] = []
         for _ in range(arguments.times):
             begun = time.monotonic()
             start(one)
             took.append(time.monotonic() - begun)
-            waiting = one.status()["slots"][0]["waiting"]
+            waiting = one.status()["shards"][0]["waiting"]
             one.kill()
         print(f"{waiting:,} requests in the outbox, {size >> 20} MB: ready in {spread(took, '.2f')} s", flush=True)
 
@@ -275,13 +275,13 @@ def bytes_written(arguments: argparse.Namespace) -> None:
         senders = Senders(one.listen, CLIENTS, Posts("sum", 20, SERIES, "json", "kept"))
         points = journal = bodies = 0
         for _ in range(10):
-            before = one.status()["slots"][0]["journal"]["bytes"]
+            before = one.status()["shards"][0]["journal"]["bytes"]
             loaded = posted_all(senders, arguments.posts[0] // 10)
             points, bodies = points + 20 * loaded.requests, bodies + loaded.bytes
-            journal += one.status()["slots"][0]["journal"]["bytes"] - before
+            journal += one.status()["shards"][0]["journal"]["bytes"] - before
             order(one, "/flush")
-        waiting = one.status()["slots"][0]["waiting"]
-        forwarded, outbox = map(sum, zip(*map(bytes_of, segments(f"{one.data}/slot-0/outbox"))))
+        waiting = one.status()["shards"][0]["waiting"]
+        forwarded, outbox = map(sum, zip(*map(bytes_of, segments(f"{one.data}/shard-0/outbox"))))
         print(f"{points:,} points in {bodies:,} bytes of posts: the journal has {journal / points:.1f} bytes a point; {waiting} requests of"
               f" {forwarded:,} bytes that are forwarded take {outbox:,} bytes of the outbox, 1 of {forwarded / outbox:.1f}", flush=True)
 

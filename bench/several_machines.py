@@ -2,17 +2,17 @@
 """Measures instances over a store in PostgreSQL with a synchronous standby, and compares them with one over a folder.
 
     bench/several_machines.py [--totxegun FILE] [--parts NAME,..] [--rows NAME,..] [--senders N,..] [--parties NAME,..] [--runs N]
-                              [--seconds N] [--series N] [--slots N] [--times N] [--after N] [--size N] [--data DIR]
+                              [--seconds N] [--series N] [--shards N] [--times N] [--after N] [--size N] [--data DIR]
 
 FILE is bin/totxegun by default, as `make build` makes it. The parts take about ten minutes:
 
   - posts: posts a second, the median and the 99th percentile of a post, and the WAL that the primary writes for one, with 64 and 512
     senders, by rows json-1, json-20 and protobuf-103. Parties: disk, a folder with --durability disk; store, an instance over a store
-    of SLOTS slots (12). A ratio is to disk's run beside it.
+    of SHARDS shards (12). A ratio is to disk's run beside it.
   - wal: for a post of 1 point (or of the first of ROWS), with each number of senders, the records of that WAL by kind, and posts and
     rows in each commit. These do not depend on the machine's load, except through how many posts join a commit.
   - takeover: two instances have 10,000 series, and 32 senders post to one of them. The other is killed: seconds from the kill until the
-    first and the last sender of its slots is answered. It comes back and is ended by SIGTERM: the longest time that a sender of a slot
+    first and the last sender of its shards is answered. It comes back and is ended by SIGTERM: the longest time that a sender of a shard
     that is handed over waits.
   - size: the table of journals and outboxes, with its indexes, while 64 senders post 20 points each for SIZE (120) seconds.
 
@@ -56,7 +56,7 @@ TABLE = "select pg_total_relation_size('totxegun_store.piece')"
 # Of each sender, so that what a run begins with does not count.
 LEAST_POSTS = 20
 PROBES, SERIES = 32, 10_000
-# Who waits for longer had its slot taken over.
+# Who waits for longer had its shard taken over.
 LONG = 1
 SETTLED_WITHIN = 120
 # Seconds between two looks at a table.
@@ -66,8 +66,8 @@ BETWEEN = 5
 class Stores:
     """A database with a standby, made when it is needed: a store in it, new each time."""
 
-    def __init__(self, stack: contextlib.ExitStack, program: str, slots: int) -> None:
-        self.stack, self.program, self.slots = stack, program, slots
+    def __init__(self, stack: contextlib.ExitStack, program: str, shards: int) -> None:
+        self.stack, self.program, self.shards = stack, program, shards
         self.pair: Pair | None = None
 
     def new(self) -> Pair:
@@ -76,7 +76,7 @@ class Stores:
             self.stack.callback(self.pair.close)
             self.pair.make_standby()
         self.pair.ask("drop schema if exists totxegun_store cascade")
-        subprocess.run([self.program, "store", "init", self.pair.address, "--slots", str(self.slots)], check=True,
+        subprocess.run([self.program, "store", "init", self.pair.address, "--shards", str(self.shards)], check=True,
                        stdout=subprocess.DEVNULL)
         return self.pair
 
@@ -171,7 +171,7 @@ def measure_wal(arguments: argparse.Namespace, stores: Stores, sink: OtlpSink) -
             begin = pair.ask(PLACE)
             posts = senders.load(10 * LEAST_POSTS * clients).requests
             found = records(pair, begin, pair.ask(PLACE))
-        print_wal(f"{arguments.rows[0]}, {clients} senders, {arguments.slots} slots", posts, found)
+        print_wal(f"{arguments.rows[0]}, {clients} senders, {arguments.shards} shards", posts, found)
 
 
 def print_wal(what: str, posts: int, found: dict[str, tuple[int, int]]) -> None:
@@ -223,11 +223,11 @@ def probing(service: Service) -> Iterator[list[Probe]]:
             thread.join()
 
 
-def settled(pair: Pair, slots: int) -> None:
-    """Once each of two instances has half of the slots, or nearly."""
-    owners = "select count(*) from totxegun_store.slot where owner = '{}'"
-    if not wait_until(lambda: all(int(pair.ask(owners.format(name))) >= slots // 4 for name in "ab"), SETTLED_WITHIN):
-        raise SystemExit("two instances have not shared the slots out")
+def settled(pair: Pair, shards: int) -> None:
+    """Once each of two instances has half of the shards, or nearly."""
+    owners = "select count(*) from totxegun_store.shard where owner = '{}'"
+    if not wait_until(lambda: all(int(pair.ask(owners.format(name))) >= shards // 4 for name in "ab"), SETTLED_WITHIN):
+        raise SystemExit("two instances have not shared the shards out")
 
 
 def measure_takeover(arguments: argparse.Namespace, stores: Stores, sink: OtlpSink) -> None:
@@ -239,14 +239,14 @@ def measure_takeover(arguments: argparse.Namespace, stores: Stores, sink: OtlpSi
         Senders(stays.listen, PROBES, Posts("sum", 100, SERIES, "protobuf", "kept")).make_series()
         with probing(stays) as probes:
             for _ in range(arguments.times):
-                settled(pair, stores.slots)
+                settled(pair, stores.shards)
                 begun = time.monotonic()
                 lost.kill()
                 time.sleep(arguments.after)
                 ends = [end for gap, end in (probe.gap(begun) for probe in probes) if gap > LONG]
                 firsts, lasts = firsts + [min(ends, default=0)], lasts + [max(ends, default=0)]
                 start(lost)
-                settled(pair, stores.slots)
+                settled(pair, stores.shards)
                 begun = time.monotonic()
                 lost.end()
                 time.sleep(1)
@@ -290,7 +290,7 @@ def main() -> None:
     parser.add_argument("--runs", type=int, default=1)
     parser.add_argument("--seconds", type=float, default=4)
     parser.add_argument("--series", type=int, default=800)
-    parser.add_argument("--slots", type=int, default=12)
+    parser.add_argument("--shards", type=int, default=12)
     parser.add_argument("--times", type=int, default=3)
     parser.add_argument("--after", type=float, default=12)
     parser.add_argument("--size", type=float, default=120)
@@ -298,14 +298,14 @@ def main() -> None:
     loading.build()
     os.makedirs(arguments.data, exist_ok=True)
     tempfile.tempdir = arguments.data
-    print(f"{arguments.totxegun}, {len(os.sched_getaffinity(0))} processors, {arguments.runs} runs in turn, {arguments.slots} slots, all on"
-          f" {file_system(arguments.data)}", flush=True)
+    print(f"{arguments.totxegun}, {len(os.sched_getaffinity(0))} processors, {arguments.runs} runs in turn, {arguments.shards} shards, "
+          f"all on {file_system(arguments.data)}", flush=True)
     signal.signal(signal.SIGTERM, lambda *_: sys.exit(1))
     measures = {"posts": measure_posts, "wal": measure_wal, "takeover": measure_takeover, "size": measure_size}
     with contextlib.ExitStack() as stack:
         sink = OtlpSink()
         stack.callback(sink.close)
-        stores = Stores(stack, arguments.totxegun, arguments.slots)
+        stores = Stores(stack, arguments.totxegun, arguments.shards)
         for part in arguments.parts:
             measures[part](arguments, stores, sink)
 

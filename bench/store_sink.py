@@ -28,7 +28,7 @@ def deliver(program: str, server: Server, folder: str, sink: str, requests: int)
     server.ask(f"create database {store}")
     server.ask("create database apart")
     address = f"postgres://postgres@127.0.0.1:{server.port}"
-    subprocess.run([program, "store", "init", f"{address}/{store}", "--slots", "1"], check=True, capture_output=True)
+    subprocess.run([program, "store", "init", f"{address}/{store}", "--shards", "1"], check=True, capture_output=True)
     where = store if sink == "together" else "apart"
     service = Service(program, f"{folder}/{sink}", f"{address}/{where}", "--store", f"{address}/{store}", "--instance", "a", "--peer",
                       f"127.0.0.1:{free_port()}", "--store-copies", "1", "--flush-interval", "1h")

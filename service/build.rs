@@ -1,4 +1,4 @@
-//! Checks that Cargo.toml has the version of the file VERSION at the top, looks for the allocator that `core/book`
+//! Checks that Cargo.toml has the version of the file VERSION at the top, looks for the allocator that `book/library`
 //! links with, and links the proved book, that is, the library in `book/`, if it is the one that PROVENANCE there
 //! names.
 

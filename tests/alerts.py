@@ -50,7 +50,7 @@ SERIES = 20
 MOST_SERIES, MANY_SENDERS = 1_000, 12
 TOO_MANY = [in_json([(f"more.{sender}.{number}", 10, 20, 1) for number in range(MOST_SERIES * 9 // 10)])
             for sender in range(MANY_SENDERS)]
-RAISE = "update totxegun_store.slot set term = term + 9 where slot = 1"
+RAISE = "update totxegun_store.shard set term = term + 9 where shard = 1"
 # The points a second that a sender may post, and the points of the post that exceeds this quota.
 POINTS, MUCH = 100, 3_000
 SHORT = ((r"for: \d+[mh]", "for: 1s"), (r"\[\d+[mhd]\]", "[6s]"), (r"offset 1[hd]", "offset 6s"), (r"> 300", "> 3"),
@@ -272,11 +272,11 @@ class Causes:
         walreceivers = store.standby.kinds("walreceiver")
         self.sees("StoreInDoubt FewCopies", "a standby that stands still", lambda: stop(walreceivers, signal.SIGSTOP),
                   lambda: stop(walreceivers, signal.SIGCONT))
-        self.sees_repeated("TermsGoUp", "a slot that is taken again and again", lambda: store.primary.ask(RAISE), every=12)
+        self.sees_repeated("TermsGoUp", "a shard that is taken again and again", lambda: store.primary.ask(RAISE), every=12)
         self.service.kill()
         holder = hold_row(store)
         self.service.start()
-        self.sees("NoOwner", "a slot that can't be taken", lambda: None, lambda: let_go(store, holder))
+        self.sees("NoOwner", "a shard that can't be taken", lambda: None, lambda: let_go(store, holder))
 
 
 def stop(pids: list[int], number: int) -> None:
@@ -285,9 +285,9 @@ def stop(pids: list[int], number: int) -> None:
 
 
 def hold_row(store: Pair) -> subprocess.Popen[bytes]:
-    """A session that locks the row of slot 0."""
+    """A session that locks the row of shard 0."""
     place = ("-h", "127.0.0.1", "-p", str(store.primary.port), "-U", "postgres", "-XAtqc")
-    words = ("set application_name = 'holder'; begin; select 1 from totxegun_store.slot where slot = 0 for update; "
+    words = ("set application_name = 'holder'; begin; select 1 from totxegun_store.shard where shard = 0 for update; "
              "select pg_sleep(600)")
     holder = subprocess.Popen([f"{store.primary.programs}/psql", *place, words], stdout=subprocess.DEVNULL,
                               stderr=subprocess.DEVNULL)
@@ -316,7 +316,7 @@ def instance_of_store(program: str, folder: str, sink: Sink, closing: contextlib
     """A store with a standby, and an instance over it."""
     store = Pair()
     closing.callback(store.close)
-    subprocess.run([program, "store", "init", store.address, "--slots", "4"], check=True, capture_output=True)
+    subprocess.run([program, "store", "init", store.address, "--shards", "4"], check=True, capture_output=True)
     store.standby.be_standby_of(store.primary)
     peer = f"127.0.0.1:{free_port()}"
     words = ("--store", store.address, "--instance", "a", "--peer", peer, "--flush-interval", "1s")

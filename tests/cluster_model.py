@@ -3,20 +3,20 @@
 
     tests/cluster_model.py
 
-It needs no program. Two instances share slots whose files are in a store. The owner of a slot has it under a term. It writes to the
-store by syncs. A sync has everything written since the last one, in order, under one number; syncs of several slots in one transaction
+It needs no program. Two instances share shards whose files are in a store. The owner of a shard has it under a term. It writes to the
+store by syncs. A sync has everything written since the last one, in order, under one number; syncs of several shards in one transaction
 happen at the same moment. A sender has two posts and retries each until it is answered. A post reaches any instance that believes it is
-the owner, or is forwarded there. Either instance may take a slot at any time, so an owner that was stopped or cut off may go on at any
+the owner, or is forwarded there. Either instance may take a shard at any time, so an owner that was stopped or cut off may go on at any
 later time. A statement that was sent may be executed at any later time, even if its connection is lost; its sender then repeats it.
 
 The store commits on its primary, and answers after the standby has the commit. A restart of the primary shows commits that the standby
 does not have; if the primary is lost and the standby takes over, they are gone. The store may be restored from a dump after all
 instances have ended. Then points are excused that neither the store nor the sink has any more, and so are points that the sink has and
-the store has again. Meanwhile there are checkpoints, deliveries to a sink and their acknowledgements, hand-overs, and with two slots a
+the store has again. Meanwhile there are checkpoints, deliveries to a sink and their acknowledgements, hand-overs, and with two shards a
 post with a part in each, and a quarantine.
 
 Each state, of the primary, the standby and the sink, is checked for these faults:
-  - `answered and gone`: a point that a sender knows to be accepted is neither in a file of the slot nor in the sink;
+  - `answered and gone`: a point that a sender knows to be accepted is neither in a file of the shard nor in the sink;
   - `lost`: such a point is in a group that the outbox has as delivered, or that would go out under another group's key, and is not in
     the sink;
   - `twice`: a point counts twice;
@@ -49,14 +49,14 @@ GONE, LOST, TWICE, TAKEN, UNREADABLE = "answered and gone", "lost", "twice", "qu
 class Rules:
     """The rules that make several instances exact. Each is a switch, so that the search can turn it off."""
 
-    # A sync locks the slot's row and checks that its own term is there. No clock decides who is the owner.
+    # A sync locks the shard's row and checks that its own term is there. No clock decides who is the owner.
     a_sync_looks_at_the_term: bool = True
     # That row is never deleted. The keys of written files are no fence, because the files that a late write would
     # conflict with may be gone.
     the_fence_outlives_what_is_removed: bool = True
     # A takeover writes a new term,
     a_takeover_writes_a_term: bool = True
-    # even if the last owner has handed the slot over,
+    # even if the last owner has handed the shard over,
     a_hand_over_ends_the_term: bool = True
     # and the new owner reads the files after it wrote the term.
     files_are_read_behind_the_term: bool = True
@@ -72,7 +72,7 @@ class Rules:
     a_late_copy_changes_nothing: bool = True
     # The store answers after the standby has the commit.
     a_commit_waits_for_the_standby: bool = True
-    # A fenced owner answers no post of the slot.
+    # A fenced owner answers no post of the shard.
     who_is_lost_answers_nothing: bool = True
     # 200 waits for the sync that has the post,
     an_answer_waits_for_its_sync: bool = True
@@ -82,9 +82,9 @@ class Rules:
     a_forwarded_answer_waits_too: bool = True
     # A post is answered after all of its parts are.
     a_post_is_answered_once_all_parts_are: bool = True
-    # All instances map a series to the same slot.
-    a_series_has_one_slot: bool = True
-    # Every owner of the slot assigns a post to the same series.
+    # All instances map a series to the same shard.
+    a_series_has_one_shard: bool = True
+    # Every owner of the shard assigns a post to the same series.
     a_post_is_of_the_same_series_everywhere: bool = True
     # A group is delivered after it is committed,
     a_group_is_delivered_behind_its_commit: bool = True
@@ -96,8 +96,8 @@ class Rules:
     the_sink_answers_before_the_ack: bool = True
     # An operator is told of a quarantine after a sync has it,
     a_quarantine_is_told_behind_its_sync: bool = True
-    # in each slot.
-    a_quarantine_is_told_once_all_slots_have_it: bool = True
+    # in each shard.
+    a_quarantine_is_told_once_all_shards_have_it: bool = True
 
 
 class Left(NamedTuple):
@@ -117,10 +117,10 @@ class Left(NamedTuple):
 
 
 class World(NamedTuple):
-    """The posts and the number of slots. For each point (post, slot). The points of a slot are of one series, in order."""
+    """The posts and the number of shards. For each point (post, shard). The points of a shard are of one series, in order."""
 
     points: tuple[tuple[int, int], ...]
-    slots: int
+    shards: int
     tries: int = 2
 
 
@@ -145,22 +145,22 @@ WITHOUT = {
     "a_refusal_waits_for_a_sync": (ONE, Left(takeovers=1), GONE),
     "a_forwarded_answer_waits_too": (ONE, Left(takeovers=1), GONE),
     "a_post_is_answered_once_all_parts_are": (TWO, Left(takeovers=2), GONE),
-    "a_series_has_one_slot": (TWO, Left(takeovers=2), TWICE),
+    "a_series_has_one_shard": (TWO, Left(takeovers=2), TWICE),
     "a_post_is_of_the_same_series_everywhere": (ONE, Left(takeovers=2, doubts=1, checkpoints=1), TWICE),
     "a_group_is_delivered_behind_its_commit": (ONE, Left(takeovers=2, checkpoints=2, deliveries=1), LOST),
     "a_key_is_the_stores": (ONE, Left(takeovers=2, checkpoints=1, deliveries=2), TWICE),
     "an_epoch_is_drawn_at_each_taking": (ONE, Left(takeovers=2, checkpoints=2, deliveries=2, returns=1), LOST),
     "the_sink_answers_before_the_ack": (ONE, Left(takeovers=1, checkpoints=1, deliveries=1), LOST),
     "a_quarantine_is_told_behind_its_sync": (TWO, Left(takeovers=3, quarantines=2), TAKEN),
-    "a_quarantine_is_told_once_all_slots_have_it": (TWO, Left(takeovers=2, quarantines=2), TAKEN),
+    "a_quarantine_is_told_once_all_shards_have_it": (TWO, Left(takeovers=2, quarantines=2), TAKEN),
 }
 # The wrong copies of the program that leave a rule out, files of service/wrong. A test must find the mistake of each.
 COPIES = {
-    "a_sync_looks_at_the_term": ("owner_writes_though_another_has_the_slot",),
+    "a_sync_looks_at_the_term": ("owner_writes_though_another_has_the_shard",),
     "the_fence_outlives_what_is_removed": ("key_of_what_is_written_is_the_fence",),
     "a_takeover_writes_a_term": ("takeover_keeps_the_term",),
     "a_hand_over_ends_the_term": ("hand_over_keeps_the_term",),
-    # Two things ensure this order: a slot is opened with what the take returned, and the reading connection checks the
+    # Two things ensure this order: a shard is opened with what the take returned, and the reading connection checks the
     # term. The copy leaves out the second.
     "files_are_read_behind_the_term": ("files_are_read_without_the_term",),
     # A short sync is one statement. Only a long one can be executed in part.
@@ -168,25 +168,25 @@ COPIES = {
     # The writer's lock still sends the statements one after another, but in any order, and each is taken for done.
     "one_sync_at_a_time": ("syncs_are_under_way_at_once",),
     "a_doubt_is_repeated": ("write_in_doubt_is_taken_for_done",),
-    # A repetition writes in two ways: it raises the connection epoch, and it locks the slot's row. The copy leaves out the second.
+    # A repetition writes in two ways: it raises the connection epoch, and it locks the shard's row. The copy leaves out the second.
     "a_repeat_is_a_write": ("sync_of_nothing_is_no_write",),
     "a_late_copy_changes_nothing": ("late_write_of_an_own_connection_counts", "numbers_of_an_earlier_owner_are_used_again"),
     "a_commit_waits_for_the_standby": ("commit_without_its_standby_is_answered", "commit_on_one_server_is_believed"),
-    "who_is_lost_answers_nothing": ("who_has_lost_the_slot_answers",),
+    "who_is_lost_answers_nothing": ("who_has_lost_the_shard_answers",),
     "an_answer_waits_for_its_sync": ("answer_comes_before_its_post_is_durable", "sync_joins_one_that_began_before"),
-    "a_refusal_waits_for_a_sync": ("refusal_comes_before_the_journal_is_durable", "refusal_of_a_lost_slot_is_given"),
+    "a_refusal_waits_for_a_sync": ("refusal_comes_before_the_journal_is_durable", "refusal_of_a_lost_shard_is_given"),
     "a_forwarded_answer_waits_too": ("forwarded_answer_comes_before_its_post_is_durable",),
     "a_post_is_answered_once_all_parts_are": ("part_that_may_be_taken_later_is_dropped",),
-    "a_series_has_one_slot": ("resource_has_a_slot_by_its_words",),
+    "a_series_has_one_shard": ("resource_has_a_shard_by_its_words",),
     "a_post_is_of_the_same_series_everywhere": (
-        "slot_is_read_by_what_its_instance_knows", "units_of_a_slot_are_not_known", "instances_read_posts_in_different_ways"),
+        "shard_is_read_by_what_its_instance_knows", "units_of_a_shard_are_not_known", "instances_read_posts_in_different_ways"),
     "a_group_is_delivered_behind_its_commit": ("request_of_a_store_is_delivered_before_it_is_durable",),
     # Each group keeps the epoch with which it was made, whoever delivers it.
     "a_key_is_the_stores": ("key_of_a_request_is_its_owners",),
-    "an_epoch_is_drawn_at_each_taking": ("slot_that_is_taken_keeps_its_epoch",),
+    "an_epoch_is_drawn_at_each_taking": ("shard_that_is_taken_keeps_its_epoch",),
     "the_sink_answers_before_the_ack": ("request_is_acknowledged_before_the_sink_has_it",),
     "a_quarantine_is_told_behind_its_sync": ("quarantine_is_told_before_its_sync",),
-    "a_quarantine_is_told_once_all_slots_have_it": ("order_counts_where_a_slot_has_not_done_it",),
+    "a_quarantine_is_told_once_all_shards_have_it": ("order_counts_where_a_shard_has_not_done_it",),
 }
 EDITS = f"{os.path.dirname(os.path.dirname(os.path.abspath(__file__)))}/service/wrong"
 # With all rules no state may have a fault.
@@ -209,8 +209,8 @@ Write = tuple[str, int]
 Key = int | tuple[int, int]
 
 
-class Slot(NamedTuple):
-    """What the store has of a slot: its row, and the meaning of its files. A set of points is a number with a bit for each point."""
+class Shard(NamedTuple):
+    """What the store has of a shard: its row, and the meaning of its files. A set of points is a number with a bit for each point."""
 
     term: int
     # The owner, or None.
@@ -231,7 +231,7 @@ class Statement(NamedTuple):
     """A statement that was sent to the store."""
 
     who: int
-    slot: int
+    shard: int
     # `take`, `sync` or `free`
     kind: str
     term: int
@@ -243,7 +243,7 @@ class Statement(NamedTuple):
 
 
 class Owner(NamedTuple):
-    """What an instance holds in memory of a slot that it believes it owns."""
+    """What an instance holds in memory of a shard that it believes it owns."""
 
     term: int
     # The number of its next sync.
@@ -265,36 +265,36 @@ class Owner(NamedTuple):
 
 
 class Taking(NamedTuple):
-    """An instance that is taking a slot. `read` is what it read before it wrote the term, against the rule."""
+    """An instance that is taking a shard. `read` is what it read before it wrote the term, against the rule."""
 
-    read: Slot
+    read: Shard
 
 
 class State(NamedTuple):
     told: int
     tries: tuple[int, ...]
-    # For each instance and slot an owner, an instance that is taking the slot, or None.
+    # For each instance and shard an owner, an instance that is taking the shard, or None.
     owners: tuple[Owner | Taking | None, ...]
     waiting: tuple[Statement, ...]
     # Executed on the primary, but not yet on the standby.
     local: tuple[Statement, ...]
     # The primary has restarted, and shows commits that the standby does not have.
     is_shown: bool
-    primary: tuple[Slot, ...]
-    standby: tuple[Slot, ...]
-    # (slot, key, points)
+    primary: tuple[Shard, ...]
+    standby: tuple[Shard, ...]
+    # (shard, key, points)
     sink: frozenset[tuple[int, Key, int]]
-    # The slots whose quarantine is committed; and, from when an operator was told, the points accepted and sent by then.
+    # The shards whose quarantine is committed; and, from when an operator was told, the points accepted and sent by then.
     noted: int
     quarantine: tuple[int, int]
-    # A dump of the store; and after it was restored, how many groups each slot has, and the points that are excused.
-    dump: tuple[Slot, ...]
+    # A dump of the store; and after it was restored, how many groups each shard has, and the points that are excused.
+    dump: tuple[Shard, ...]
     returned: tuple[int, ...]
     excused: int
     left: Left
 
 
-NO_SLOT = Slot(0, None, 0, 0, frozenset(), 0, (), 0, False, False)
+NO_SHARD = Shard(0, None, 0, 0, frozenset(), 0, (), 0, False, False)
 NOTE = 1 << 16  # NOTE in `covers` is an operator
 AGAIN = 100  # added to a key whose number the store has already used before
 
@@ -306,8 +306,9 @@ T = TypeVar("T")
 
 
 def begin_of(world: World, left: Left) -> State:
-    slots = (NO_SLOT,) * world.slots
-    return State(0, (0,) * len(world.points), (None,) * 2 * world.slots, (), (), False, slots, slots, frozenset(), 0, None, (), (), 0, left)
+    shards = (NO_SHARD,) * world.shards
+    return State(0, (0,) * len(world.points), (None,) * 2 * world.shards, (), (), False, shards, shards, frozenset(), 0, None, (), (), 0,
+                 left)
 
 
 def put(items: tuple[T, ...], place: int, item: T) -> tuple[T, ...]:
@@ -319,16 +320,16 @@ def spend(state: State, kind: str) -> State | None:
     return state._replace(left=state.left._replace(**{kind: count - 1})) if count else None
 
 
-def visible(state: State) -> tuple[Slot, ...]:
+def visible(state: State) -> tuple[Shard, ...]:
     return state.primary if state.is_shown else state.standby
 
 
-def place_of(world: World, who: int, slot: int) -> int:
-    return who * world.slots + slot
+def place_of(world: World, who: int, shard: int) -> int:
+    return who * world.shards + shard
 
 
-def with_owner(world: World, state: State, who: int, slot: int, owner: Owner | Taking | None) -> State:
-    return state._replace(owners=put(state.owners, place_of(world, who, slot), owner))
+def with_owner(world: World, state: State, who: int, shard: int, owner: Owner | Taking | None) -> State:
+    return state._replace(owners=put(state.owners, place_of(world, who, shard), owner))
 
 
 def send(state: State, *statements: Statement) -> State:
@@ -346,59 +347,59 @@ def all_of(groups: Iterable[int]) -> int:
 # The store
 
 
-def written(slot: Slot, number: int, writes: tuple[Write, ...]) -> Slot:
-    """The slot after a sync's writes."""
+def written(shard: Shard, number: int, writes: tuple[Write, ...]) -> Shard:
+    """The shard after a sync's writes."""
     for kind, what in writes:
         if kind == "post":
-            slot = slot._replace(journal=slot.journal | what)
+            shard = shard._replace(journal=shard.journal | what)
         elif kind == "group":
-            slot = slot._replace(groups=slot.groups + (what,))
+            shard = shard._replace(groups=shard.groups + (what,))
         elif kind == "drop":
-            slot = slot._replace(journal=slot.journal & ~what, first=max(slot.first, number))
+            shard = shard._replace(journal=shard.journal & ~what, first=max(shard.first, number))
         elif kind == "ack":
-            slot = slot._replace(acknowledged=max(slot.acknowledged, what))
+            shard = shard._replace(acknowledged=max(shard.acknowledged, what))
         else:
-            slot = slot._replace(is_quarantined=True)
-    return slot
+            shard = shard._replace(is_quarantined=True)
+    return shard
 
 
-def synced(rules: Rules, slot: Slot, one: Statement) -> Slot:
+def synced(rules: Rules, shard: Shard, one: Statement) -> Shard:
     if not one.writes:
-        return slot
-    if one.number < slot.first:
-        return slot if rules.a_late_copy_changes_nothing else slot._replace(is_torn=rules.the_fence_outlives_what_is_removed)
-    if one.number < slot.next:
-        return slot
-    if one.number > slot.next:
-        return slot._replace(ahead=slot.ahead | {(one.number, one.writes)})
-    slot = written(slot, one.number, one.writes)._replace(next=one.number + 1)
-    for number, writes in sorted(slot.ahead):
-        if number == slot.next:
-            slot = written(slot, number, writes)._replace(next=number + 1, ahead=slot.ahead - {(number, writes)})
-    return slot
+        return shard
+    if one.number < shard.first:
+        return shard if rules.a_late_copy_changes_nothing else shard._replace(is_torn=rules.the_fence_outlives_what_is_removed)
+    if one.number < shard.next:
+        return shard
+    if one.number > shard.next:
+        return shard._replace(ahead=shard.ahead | {(one.number, one.writes)})
+    shard = written(shard, one.number, one.writes)._replace(next=one.number + 1)
+    for number, writes in sorted(shard.ahead):
+        if number == shard.next:
+            shard = written(shard, number, writes)._replace(next=number + 1, ahead=shard.ahead - {(number, writes)})
+    return shard
 
 
-def execute(rules: Rules, slot: Slot, one: Statement) -> Slot | None:
-    """The slot after a statement, or None if the statement finds no row."""
+def execute(rules: Rules, shard: Shard, one: Statement) -> Shard | None:
+    """The shard after a statement, or None if the statement finds no row."""
     if one.kind == "take":
-        if slot.term != one.term:
+        if shard.term != one.term:
             return None
-        is_new = slot.owner is not None or slot.term == 0 or rules.a_hand_over_ends_the_term
-        return slot._replace(term=slot.term + is_new, owner=one.who, ahead=frozenset())
+        is_new = shard.owner is not None or shard.term == 0 or rules.a_hand_over_ends_the_term
+        return shard._replace(term=shard.term + is_new, owner=one.who, ahead=frozenset())
     if one.kind == "sync" and not rules.the_fence_outlives_what_is_removed:
-        is_free = not one.writes or not slot.first <= one.number < slot.next
-        return (slot if one.number < slot.first else synced(rules, slot, one)) if is_free else None
-    if slot.term != one.term and (one.kind == "free" or rules.a_sync_looks_at_the_term):
+        is_free = not one.writes or not shard.first <= one.number < shard.next
+        return (shard if one.number < shard.first else synced(rules, shard, one)) if is_free else None
+    if shard.term != one.term and (one.kind == "free" or rules.a_sync_looks_at_the_term):
         return None
-    return slot._replace(owner=None) if one.kind == "free" else synced(rules, slot, one)
+    return shard._replace(owner=None) if one.kind == "free" else synced(rules, shard, one)
 
 
 def store_steps(rules: Rules, world: World, state: State) -> Events:
     for place, one in enumerate(state.waiting):
         others = state._replace(waiting=state.waiting[:place] + state.waiting[place + 1:])
         yield from cut_off(rules, world, state, others, one)
-        if not state.is_shown and any(other.slot == one.slot for other in state.local):
-            continue  # the slot's row is locked until the standby has the commit
+        if not state.is_shown and any(other.shard == one.shard for other in state.local):
+            continue  # the shard's row is locked until the standby has the commit
         yield from executed(rules, world, others, one)
     if state.primary != state.standby or state.local:
         done = state._replace(standby=state.primary, local=(), is_shown=False)
@@ -416,20 +417,20 @@ def cut_off(rules: Rules, world: World, state: State, others: State, one: Statem
     late = one._replace(is_awaited=False)
     yield ("the connection is lost of", one), in_doubt(world, send(others._replace(left=left.left), late), one)
     if not rules.a_sync_is_one_transaction and one.writes:
-        half = execute(rules, state.primary[one.slot], one._replace(writes=one.writes[-1:]))
+        half = execute(rules, state.primary[one.shard], one._replace(writes=one.writes[-1:]))
         if half:
-            slots = put(state.primary, one.slot, half)
+            shards = put(state.primary, one.shard, half)
             yield ("half is executed, and the connection is lost, of", one), in_doubt(
-                world, others._replace(left=left.left, primary=slots, standby=slots), one)
+                world, others._replace(left=left.left, primary=shards, standby=shards), one)
 
 
 def executed(rules: Rules, world: World, state: State, one: Statement) -> Events:
-    after = execute(rules, state.primary[one.slot], one)
+    after = execute(rules, state.primary[one.shard], one)
     if after is None:
         yield ("no row is found by", one), answered(rules, world, state, one, False)
         return
-    is_there = after == state.primary[one.slot]
-    primary = put(state.primary, one.slot, after)
+    is_there = after == state.primary[one.shard]
+    primary = put(state.primary, one.shard, after)
     if not rules.a_commit_waits_for_the_standby or is_there and not rules.a_repeat_is_a_write:
         yield ("executed is", one), answered(rules, world, state._replace(primary=primary), one, True)
     elif not state.left.failures and state.primary == state.standby:
@@ -459,12 +460,12 @@ def goes_back(state: State) -> Events:
         yield ("a dump is made",), state._replace(dump=state.standby, left=state.left._replace(returns=state.left.returns - 1))
     if state.dump and state.dump != state.standby:
         has = all_of(points for _, _, points in state.sink)
-        kept = all_of(slot.journal | all_of(slot.groups) for slot in state.dump)
+        kept = all_of(shard.journal | all_of(shard.groups) for shard in state.dump)
         excused = state.told & ~has & ~kept | has & kept
-        slots = tuple(slot._replace(term=slot.term + 1, owner=None) for slot in state.dump)
+        shards = tuple(shard._replace(term=shard.term + 1, owner=None) for shard in state.dump)
         yield ("all end, and the dump is put back",), state._replace(
-            owners=(None,) * len(state.owners), waiting=(), local=(), is_shown=False, primary=slots, standby=slots, dump=(),
-            returned=tuple(len(slot.groups) for slot in slots), excused=excused)
+            owners=(None,) * len(state.owners), waiting=(), local=(), is_shown=False, primary=shards, standby=shards, dump=(),
+            returned=tuple(len(shard.groups) for shard in shards), excused=excused)
 
 
 # --------------------------------------------------------------------------------------------------------------------
@@ -472,10 +473,10 @@ def goes_back(state: State) -> Events:
 
 
 def in_doubt(world: World, state: State, one: Statement) -> State:
-    owner = state.owners[place_of(world, one.who, one.slot)]
+    owner = state.owners[place_of(world, one.who, one.shard)]
     if isinstance(owner, Owner) and one.kind != "take":
-        return with_owner(world, state, one.who, one.slot, owner._replace(doubt=one))
-    return with_owner(world, state, one.who, one.slot, None)
+        return with_owner(world, state, one.who, one.shard, owner._replace(doubt=one))
+    return with_owner(world, state, one.who, one.shard, None)
 
 
 def told(rules: Rules, world: World, state: State, points: int) -> State:
@@ -485,47 +486,47 @@ def told(rules: Rules, world: World, state: State, points: int) -> State:
     return state._replace(told=state.told | points)
 
 
-def told_of_quarantine(rules: Rules, world: World, state: State, slot: int) -> State:
-    noted = state.noted | 1 << slot
-    if noted == (1 << world.slots) - 1 or not rules.a_quarantine_is_told_once_all_slots_have_it:
+def told_of_quarantine(rules: Rules, world: World, state: State, shard: int) -> State:
+    noted = state.noted | 1 << shard
+    if noted == (1 << world.shards) - 1 or not rules.a_quarantine_is_told_once_all_shards_have_it:
         return state._replace(noted=noted, quarantine=state.quarantine or counted_by(state))
     return state._replace(noted=noted)
 
 
 def counted_by(state: State) -> tuple[int, int]:
     """The points that are accepted, and those that are in groups."""
-    sent = all_of(all_of(slot.groups) for slot in state.standby)
-    return sent | all_of(slot.journal for slot in state.standby), sent
+    sent = all_of(all_of(shard.groups) for shard in state.standby)
+    return sent | all_of(shard.journal for shard in state.standby), sent
 
 
 def answered(rules: Rules, world: World, state: State, one: Statement, is_done: bool) -> State:
     """The answer to a statement arrives."""
     if not one.is_awaited:
         return state
-    owner = state.owners[place_of(world, one.who, one.slot)]
+    owner = state.owners[place_of(world, one.who, one.shard)]
     if one.kind == "take":
         assert isinstance(owner, Taking), owner
-        slot = owner.read or visible(state)[one.slot]
-        return with_owner(world, state, one.who, one.slot, owned(rules, slot, visible(state)[one.slot].term) if is_done else None)
+        shard = owner.read or visible(state)[one.shard]
+        return with_owner(world, state, one.who, one.shard, owned(rules, shard, visible(state)[one.shard].term) if is_done else None)
     if not isinstance(owner, Owner):
         return state
     if is_done or not rules.who_is_lost_answers_nothing:
         state = told(rules, world, state, one.covers & ~NOTE)
         if one.covers & NOTE:
-            state = told_of_quarantine(rules, world, state, one.slot)
+            state = told_of_quarantine(rules, world, state, one.shard)
     if not is_done or one.kind == "free":
-        return with_owner(world, state, one.who, one.slot, None)
+        return with_owner(world, state, one.who, one.shard, None)
     groups = owner.groups + tuple(what for kind, what in one.writes if kind == "group")
     if not rules.a_group_is_delivered_behind_its_commit:
         groups = owner.groups
-    return with_owner(world, state, one.who, one.slot, owner._replace(under_way=owner.under_way - 1, groups=groups))
+    return with_owner(world, state, one.who, one.shard, owner._replace(under_way=owner.under_way - 1, groups=groups))
 
 
-def owned(rules: Rules, slot: Slot, term: int) -> Owner:
-    sent = all_of(slot.groups)
-    seen = sent | slot.journal if rules.a_post_is_of_the_same_series_everywhere else 0
-    return Owner(term, slot.next, seen, slot.journal, (), 0, 0, None, slot.groups, slot.acknowledged,
-                 slot.is_quarantined, False)
+def owned(rules: Rules, shard: Shard, term: int) -> Owner:
+    sent = all_of(shard.groups)
+    seen = sent | shard.journal if rules.a_post_is_of_the_same_series_everywhere else 0
+    return Owner(term, shard.next, seen, shard.journal, (), 0, 0, None, shard.groups, shard.acknowledged,
+                 shard.is_quarantined, False)
 
 
 # --------------------------------------------------------------------------------------------------------------------
@@ -533,7 +534,7 @@ def owned(rules: Rules, slot: Slot, term: int) -> Owner:
 
 
 def post_steps(rules: Rules, world: World, state: State) -> Events:
-    """A sender's next post, or a part of it, reaches an instance that believes it owns the slot."""
+    """A sender's next post, or a part of it, reaches an instance that believes it owns the shard."""
     place = next((place for place in range(len(world.points)) if not state.told >> place & 1), None)
     if place is None:
         return
@@ -542,15 +543,15 @@ def post_steps(rules: Rules, world: World, state: State) -> Events:
         if state.tries[point] == world.tries:
             continue
         tried = state._replace(tries=put(state.tries, point, state.tries[point] + 1))
-        slots = (world.points[point][1],) if rules.a_series_has_one_slot else range(world.slots)
-        for slot in slots:
+        shards = (world.points[point][1],) if rules.a_series_has_one_shard else range(world.shards)
+        for shard in shards:
             for who in (0, 1):
-                owner = state.owners[place_of(world, who, slot)]
+                owner = state.owners[place_of(world, who, shard)]
                 if isinstance(owner, Owner) and not owner.is_closing and not owner.is_quarantined:
-                    yield from posted(rules, world, tried, point, who, slot, owner)
+                    yield from posted(rules, world, tried, point, who, shard, owner)
 
 
-def posted(rules: Rules, world: World, state: State, point: int, who: int, slot: int, owner: Owner) -> Events:
+def posted(rules: Rules, world: World, state: State, point: int, who: int, shard: int, owner: Owner) -> Events:
     later = sum(1 << it for it in range(point, len(world.points)) if world.points[it][1] == world.points[point][1])
     is_refused = owner.seen & later
     waits = rules.a_refusal_waits_for_a_sync if is_refused else rules.an_answer_waits_for_its_sync
@@ -560,105 +561,105 @@ def posted(rules: Rules, world: World, state: State, point: int, who: int, slot:
     how = (f"to {'AB'[who]} comes, and is {'out of order' if is_refused else 'taken'}, point {point}",)
     for is_early in {not waits, not rules.a_forwarded_answer_waits_too}:
         if is_early:
-            yield how + ("answered at once",), told(rules, world, with_owner(world, state, who, slot, owner), bit)
+            yield how + ("answered at once",), told(rules, world, with_owner(world, state, who, shard, owner), bit)
         else:
-            yield how, with_owner(world, state, who, slot, owner._replace(fresh=owner.fresh | bit))
+            yield how, with_owner(world, state, who, shard, owner._replace(fresh=owner.fresh | bit))
 
 
 def instance_steps(rules: Rules, world: World, state: State) -> Events:
     for who in (0, 1):
-        for slot in range(world.slots):
-            owner = state.owners[place_of(world, who, slot)]
+        for shard in range(world.shards):
+            owner = state.owners[place_of(world, who, shard)]
             if owner is None:
-                yield from take(rules, world, state, who, slot)
+                yield from take(rules, world, state, who, shard)
             elif isinstance(owner, Owner):
-                yield from own(rules, world, state, who, slot, owner)
+                yield from own(rules, world, state, who, shard, owner)
 
 
-def take(rules: Rules, world: World, state: State, who: int, slot: int) -> Events:
+def take(rules: Rules, world: World, state: State, who: int, shard: int) -> Events:
     left = spend(state, "takeovers")
     is_first = not any(state.owners) and not state.waiting and not any(row.term for row in state.primary)
     if not left or is_first and who:  # the instances are alike, so A comes first
         return
-    seen = visible(state)[slot]
-    how = (f"{'AB'[who]} takes slot {slot}",)
+    seen = visible(state)[shard]
+    how = (f"{'AB'[who]} takes shard {shard}",)
     if not rules.a_takeover_writes_a_term:
-        yield how, with_owner(world, left, who, slot, owned(rules, seen, seen.term))
+        yield how, with_owner(world, left, who, shard, owned(rules, seen, seen.term))
         return
     early = None if rules.files_are_read_behind_the_term else seen
-    taking = with_owner(world, left, who, slot, Taking(early))
-    yield how, send(taking, Statement(who, slot, "take", seen.term, 0, (), 0, True))
+    taking = with_owner(world, left, who, shard, Taking(early))
+    yield how, send(taking, Statement(who, shard, "take", seen.term, 0, (), 0, True))
 
 
-def own(rules: Rules, world: World, state: State, who: int, slot: int, owner: Owner) -> Events:
+def own(rules: Rules, world: World, state: State, who: int, shard: int, owner: Owner) -> Events:
     name = "AB"[who]
     if owner.doubt:
-        certain = with_owner(world, state, who, slot, owner._replace(doubt=None))
+        certain = with_owner(world, state, who, shard, owner._replace(doubt=None))
         if rules.a_doubt_is_repeated:
             yield (f"{name} repeats", owner.doubt), send(certain, owner.doubt)
         else:
             yield (f"{name} takes for done", owner.doubt), answered(rules, world, certain, owner.doubt, True)
         return
-    yield from sync(rules, world, state, who, slot, owner)
+    yield from sync(rules, world, state, who, shard, owner)
     if owner.is_closing:
         return
-    yield from checkpoint(rules, world, state, who, slot, owner)
-    yield from deliver(rules, world, state, who, slot, owner)
+    yield from checkpoint(rules, world, state, who, shard, owner)
+    yield from deliver(rules, world, state, who, shard, owner)
     left = spend(state, "quarantines")
     if left and not owner.is_quarantined:
         after = owner._replace(is_quarantined=True, writes=owner.writes + (("note", 0),), fresh=owner.fresh | NOTE)
         if rules.a_quarantine_is_told_behind_its_sync:
-            yield (f"{name} has a quarantine of slot {slot}",), with_owner(world, left, who, slot, after)
+            yield (f"{name} has a quarantine of shard {shard}",), with_owner(world, left, who, shard, after)
         else:
-            quarantined = with_owner(world, left, who, slot, after._replace(fresh=owner.fresh))
-            yield (f"{name} says a quarantine of slot {slot}",), told_of_quarantine(rules, world, quarantined, slot)
+            quarantined = with_owner(world, left, who, shard, after._replace(fresh=owner.fresh))
+            yield (f"{name} says a quarantine of shard {shard}",), told_of_quarantine(rules, world, quarantined, shard)
     left = spend(state, "hand_overs")
     if left:
-        yield (f"{name} shuts slot {slot}",), with_owner(world, left, who, slot, owner._replace(is_closing=True))
+        yield (f"{name} shuts shard {shard}",), with_owner(world, left, who, shard, owner._replace(is_closing=True))
 
 
-def sync(rules: Rules, world: World, state: State, who: int, slot: int, owner: Owner) -> Events:
+def sync(rules: Rules, world: World, state: State, who: int, shard: int, owner: Owner) -> Events:
     if owner.under_way >= (1 if rules.one_sync_at_a_time else 2):
         return
     if owner.writes or owner.fresh:
-        one = Statement(who, slot, "sync", owner.term, owner.number, owner.writes, owner.fresh, True)
+        one = Statement(who, shard, "sync", owner.term, owner.number, owner.writes, owner.fresh, True)
         after = owner._replace(number=owner.number + bool(owner.writes), writes=(), fresh=0, under_way=owner.under_way + 1)
-        yield ("sent is", one), send(with_owner(world, state, who, slot, after), one)
+        yield ("sent is", one), send(with_owner(world, state, who, shard, after), one)
     elif owner.is_closing and not owner.under_way:
-        one = Statement(who, slot, "free", owner.term, owner.number, (), 0, True)
-        yield ("sent is", one), send(with_owner(world, state, who, slot, owner._replace(under_way=1)), one)
+        one = Statement(who, shard, "free", owner.term, owner.number, (), 0, True)
+        yield ("sent is", one), send(with_owner(world, state, who, shard, owner._replace(under_way=1)), one)
 
 
-def checkpoint(rules: Rules, world: World, state: State, who: int, slot: int, owner: Owner) -> Events:
+def checkpoint(rules: Rules, world: World, state: State, who: int, shard: int, owner: Owner) -> Events:
     left = spend(state, "checkpoints")
     if left and owner.pending and not owner.is_quarantined:
         group = (("group", owner.pending), ("drop", owner.pending))
         after = owner._replace(pending=0, writes=owner.writes + group)
         if not rules.a_group_is_delivered_behind_its_commit:
             after = after._replace(groups=owner.groups + (owner.pending,))
-        yield (f"{'AB'[who]} makes a group of {owner.pending:b}",), with_owner(world, left, who, slot, after)
+        yield (f"{'AB'[who]} makes a group of {owner.pending:b}",), with_owner(world, left, who, shard, after)
 
 
-def key_of(rules: Rules, state: State, slot: int, number: int) -> int:
-    is_new = bool(state.returned) and number >= state.returned[slot]
+def key_of(rules: Rules, state: State, shard: int, number: int) -> int:
+    is_new = bool(state.returned) and number >= state.returned[shard]
     return number + AGAIN if is_new and rules.an_epoch_is_drawn_at_each_taking else number
 
 
-def deliver(rules: Rules, world: World, state: State, who: int, slot: int, owner: Owner) -> Events:
+def deliver(rules: Rules, world: World, state: State, who: int, shard: int, owner: Owner) -> Events:
     """Delivers the first group that is not acknowledged. A lost answer of the sink needs no case: the ack may be lost later."""
     left = spend(state, "deliveries")
     number = owner.acknowledged
     if not left or number == len(owner.groups):
         return
-    key: Key = key_of(rules, state, slot, number) if rules.a_key_is_the_stores else (number, who)
+    key: Key = key_of(rules, state, shard, number) if rules.a_key_is_the_stores else (number, who)
     after = owner._replace(acknowledged=number + 1, writes=owner.writes + (("ack", number + 1),))
-    acked = with_owner(world, left, who, slot, after)
+    acked = with_owner(world, left, who, shard, after)
     if not rules.the_sink_answers_before_the_ack:
         yield (f"{'AB'[who]} acknowledges group {number}, which the sink does not have",), acked
-    if any(there[:2] == (slot, key) for there in state.sink):
+    if any(there[:2] == (shard, key) for there in state.sink):
         yield (f"{'AB'[who]} delivers group {number}, which the sink has",), acked
     else:
-        yield (f"{'AB'[who]} delivers group {number}",), acked._replace(sink=state.sink | {(slot, key, owner.groups[number])})
+        yield (f"{'AB'[who]} delivers group {number}",), acked._replace(sink=state.sink | {(shard, key, owner.groups[number])})
 
 
 # --------------------------------------------------------------------------------------------------------------------
@@ -667,15 +668,15 @@ def deliver(rules: Rules, world: World, state: State, who: int, slot: int, owner
 
 def fault_of(rules: Rules, state: State) -> str | None:
     """The name of the fault, or None."""
-    if any(slot.is_torn for slot in state.standby):
+    if any(shard.is_torn for shard in state.standby):
         return UNREADABLE
     sets = [points for _, _, points in state.sink]
-    sent = {(slot, key if isinstance(key, int) else key[0]) for slot, key, _ in state.sink}
-    for place, slot in enumerate(state.standby):
-        keys = [(place, key_of(rules, state, place, number)) for number in range(len(slot.groups) + 1)]
+    sent = {(shard, key if isinstance(key, int) else key[0]) for shard, key, _ in state.sink}
+    for place, shard in enumerate(state.standby):
+        keys = [(place, key_of(rules, state, place, number)) for number in range(len(shard.groups) + 1)]
         if keys[-1] not in sent:  # otherwise the next group would go out under a key that the sink already has
-            sets.append(slot.journal)
-        sets += [points for number, points in enumerate(slot.groups) if number >= slot.acknowledged and keys[number] not in sent]
+            sets.append(shard.journal)
+        sets += [points for number, points in enumerate(shard.groups) if number >= shard.acknowledged and keys[number] not in sent]
     once = twice = 0
     for points in sets:
         once, twice = once | points, twice | once & points
@@ -736,7 +737,7 @@ def text_of(label: Label) -> str:
     what = label[1] if len(label) > 1 else ""
     if isinstance(what, Statement):
         writes = ", ".join(f"{kind} {points:b}" for kind, points in what.writes)
-        what = f"{'AB'[what.who]}'s {what.kind} {what.number} of slot {what.slot} under term {what.term}: {writes or 'nothing'}"
+        what = f"{'AB'[what.who]}'s {what.kind} {what.number} of shard {what.shard} under term {what.term}: {writes or 'nothing'}"
     return f"{label[0]} {what}".rstrip()
 
 
@@ -746,7 +747,7 @@ def main() -> int:
     for world, left in WHOLE:
         found = explore(Rules(), world, left)
         bounds = ", ".join(f"{count} {kind.replace('_', '-')}" for kind, count in left._asdict().items() if count)
-        what = f"all rules kept, {world.slots} slots, {bounds}: {found.states} states, none at fault"
+        what = f"all rules kept, {world.shards} shards, {bounds}: {found.states} states, none at fault"
         checks.true(what, found.is_whole and not found.fault, found.fault or "not all states")
         show(found)
     rules = {rule.name for rule in dataclasses.fields(Rules)}

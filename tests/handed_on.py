@@ -6,10 +6,10 @@ without any setting, and points of other types are forwarded to another receiver
 
 First the units: sums and histograms of doubles, in both encodings, over kills and flushes. The sink must have what this program added up
 in exact numbers, each metric in the unit in which it was first accepted, also if whole numbers came first, and if an earlier run had
-`--integer-unit off`. Then exponential histograms of random values, delta and cumulative, at several scales: the sink must have each value in the
-bucket of `--exponential` that contains it. Then `--forward-unsupported`: a receiver must get the gauges of each post byte for byte and
-once each, through a second service too. No answer may reject them, no metric may count them as rejected, and neither a receiver that
-stalls nor one that is gone may delay a post.
+`--integer-unit off`. Then exponential histograms of random values, delta and cumulative, at several scales: the sink must have each
+value in the bucket of `--exponential` that contains it. Then `--forward-unsupported`: a receiver must get the gauges of each post
+byte for byte and once each, through a second service too. No answer may reject them, no metric may count them as rejected, and
+neither a receiver that stalls nor one that is gone may delay a post.
 
 Each line is a check; the last line counts passes and failures. The status is 1 if one failed.
 """

@@ -1,11 +1,11 @@
 #!/usr/bin/env python3
-"""Tests that commands at any of two instances that share a store reach the slots of both, or say where to ask.
+"""Tests that commands at any of two instances that share a store reach the shards of both, or say where to ask.
 
     tests/orders_anywhere.py TOTXEGUN
 
-Two instances share the eight slots of a store, and deliver to another database of the same server. At either of them the test flushes,
-quarantines, releases, asks for status and closes a period: each command must cover all slots. A series is forgotten by the instance that
-has its slot; the other one sends the command on, also over TCP with a token. A sender is renamed in the slots of both. One instance is
+Two instances share the eight shards of a store, and deliver to another database of the same server. At either of them the test flushes,
+quarantines, releases, asks for status and closes a period: each command must cover all shards. A series is forgotten by the instance that
+has its shard; the other one sends the command on, also over TCP with a token. A sender is renamed in the shards of both. One instance is
 stopped while the other is asked, and killed: the new name has what was taken over. Without PostgreSQL the test is left out.
 
 Each line is a check; the last line counts passes and failures. The status is 0 if none failed.
@@ -31,15 +31,15 @@ from testing.loopback import free_port  # noqa: E402
 from testing.database import initdb  # noqa: E402
 from testing.servers import Server  # noqa: E402
 from testing.service import DELTA, JSON, Service, ask, wait_until  # noqa: E402
-from testing.slots import IN_THE_END, come_to_rest, owners  # noqa: E402
+from testing.shards import IN_THE_END, come_to_rest, owners  # noqa: E402
 
-SLOTS, PROCESSES = 8, 24
+SHARDS, PROCESSES = 8, 24
 TOKEN = "a-token-of-an-operator"
 # Commands that need a token, because an instance may send them on to another over TCP.
 BY_TOKEN = ("forget",)
-METRICS = ("slots_owned", "slot_term", "slots_without_owner", "longest_without_owner_seconds", "instances", "heartbeat_age_seconds",
+METRICS = ("shards_owned", "shard_term", "shards_without_owner", "longest_without_owner_seconds", "instances", "heartbeat_age_seconds",
            "store_copies", "store_copies_asked", "store_unknown_outcome_seconds", "forwarded_posts_total", "store_writes_total",
-           "takeovers_total", "hand_overs_total", "slots_lost_total")
+           "takeovers_total", "hand_overs_total", "shards_lost_total")
 
 
 class Both:
@@ -58,7 +58,7 @@ class Both:
             file.write(TOKEN)
         with open(self.tokens, "w", encoding="utf-8") as file:
             file.write(f"ann sha256:{hashlib.sha256(TOKEN.encode()).hexdigest()}\n")
-        self.made = self.run("store", "init", self.store, "--slots", str(SLOTS))
+        self.made = self.run("store", "init", self.store, "--shards", str(SHARDS))
         self.all = [self.instance(folder, name) for name in "ab"]
 
     def instance(self, folder: str, name: str) -> Service:
@@ -74,14 +74,14 @@ class Both:
 
     def status(self, at: Service) -> Any:
         code, text = self.run("status", "--json", at=at)
-        return json.loads(text) if code == 0 else {"slots": [], "cluster": {"instances": []}}
+        return json.loads(text) if code == 0 else {"shards": [], "cluster": {"instances": []}}
 
     def at_rest(self) -> bool:
-        """Waits until each slot is at its home. Returns whether that happened."""
-        return come_to_rest(self.server, SLOTS, "ab")
+        """Waits until each shard is at its home. Returns whether that happened."""
+        return come_to_rest(self.server, SHARDS, "ab")
 
     def in_the_end(self, *words: str, at: Service, is_said: Callable[[int, str], object] = lambda code, text: code == 0) -> tuple[int, str]:
-        """Repeats a command until `is_said` accepts the result, since a slot may just be moving. Returns the last result."""
+        """Repeats a command until `is_said` accepts the result, since a shard may just be moving. Returns the last result."""
         said: list[tuple[int, str]] = []
 
         def is_done() -> object:
@@ -92,7 +92,7 @@ class Both:
         return said[-1]
 
     def post(self, at: Service, second: int, sender: str = "A") -> list[int | None]:
-        """Posts a point for each process to one instance, and returns the statuses. Retries a post while its slot has no owner."""
+        """Posts a point for each process to one instance, and returns the statuses. Retries a post while its shard has no owner."""
         return [self.post_one(at, self.body(second, number), sender) for number in range(PROCESSES)]
 
     @staticmethod
@@ -129,19 +129,19 @@ class Both:
 
 
 def flushes(checks: Checks, both: Both, first: Service, second: Service) -> None:
-    checks.same("posts to one are taken, wherever their slots are", [200] * PROCESSES, both.post(first, 0))
+    checks.same("posts to one are taken, wherever their shards are", [200] * PROCESSES, both.post(first, 0))
     code, text = both.in_the_end("flush", at=second)
-    checks.true("a flush at the other is of all slots", code == 0 and "requests went into the outbox" in text, text)
+    checks.true("a flush at the other is of all shards", code == 0 and "requests went into the outbox" in text, text)
     checks.true("the sink has all", wait_until(lambda: both.total() == str(PROCESSES)), both.total())
 
 
 def quarantines(checks: Checks, both: Both, first: Service, second: Service) -> None:
     def named() -> list[Any]:
-        return [slot.get("quarantined") for slot in both.status(second)["slots"]]
+        return [shard.get("quarantined") for shard in both.status(second)["shards"]]
 
     checks.same("a sender is quarantined at one", 0, both.in_the_end("quarantine", "A", at=first)[0])
-    checks.same("and refused in all slots", [403] * PROCESSES, both.post(second, 10))
-    checks.true("the status of the other has it in each", wait_until(lambda: named() == [["A"]] * SLOTS), named())
+    checks.same("and refused in all shards", [403] * PROCESSES, both.post(second, 10))
+    checks.true("the status of the other has it in each", wait_until(lambda: named() == [["A"]] * SHARDS), named())
     checks.same("it is lifted at the other", 0, both.in_the_end("release", "A", at=second)[0])
     checks.same("and taken in all", [200] * PROCESSES, both.post(first, 10))
     for one, who in ((first, "(at "), (second, "(at ")):
@@ -155,21 +155,21 @@ def shows(checks: Checks, both: Both, first: Service, second: Service) -> None:
     def seen() -> tuple[set[str], int, int]:
         cluster = both.status(second)["cluster"]
         instances = cluster["instances"]
-        return ({one["name"] for one in instances}, sum(one["slots"] for one in instances),
+        return ({one["name"] for one in instances}, sum(one["shards"] for one in instances),
                 cluster["database"]["copies"])
 
-    checks.true("the status has both instances, whose slots are all, and the database",
-                wait_until(lambda: seen() == ({"a", "b"}, SLOTS, 1)), seen())
+    checks.true("the status has both instances, whose shards are all, and the database",
+                wait_until(lambda: seen() == ({"a", "b"}, SHARDS, 1)), seen())
     code, text = both.run("status", at=first)
     checks.true("it is printed", code == 0 and "last beat" in text and "Database of the store" in text, text)
     _, page = ask(first.operate, "GET", "/")
-    checks.true("the page has it", b"<h2>Instances</h2>" in page and b"<h2>Slots</h2>" in page, page[-2000:])
+    checks.true("the page has it", b"<h2>Instances</h2>" in page and b"<h2>Shards</h2>" in page, page[-2000:])
 
     def reported() -> int:
         reports = [one.asked("GET", "/report")[1].decode().splitlines() for one in both.all]
         return sum(line.startswith("series") for report in reports for line in report)
 
-    checks.true("the reports of both are of all slots", wait_until(lambda: reported() == PROCESSES), reported())
+    checks.true("the reports of both are of all shards", wait_until(lambda: reported() == PROCESSES), reported())
     _, metrics = ask(first.operate, "GET", "/metrics")
     missing = [name for name in METRICS if f"\ntotxegun_{name}" not in metrics.decode()]
     checks.same("the metrics of the cluster are there", [], missing)
@@ -200,20 +200,20 @@ def forgets(checks: Checks, both: Both, first: Service, second: Service) -> None
 def stops(checks: Checks, both: Both, first: Service, second: Service) -> None:
     second.signal(signal.SIGSTOP)
     code, text = both.in_the_end("flush", at=first)
-    checks.true("a flush while one stands still is of all slots once they have moved", code == 0, text)
+    checks.true("a flush while one stands still is of all shards once they have moved", code == 0, text)
     second.signal(signal.SIGCONT)
-    checks.true("both have slots again", both.at_rest(), both.run("status", at=first)[1])
+    checks.true("both have shards again", both.at_rest(), both.run("status", at=first)[1])
     code, text = both.in_the_end("senders", "rename", "B", "C", at=first, is_said=lambda code, text: "C's now" in text)
-    checks.true("a sender is renamed in the slots of both", code == 0 and " of B are C's now" in text, text)
+    checks.true("a sender is renamed in the shards of both", code == 0 and " of B are C's now" in text, text)
     second.kill()
     text = both.run("status", at=first)[1]
     are_moved = set(owners(both.server).values()) == {"a"}
-    checks.true("who does not answer is named, until all slots have moved", "nothing is known of it" in text or are_moved, text)
+    checks.true("who does not answer is named, until all shards have moved", "nothing is known of it" in text or are_moved, text)
     code, text = both.run("close", "2020-01", at=first)
     checks.true("so nothing is closed, or all is known again", code != 0 or "done" in text, text)
     code, text = both.in_the_end("flush", at=first)
-    checks.true("a flush waits for its slots", code == 0, text)
-    checks.same("the old name has none of the slots that were taken over", [400] * PROCESSES, both.post(first, 30, "B"))
+    checks.true("a flush waits for its shards", code == 0, text)
+    checks.same("the old name has none of the shards that were taken over", [400] * PROCESSES, both.post(first, 30, "B"))
     checks.same("the new name has all", [200] * PROCESSES, both.post(first, 30, "C"))
     checks.same("they are flushed", 0, both.in_the_end("flush", at=first)[0])
     checks.true("the sink has all", wait_until(lambda: both.total() == str(4 * PROCESSES)), both.total())
@@ -234,7 +234,7 @@ def main(words: list[str]) -> int:
             for one in both.all:
                 one.start()
             checks.true("they are ready", all(one.wait_ready() for one in both.all), [one.last_lines() for one in both.all])
-            checks.true("they share the slots", both.at_rest(), both.run("status", at=both.all[0])[1])
+            checks.true("they share the shards", both.at_rest(), both.run("status", at=both.all[0])[1])
             for tried in (flushes, quarantines, shows, closes, forgets, stops):
                 tried(checks, both, *both.all)
             checks.same("no faults", [], both.all[0].faults())

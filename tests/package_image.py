@@ -108,7 +108,7 @@ class Container:
     def is_drained(self) -> bool:
         """Whether the sink has all that was flushed."""
         status, text = self.said("status", "--json")
-        return status == 0 and all(slot["waiting"] == 0 for slot in json.loads(text)["slots"])
+        return status == 0 and all(shard["waiting"] == 0 for shard in json.loads(text)["shards"])
 
     def end(self) -> None:
         if self.process and self.process.poll() is None:

@@ -13,7 +13,7 @@ says of each of its points whether the sink has it, once or twice.
 
 One service has its files in a folder, and is killed before, within or behind a call that writes, syncs, renames, deletes or makes one
 of them, drawn by SEED. Of several instances (--instances 3) over a store in PostgreSQL one or more are killed at any time, and senders
-go to another one that is left; each request has two resources, and so two slots.
+go to another one that is left; each request has two resources, and so two shards.
 
 Then each point of a post that was answered 200, and was not named there, is in the sink once, and none that was refused by name or
 with its whole post. Only a body that was overtaken by the next one may be refused at all, as out of order. It needs gcc, and PostgreSQL
@@ -45,7 +45,7 @@ from store import instance
 from testing.servers import Pair
 
 POSTS, KILLS = 2_000, 40
-SLOTS = "6"
+SHARDS = "6"
 # Powers of four in 63 bits: so many posts has a series.
 OF_A_SERIES = 31
 PATIENCE = 120
@@ -336,7 +336,7 @@ def over_a_store(checks: Checks, arguments: argparse.Namespace, folder: str) -> 
         store, sink = Pair(), OtlpSink(arguments.seed)
         stack.callback(store.close)
         stack.callback(sink.close)
-        subprocess.run([arguments.totxegun, "store", "init", store.address, "--slots", SLOTS], check=True, capture_output=True)
+        subprocess.run([arguments.totxegun, "store", "init", store.address, "--shards", SHARDS], check=True, capture_output=True)
         store.make_standby()
         names = [f"i{number}" for number in range(arguments.instances)]
         services = [instance(arguments.totxegun, folder, name, store, sink, "--first", "count") for name in names]

@@ -120,7 +120,7 @@ class Trouble:
     def is_taken_of_some(self) -> bool:
         """Whether posts of some sender are accepted. If all are quarantined, nothing is written, and no call stalls."""
         status = self.service.status()
-        quarantined = {sender for slot in status["slots"] for sender in slot["quarantined"]} if status else set()
+        quarantined = {sender for shard in status["shards"] for sender in shard["quarantined"]} if status else set()
         return len(quarantined) < len(self.senders)
 
     def look(self, seconds: float, is_written: bool) -> None:
@@ -150,7 +150,7 @@ class Trouble:
         """Whether the service says that nobody is quarantined."""
         def is_done() -> bool:
             status = self.service.status()
-            left = [sender for slot in status["slots"] for sender in slot["quarantined"]] if status else [None]
+            left = [sender for shard in status["shards"] for sender in shard["quarantined"]] if status else [None]
             for sender in filter(None, left):
                 self.service.order(f"/release/{sender}", 5)
             return not left

@@ -4,11 +4,11 @@
     tests/several_machines.py TOTXEGUN [SECONDS [SEED,..]] [--sink otlp|postgres] [--long] [--other TOTXEGUN] [--keep FOLDER]
 
 Machines are network namespaces: three instances, a primary and its synchronous standby, and haproxy, which distributes posts in turn.
-Senders post requests of two resources, and so for two slots, through haproxy or for a while each to one instance, and retry each post
+Senders post requests of two resources, and so for two shards, through haproxy or for a while each to one instance, and retry each post
 until it is answered. For SECONDS (90) faults happen to machines, drawn by SEED, each kind once before one comes again:
 
-  - an instance is killed, with or without its folder; all are killed; one is stopped for a while; one ends and hands over its slots
-  - an instance is a zombie: it is stopped while it delivers, until others have its slots, and then goes on with the sink's answers
+  - an instance is killed, with or without its folder; all are killed; one is stopped for a while; one ends and hands over its shards
+  - an instance is a zombie: it is stopped while it delivers, until others have its shards, and then goes on with the sink's answers
   - packets from one machine to another are lost: between instance and servers, two instances, haproxy and instance, or instance and
     sink, also in one direction only
   - the primary is killed; it is lost, unplugged, or cut off while it lives, and the standby is promoted; its commits are cancelled while
@@ -49,11 +49,11 @@ from testing.machines import LED, OWN, Machine, Router, may_have_machines
 from testing.servers import LIMIT, Pair
 from testing.service import Answer, OtlpSink, Point, Service, Value, add_points, differences, overlaps, told_to_all, wait_until
 from several_trouble import OfMachines, OfServers, Trouble, befall
-from store import OfTwoSlots, post_while
+from store import OfTwoShards, post_while
 
 
 LISTEN, OPERATE, PEER = 4318, 4319, 4320
-SLOTS, SENDERS = "12", 8
+SHARDS, SENDERS = "12", 8
 SINKS = ("otlp", "postgres")
 # One for each sink. With these two, each kind of trouble comes once if each run has most of a minute.
 SEEDS = "59,28"
@@ -148,7 +148,7 @@ class Balancer:
 Door = Balancer | Instance
 
 
-class OverMachines(OfTwoSlots):
+class OverMachines(OfTwoShards):
     """Posts to one address. If its instance gives no answer for a while, it goes to another one."""
 
     def __init__(self, doors: Sequence[Door], number: int, seed: str) -> None:
@@ -317,7 +317,7 @@ def phase(checks: Checks, world: World, troubles: Sequence[Trouble], seconds: fl
 @contextlib.contextmanager
 def serving(checks: Checks, world: World, seed: str) -> Iterator[bool]:
     """Runs the instances over a new store while the context lasts. Yields whether they serve."""
-    words = [world.program, "store", "init", world.store.address, "--slots", SLOTS]
+    words = [world.program, "store", "init", world.store.address, "--shards", SHARDS]
     made = subprocess.run(words, capture_output=True, text=True, check=False, timeout=LIMIT)
     checks.same(f"{world.what}: a store is made", (0, ""), (made.returncode, made.stderr))
     world.store.make_standby()
@@ -332,15 +332,15 @@ def serving(checks: Checks, world: World, seed: str) -> Iterator[bool]:
 
 def end(checks: Checks, world: World) -> None:
     """All instances, which hand over all that they have."""
-    terms, versions = world.ask("select sum(term) from totxegun_store.slot"), world.ask(VERSIONS)
+    terms, versions = world.ask("select sum(term) from totxegun_store.shard"), world.ask(VERSIONS)
     print(f"note: {sum(one.posts for one in world.senders)} posts, {sum(one.repeats for one in world.senders)} repeats, {terms} terms,"
           f" {sum(one.starts for one in world.instances)} starts, versions {versions}", flush=True)
     for one in world.instances:
         one.leave()
         status, seconds = one.end(IN_THE_END)
         checks.true(f"{world.what}: {one.machine.name} ends", status == 0, f"status {status} after {seconds:.0f} s: {one.last_lines()}")
-    owners = world.ask("select string_agg(distinct owner, ',') from totxegun_store.slot")
-    checks.same(f"{world.what}: all slots are handed over", "", owners)
+    owners = world.ask("select string_agg(distinct owner, ',') from totxegun_store.shard")
+    checks.same(f"{world.what}: all shards are handed over", "", owners)
 
 
 def cut_twice(world: World) -> list[int]:

@@ -19,7 +19,7 @@ POSTS, POST_WITHIN = [0, 10, 50], 5
 # Seconds after a fault in which a machine was unplugged, which takes half a minute to be noticed.
 ANSWERED_WITHIN = 150
 CANCEL = "select count(pg_cancel_backend(pid)) from pg_stat_activity where wait_event = 'SyncRep'"
-# How long others may take to get a zombie's slots; then it goes on anyway.
+# How long others may take to get a zombie's shards; then it goes on anyway.
 TAKEN_WITHIN = 30
 
 
@@ -158,7 +158,7 @@ class OfMachines(Trouble):
         one.signal(signal.SIGCONT)
 
     def ended(self) -> None:
-        """The instance hands over its slots, and is started in either version."""
+        """The instance hands over its shards, and is started in either version."""
         one = self.one()
         one.leave()
         status, seconds = one.end(2 * TAKEN_WITHIN)
@@ -172,7 +172,7 @@ class OfMachines(Trouble):
         time.sleep(1.2)
         one.signal(signal.SIGSTOP)
         self.world.sink.mood(usual)
-        query = f"select count(*) from totxegun_store.slot where owner = '{one.machine.name}'"
+        query = f"select count(*) from totxegun_store.shard where owner = '{one.machine.name}'"
         wait_until(lambda: self.world.ask(query) == "0", TAKEN_WITHIN)
         self.wait()
         one.signal(signal.SIGCONT)
@@ -187,7 +187,7 @@ class OfMachines(Trouble):
         self.cut(*both_ways(one.machine, other.machine))
 
     def unreached(self) -> None:
-        """The other instances cannot reach it; the balancer and the servers can, so it hands over its slots."""
+        """The other instances cannot reach it; the balancer and the servers can, so it hands over its shards."""
         one = self.one()
         others = [other.machine for other in self.world.instances if other is not one]
         self.cut(*both_ways(one.machine, *others))

@@ -3,15 +3,15 @@
 
     tests/sink_model.py
 
-It needs no program. A folder makes requests, each with a key (slot, epoch, number) and what the series counted in an interval that
+It needs no program. A folder makes requests, each with a key (shard, epoch, number) and what the series counted in an interval that
 begins where the last one ended, or later. Requests are sent in order; an answer may be lost, so that one is sent again; one may be
 put aside, as a server's limits do, and is sent again by hand at any time, as is what the sink refused. The folder may be lost, so
 that a new one begins anywhere; a copy of it may be put back, which draws a new epoch, or doesn't where nobody can see that it is
 one; the series may be put back to an earlier end (a rewind, after which what it counted later counts again), or be forgotten. Other
-series of the folder, and of another slot with the same epoch, may be put back too. The folder may be a slot of a store, which draws
+series of the folder, and of another shard with the same epoch, may be put back too. The folder may be a shard of a store, which draws
 a new epoch whenever an instance takes it, also after the store went back: that epoch says from which number of which one it goes on.
 
-A sink keeps of the series where it ends, the life (epochs of a slot) that added to it last, and its floor: above it there is
+A sink keeps of the series where it ends, the life (epochs of a shard) that added to it last, and its floor: above it there is
 nothing but what that life has sent since the series was put back. Of each life it keeps which request put the series back last.
 In no state has it counted two intervals that overlap, but for what a rewind lets count again: what was made and counted before
 it, and what was made and counted after. Where there is one life, and the series is not put back, it takes all. A copy that
@@ -80,7 +80,7 @@ class Bounds(NamedTuple):
 
 
 class Request(NamedTuple):
-    slot: int
+    shard: int
     epoch: int
     number: int
     made: int  # which of all: two lives may give one key twice
@@ -101,12 +101,12 @@ class Folder(NamedTuple):
 
 
 class Life(NamedTuple):
-    """A row of `life`, and of the series the one of `rewind` that has its slot and epoch."""
+    """A row of `life`, and of the series the one of `rewind` that has its shard and epoch."""
 
-    slot: int
+    shard: int
     epoch: int
     rewound: int  # the number of the last request that put the series back; 0 without one
-    id: tuple[int, int] = GONE  # the slot and the first epoch of a life
+    id: tuple[int, int] = GONE  # the shard and the first epoch of a life
 
 
 class Counted(NamedTuple):
@@ -117,7 +117,7 @@ class Counted(NamedTuple):
 
 
 class Sink(NamedTuple):
-    keys: tuple[tuple[int, int, int, int, bool], ...] = ()  # slot, epoch, number, made, whether it was added
+    keys: tuple[tuple[int, int, int, int, bool], ...] = ()  # shard, epoch, number, made, whether it was added
     lives: tuple[Life, ...] = ()
     # Of the series:
     life: Optional[tuple[int, int]] = None  # its id; none without points
@@ -150,7 +150,7 @@ def life_of(rules: Rules, sink: Sink, request: Request) -> tuple[Sink, Life]:
     for life in sink.lives:
         if life[:2] == request[:2]:
             return sink, life
-    life = Life(request.slot, request.epoch, 0, begun(rules, sink, request))
+    life = Life(request.shard, request.epoch, 0, begun(rules, sink, request))
     return sink._replace(lives=with_one(sink.lives, life)), life
 
 
@@ -161,7 +161,7 @@ def begun(rules: Rules, sink: Sink, request: Request) -> tuple[int, int]:
         return own
     before, number = request.goes_on
     id_of: dict[tuple[int, ...], tuple[int, int]] = {life[:2]: life.id for life in sink.lives}
-    goes_on = id_of.get((request.slot, before), (request.slot, before))
+    goes_on = id_of.get((request.shard, before), (request.shard, before))
     is_beyond = any(id_of.get(key[:2]) == goes_on and key[2] > number and key[:2] != own for key in sink.keys)
     return own if is_beyond and rules.an_epoch_that_lacks_some_begins_a_life else goes_on
 
@@ -171,7 +171,7 @@ def changed(sink: Sink, life: Life, after: Life) -> Sink:
 
 
 def begin(sink: Sink, request: Request) -> Sink:
-    """What its slot and epoch send from now on is of another life."""
+    """What its shard and epoch send from now on is of another life."""
     return sink._replace(life=GONE) if sink.life in {life.id for life in sink.lives if life[:2] == request[:2]} else sink
 
 
@@ -225,8 +225,8 @@ def added(rules: Rules, sink: Sink, life: Life, request: Request, is_by_hand: bo
 
 def deliver(rules: Rules, sink: Sink, request: Request, is_by_hand: bool = False) -> tuple[Sink, bool]:
     """What the sink has then, and whether it has the request."""
-    for slot, epoch, number, made, was_added in sink.keys:
-        if rules.keys_are_taken_once and (slot, epoch, number) == request[:3]:
+    for shard, epoch, number, made, was_added in sink.keys:
+        if rules.keys_are_taken_once and (shard, epoch, number) == request[:3]:
             if made == request.made:
                 return sink, was_added
             return begin(sink, request) if rules.another_request_of_a_key_begins_a_life else sink, False
@@ -293,7 +293,7 @@ def steps(rules: Rules, bounds: Bounds, state: State) -> Iterator[tuple[str, Sta
 
 def shown(request: Request) -> str:
     what = f"({request.start}, {request.end}]" if request.end is not None else f"back to {request.start}"
-    return f"{request.slot}-{request.epoch}-{request.number} {what}"
+    return f"{request.shard}-{request.epoch}-{request.number} {what}"
 
 
 def troubles(rules: Rules, bounds: Bounds, state: State) -> Iterator[tuple[str, State]]:
@@ -329,7 +329,7 @@ def troubles(rules: Rules, bounds: Bounds, state: State) -> Iterator[tuple[str, 
         for number in (1, folder.number):
             beside = Request(1, folder.epoch, number, -1, 0, None, is_of_others=True)
             after = state._replace(sink=deliver(rules, state.sink, beside)[0])
-            yield f"a series of another slot is put back by {shown(beside)}", after
+            yield f"a series of another shard is put back by {shown(beside)}", after
         state = state._replace(has_others=False)
     if state.is_plain and folder.frontier:
         for to in range(folder.frontier):

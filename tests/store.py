@@ -3,9 +3,9 @@
 
     tests/store.py PROGRAM [SECONDS [SEED]]
 
-For SECONDS (30) senders post requests of two resources, and so for two slots, to an instance, while the instance is killed, stopped and
-ended, and the servers of the store are killed, promoted and held. For the second half there are two instances, which take slots from each
-other. Then the sink must have what senders know to be accepted. Rows of slots that the store has lost are reported. Without PostgreSQL
+For SECONDS (30) senders post requests of two resources, and so for two shards, to an instance, while the instance is killed, stopped and
+ended, and the servers of the store are killed, promoted and held. For the second half there are two instances, which take shards from each
+other. Then the sink must have what senders know to be accepted. Rows of shards that the store has lost are reported. Without PostgreSQL
 the test is left out.
 
 Each line is a check; the last line counts passes and failures. The status is 0 if none failed.
@@ -35,7 +35,7 @@ from testing.service import (JSON, PROTOBUF, Answer, OtlpSink, Point, Post, Send
 SENDERS = 6
 
 
-class OfTwoSlots(Sender):
+class OfTwoShards(Sender):
     """A sender whose sums have one resource and whose histograms another."""
 
     def encoded(self, points: Sequence[Point]) -> Post:
@@ -46,7 +46,7 @@ class OfTwoSlots(Sender):
         return by_resource(kind, groups), {"Content-Type": kind, "x-sender": self.name}
 
 
-class AtAny(OfTwoSlots):
+class AtAny(OfTwoShards):
     """Posts to one instance, and to another one if there is no answer."""
 
     def __init__(self, instances: Sequence[Service], number: int) -> None:
@@ -75,11 +75,11 @@ def try_starts(checks: Checks, program: str, store: Pair, folder: str) -> None:
     for what, line, part in (("a store that was not made", [*words, *sink], "store init"),
                              ("a SQLite file", [*words, "--sink", f"sqlite:{folder}/s"], "SQLite file"),
                              ("no sink", words, "--sink"),
-                             ("no slots", ["store", "init", store.address, "--slots", "0"], "--slots")):
+                             ("no shards", ["store", "init", store.address, "--shards", "0"], "--shards")):
         status, text = run(*line)
         checks.true(f"{what} is refused by name", status in (1, 2) and part in text, text)
     status, text = run("store", "init", store.address)
-    checks.true("a store is made, of 12 slots", status == 0 and text.startswith("a store of 12 slots in "), text)
+    checks.true("a store is made, of 12 shards", status == 0 and text.startswith("a store of 12 shards in "), text)
     status, text = run("store", "init", store.address)
     checks.true("it is made once", status == 1 and "has a store already" in text, text)
     status, text = run(*words, *sink)
@@ -171,7 +171,7 @@ def compare(checks: Checks, instances: Sequence[Service], senders: Sequence[Send
         add_points(found, sink.points())
         return differences(told_to_all(senders), found)
 
-    # Each instance flushes its own slots once a second.
+    # Each instance flushes its own shards once a second.
     wait_until(lambda: not missing())
     checks.true("the sink has what senders were told", not missing(), [missing(), *[one.last_lines() for one in instances]])
     points = sink.points()
@@ -208,25 +208,25 @@ def load(checks: Checks, program: str, store: Pair, folder: str, seconds: float,
         for one in (first, second):
             status = one.end()[0]
             checks.true("it ends", status == 0, f"status {status}: {one.last_lines(30)}")
-        owners = store.primary.ask("select string_agg(distinct owner, ',') from totxegun_store.slot")
-        checks.same("all slots are handed over", "", owners)
+        owners = store.primary.ask("select string_agg(distinct owner, ',') from totxegun_store.shard")
+        checks.same("all shards are handed over", "", owners)
     finally:
         for one in (first, second):
             one.kill()
 
 
 def terms(store: Pair) -> int:
-    """How often slots were taken."""
-    return int(store.ask("select sum(term) from totxegun_store.slot") or 0)
+    """How often shards were taken."""
+    return int(store.ask("select sum(term) from totxegun_store.shard") or 0)
 
 
 def waiting(service: Service) -> int:
     """How many requests wait for the sink."""
-    return sum(slot["waiting"] for slot in service.status()["slots"])
+    return sum(shard["waiting"] for shard in service.status()["shards"])
 
 
 def try_lost_rows(checks: Checks, program: str, store: Pair, folder: str, sink: OtlpSink) -> None:
-    """A slot of which the store has lost rows must not be served. The reason is shown, and nobody tries to take the slot all the time."""
+    """A shard of which the store has lost rows must not be served. The reason is shown, and nobody tries to take the shard all the time."""
     one = instance(program, folder, "c", store, sink)
     sink.mood(["busy"])
     one.start()
@@ -234,13 +234,13 @@ def try_lost_rows(checks: Checks, program: str, store: Pair, folder: str, sink: 
         checks.true("an instance serves whose sink is busy", one.wait_ready(), one.last_lines())
         if not one.is_running():
             return
-        sender = OfTwoSlots(one, SENDERS)
+        sender = OfTwoShards(one, SENDERS)
         sender.post(sender.next_points())
         checks.true("its requests wait", wait_until(lambda: waiting(one) > 0), one.last_lines())
         one.kill()
-        outboxes = "select slot, file from totxegun_store.file where name like 'outbox/%'"
-        lost = store.ask(f"with gone as (delete from totxegun_store.piece where (slot, file) in ({outboxes}) returning slot) "
-                         "select count(distinct slot) from gone")
+        outboxes = "select shard, file from totxegun_store.file where name like 'outbox/%'"
+        lost = store.ask(f"with gone as (delete from totxegun_store.piece where (shard, file) in ({outboxes}) returning shard) "
+                         "select count(distinct shard) from gone")
         one.start()
 
         def says() -> bool:
@@ -253,7 +253,7 @@ def try_lost_rows(checks: Checks, program: str, store: Pair, folder: str, sink: 
         time.sleep(9)
         # The next attempt comes after ten seconds, and each further one later.
         taken = terms(store) - before
-        checks.true("it is not taken all the time", taken <= int(lost or 0), f"{taken} times, of {lost} slots")
+        checks.true("it is not taken all the time", taken <= int(lost or 0), f"{taken} times, of {lost} shards")
     finally:
         one.kill()
 

@@ -6,7 +6,7 @@
 Senders post to an instance, and the sink has what they know to be accepted. Then the store goes back to an earlier state, and they go on,
 with new senders beside them. What the new senders know to be accepted must be in the sink: in an OTLP receiver that recognises
 duplicates by their keys, and in a PostgreSQL database. The database must also have what the other senders know to be accepted: what was
-delivered before the store went back, and what came afterwards. The program must say what the sink has beyond the store. A slot whose rows
+delivered before the store went back, and what came afterwards. The program must say what the sink has beyond the store. A shard whose rows
 are gone is not served until an operator has permitted it. Without PostgreSQL the test is left out.
 
 Each line is a check; the last line counts passes and failures. The status is 0 if none failed.
@@ -22,7 +22,7 @@ from typing import Protocol
 
 sys.path.insert(1, f"{os.path.dirname(os.path.dirname(os.path.abspath(__file__)))}/demo")
 
-from store import Addressed, OfTwoSlots, instance  # noqa: E402
+from store import Addressed, OfTwoShards, instance  # noqa: E402
 from testing.checks import Checks  # noqa: E402
 from testing.database import initdb  # noqa: E402
 from testing.servers import Pair, Server  # noqa: E402
@@ -137,7 +137,7 @@ def goes_back(checks: Checks, program: str, one: Service, way: Dump | Lag, sink:
     what = f"a store {way.name}, {type(sink).__name__}"
     one.start()
     checks.true(f"{what}: an instance serves", one.wait_ready(), one.last_lines())
-    before, after = ([OfTwoSlots(one, number) for number in range(first, first + 6)] for first in (0, 100))
+    before, after = ([OfTwoShards(one, number) for number in range(first, first + 6)] for first in (0, 100))
     post(checks, "its first posts", before)
     checks.true("they are delivered", one.has_delivered_all(), one.last_lines())
     post(checks, "posts that it may still have in its journal", before)
@@ -177,21 +177,21 @@ def is_said(one: Service, part: str) -> bool:
 
 # Which rows are gone, how the test removes them, how the program names that, and what an operator then types.
 GONE: Sequence[tuple[str, str, str, Sequence[str]]] = (
-    ("files", "delete from totxegun_store.piece; delete from totxegun_store.file", "although the slot had files", ()),
+    ("files", "delete from totxegun_store.piece; delete from totxegun_store.file", "although the shard had files", ()),
     ("a piece", "delete from totxegun_store.piece where number = (select min(number) from totxegun_store.piece)",
      "totxegun store restored --anew 0", ("--anew", "0")))
 
 
 def begin_anew(checks: Checks, program: str, folder: str, sink: HasTotals) -> None:
-    """Removes the rows of a slot's files, and then those of one piece."""
+    """Removes the rows of a shard's files, and then those of one piece."""
     store = Pair()
     one = instance(program, folder, "b", store, sink)
     one.words += ["--store-copies", "1"]
     try:
-        subprocess.run([program, "store", "init", store.address, "--slots", "1"], check=True, capture_output=True)
+        subprocess.run([program, "store", "init", store.address, "--shards", "1"], check=True, capture_output=True)
         one.start()
-        checks.true("an instance serves a slot", one.wait_ready(), one.last_lines())
-        sender = OfTwoSlots(one, 200)
+        checks.true("an instance serves a shard", one.wait_ready(), one.last_lines())
+        sender = OfTwoShards(one, 200)
         post(checks, "its posts", [sender])
         checks.true("they are delivered", one.has_delivered_all(), one.last_lines())
         for what, gone, part, words in GONE:
@@ -201,7 +201,7 @@ def begin_anew(checks: Checks, program: str, folder: str, sink: HasTotals) -> No
             store.ask(gone)
             one.start()
             checks.true(f"status names {what} that are gone", is_said(one, part), one.last_lines())
-            taken = "select term from totxegun_store.slot"
+            taken = "select term from totxegun_store.shard"
             before = int(store.ask(taken))
             answer = sender.try_once(*sender.encoded(sender.next_points()))
             checks.true("no post is taken meanwhile", answer[0] in (None, 503), answer)
@@ -209,10 +209,10 @@ def begin_anew(checks: Checks, program: str, folder: str, sink: HasTotals) -> No
             checks.true("it is not taken all the time", int(store.ask(taken)) - before <= 1, one.last_lines())
             one.kill()
             status, text = restored(program, store, *words)
-            checks.true("it begins with nothing", status == 0 and "slot 0 begins with nothing" in text, text)
+            checks.true("it begins with nothing", status == 0 and "shard 0 begins with nothing" in text, text)
             one.start()
             checks.true("it is served once an operator has said so", one.wait_ready(), one.last_lines())
-            new = OfTwoSlots(one, f"201.{what[:1]}")
+            new = OfTwoShards(one, f"201.{what[:1]}")
             post(checks, "posts of a new sender", [new])
             checks.true("they are delivered", one.has_delivered_all(), one.last_lines())
             found = {name: total for name, total in sink.totals().items() if name in new.told}

@@ -40,7 +40,7 @@ from testing.service import (JSON, PROTOBUF, OtlpSink, Point, Post, Sender, Serv
 from service_interrupted import build  # noqa: E402
 from testing.servers import Server  # noqa: E402
 
-SLOTS = "4"
+SHARDS = "4"
 SENDERS = 4
 ONE_COPY = ("--store-copies", "1")
 CUMULATIVE = 2
@@ -54,7 +54,7 @@ Kill = tuple[int, str]
 Way = tuple[str, Kill | None, dict[str, str] | None]
 
 
-class OfSlots(Sender):
+class OfShards(Sender):
     """A sender whose sums have one resource and whose histograms another, in both encodings."""
 
     service: Service
@@ -110,10 +110,10 @@ class Running(Sender):
         return request, {"Content-Type": PROTOBUF, "x-sender": self.name}
 
 
-def post_all(senders: Iterable[OfSlots | Running], times: int = 1) -> None:
+def post_all(senders: Iterable[OfShards | Running], times: int = 1) -> None:
     for _ in range(times):
         for sender in senders:
-            def between(sender: OfSlots | Running = sender) -> None:
+            def between(sender: OfShards | Running = sender) -> None:
                 if not sender.service.is_running():
                     raise Failed(f"it has ended: {sender.service.last_lines()}")
             sender.post(sender.next_points(), between)
@@ -127,7 +127,7 @@ class Filled:
         service = Service(program, self.data, self.sink.address, "--flush-interval", "1h", "--cumulative", "on")
         service.start()
         checks.true("a service fills a folder", service.wait_ready(), service.last_lines())
-        self.senders: list[OfSlots | Running] = [OfSlots(service, number) for number in range(SENDERS)]
+        self.senders: list[OfShards | Running] = [OfShards(service, number) for number in range(SENDERS)]
         self.senders += [Running(service, number) for number in range(2)]
         post_all(self.senders, 3)
         service.order("/flush")
@@ -163,7 +163,7 @@ class Filled:
             sender.close()
             sender.connection, sender.service = None, instance
         body, headers = self.held.encoded(self.held.next_points())
-        wait_until(lambda: self.held.try_once(body, headers)[0] != 503)  # until its slot is taken
+        wait_until(lambda: self.held.try_once(body, headers)[0] != 503)  # until its shard is taken
         checks.same(f"{what}: a quarantined sender stays so", 403, self.held.try_once(body, headers)[0])
         post_all([sender for sender in self.senders if sender is not self.held], 2)
 
@@ -303,7 +303,7 @@ class Moves:
     def database(self) -> str:
         name = f"m{next(NUMBERS)}"
         self.server.ask(f"create database {name}")
-        status, text = run(self.program, "store", "init", self.address(name), "--slots", SLOTS)
+        status, text = run(self.program, "store", "init", self.address(name), "--shards", SHARDS)
         if status:
             raise Failed(text)
         return name

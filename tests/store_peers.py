@@ -4,8 +4,8 @@
     tests/store_peers.py PROGRAM
 
 They speak TLS with each other, and let nobody else in; a start waits for the store; without it posts are turned away at
-once; a slot that one can't open goes to another; what `--integer-unit auto` has decided stays where the slot goes; the sink is the
-one that the store knows; one whose clock is wrong has no slots; of two processes of one name the later one ends; a server that
+once; a shard that one can't open goes to another; what `--integer-unit auto` has decided stays where the shard goes; the sink is the
+one that the store knows; one whose clock is wrong has no shards; of two processes of one name the later one ends; a server that
 asks for no standby any more is seen. Left out without PostgreSQL, openssl or gcc.
 
 Each line is a check; the last line counts passes and failures. The status is 0 if none failed.
@@ -30,9 +30,9 @@ from testing.loopback import free_port  # noqa: E402
 from testing.database import initdb  # noqa: E402
 from testing.servers import Pair, Server  # noqa: E402
 from testing.service import DELTA, JSON, OtlpSink, Service, wait_until  # noqa: E402
-from testing.slots import IN_THE_END, come_to_rest, places  # noqa: E402
+from testing.shards import IN_THE_END, come_to_rest, places  # noqa: E402
 
-SLOTS = 8
+SHARDS = 8
 SECOND = 1_000_000_000
 # The status and the text of an answer, or (None, "").
 Said = tuple[int | None, str]
@@ -50,11 +50,11 @@ class Store:
     def ask(self, query: str) -> str | None:
         return self.server.ask(query)
 
-    def term(self, slot: int) -> int:
-        return int(self.ask(f"select term from totxegun_store.slot where slot = {slot}"))
+    def term(self, shard: int) -> int:
+        return int(self.ask(f"select term from totxegun_store.shard where shard = {shard}"))
 
     def owners(self) -> list[str]:
-        return (self.ask("select string_agg(owner, ',' order by slot) from totxegun_store.slot") or "").split(",")
+        return (self.ask("select string_agg(owner, ',' order by shard) from totxegun_store.shard") or "").split(",")
 
 
 class Instance(Service):
@@ -70,7 +70,7 @@ class Instance(Service):
         return post(self.listen, request(resource, value, name, unit), sender)
 
     def posted(self, body: str) -> Said:
-        """The same once somebody has its slot."""
+        """The same once somebody has its shard."""
         said: list[Said] = []
 
         def is_heard() -> bool:
@@ -80,9 +80,9 @@ class Instance(Service):
         wait_until(is_heard, IN_THE_END)
         return said[-1]
 
-    def slots(self) -> list[int]:
+    def shards(self) -> list[int]:
         answer = self.asked("GET", "/status")
-        return [slot["slot"] for slot in json.loads(answer[1])["slots"]] if answer and answer[0] == 200 else []
+        return [shard["shard"] for shard in json.loads(answer[1])["shards"]] if answer and answer[0] == 200 else []
 
 
 LAST: dict[tuple[str, str], int] = {}
@@ -134,8 +134,8 @@ def of_tls(folder: str, name: str, by: str = "ca") -> list[str]:
 
 
 def settled(store: Store, *names: str) -> bool:
-    """Each slot is at its place among these."""
-    return come_to_rest(store.server, SLOTS, names)
+    """Each shard is at its place among these."""
+    return come_to_rest(store.server, SHARDS, names)
 
 
 def ended(checks: Checks, what: str, *instances: Instance) -> None:
@@ -169,7 +169,7 @@ def try_tls(checks: Checks, program: str, folder: str, store: Store, sink: OtlpS
     one, other = (Instance(program, folder, name, store, sink.address, *of_tls(folder, name)) for name in "ab")
     for instance in (one, other):
         instance.start()
-    checks.true("two over TLS have their slots", settled(store, "a", "b"), [one.last_lines(), other.last_lines()])
+    checks.true("two over TLS have their shards", settled(store, "a", "b"), [one.last_lines(), other.last_lines()])
     resources = [f"r{number}" for number in range(40)]
     answers = [instance.posted(request(resource, 1)) for resource in resources for instance in (one, other)]
     checks.same("posts are brought over TLS", {200}, {status for status, _ in answers})
@@ -215,55 +215,56 @@ def try_no_store(checks: Checks, program: str, folder: str, store: Store, sink: 
     ended(checks, "after the store was away", one)
 
 
-def refusing(instance: Instance, slot: int) -> set[str]:
-    """Those that an instance's status says can't open a slot."""
+def refusing(instance: Instance, shard: int) -> set[str]:
+    """Those that an instance's status says can't open a shard."""
     status = instance.status() or {"cluster": {"instances": []}}
-    words = f"it can't open slot {slot}:"
+    words = f"it can't open shard {shard}:"
     return {one["name"] for one in status["cluster"]["instances"] if (one["trouble"] or "").startswith(words)}
 
 
-def try_broken_slot(checks: Checks, program: str, folder: str, store: Store, sink: OtlpSink) -> None:
-    """The book of one instance has no room for what a slot has."""
+def try_broken_shard(checks: Checks, program: str, folder: str, store: Store, sink: OtlpSink) -> None:
+    """The book of one instance has no room for what a shard has."""
     one = Instance(program, folder, "a", store, sink.address)
     one.start()
     checks.true("one has all", settled(store, "a") and one.wait_ready(), one.last_lines())
     checks.true("posts are taken", wait_until(lambda: one.post("r2", 1)[0] == 200), one.last_lines())
-    slot = max(one.slots(), key=lambda slot: int(store.ask(
-        f"select coalesce(sum(length), 0) from totxegun_store.piece where slot = {slot}")))
-    ended(checks, "before a slot is broken", one)
-    of_slot = f"totxegun_store.piece where slot = {slot}"
-    for what, broken in (("a byte is another", f"update totxegun_store.piece set length = octet_length(bytes) where slot = {slot};"
+    shard = max(one.shards(), key=lambda shard: int(store.ask(
+        f"select coalesce(sum(length), 0) from totxegun_store.piece where shard = {shard}")))
+    ended(checks, "before a shard is broken", one)
+    of_shard = f"totxegun_store.piece where shard = {shard}"
+    for what, broken in (("a byte is another", f"update totxegun_store.piece set length = octet_length(bytes) where shard = {shard};"
                           " update totxegun_store.piece set bytes = set_byte(bytes, 0, 255 - get_byte(bytes, 0))"
-                          f" where slot = {slot}"),
-                         ("a row is gone", f"delete from {of_slot} and number = (select min(number) from {of_slot})")):
-        saved = store.ask(f"select string_agg(format('(%s,%s,%s,%s,%s,%L)', slot, file, number, place, length, bytes), ',') from {of_slot}")
+                          f" where shard = {shard}"),
+                         ("a row is gone", f"delete from {of_shard} and number = (select min(number) from {of_shard})")):
+        saved = store.ask("select string_agg(format('(%s,%s,%s,%s,%s,%L)', shard, file, number, place, length, bytes), ',') "
+                          f"from {of_shard}")
         store.ask(broken)
         one, other = (Instance(program, folder, name, store, sink.address) for name in "ab")
-        nobody_opens(checks, what, store, slot, one, other)
-        store.ask(f"delete from {of_slot};"
-                  f" insert into totxegun_store.piece (slot, file, number, place, length, bytes) values {saved}")
+        nobody_opens(checks, what, store, shard, one, other)
+        store.ask(f"delete from {of_shard};"
+                  f" insert into totxegun_store.piece (shard, file, number, place, length, bytes) values {saved}")
         serve_again(checks, what, store, one, other)
 
 
-def nobody_opens(checks: Checks, what: str, store: Store, slot: int, one: Instance, other: Instance) -> None:
-    """All but this slot are served, and why is shown."""
+def nobody_opens(checks: Checks, what: str, store: Store, shard: int, one: Instance, other: Instance) -> None:
+    """All but this shard are served, and why is shown."""
     for instance in (one, other):
         instance.start()
-    refused = "select count(*) from totxegun_store.instance where told like '%" + f'"{slot}":' + "%'"
-    checks.true(f"{what}: both refuse a slot that nobody can open", wait_until(lambda: store.ask(refused) == "2", IN_THE_END),
+    refused = "select count(*) from totxegun_store.instance where told like '%" + f'"{shard}":' + "%'"
+    checks.true(f"{what}: both refuse a shard that nobody can open", wait_until(lambda: store.ask(refused) == "2", IN_THE_END),
                 [store.ask("select * from totxegun_store.instance"), one.last_lines(), other.last_lines()])
     checks.true(f"{what}: the others are served", wait_until(lambda: store.owners().count("") == 1
                                                              and {"a", "b"} <= set(store.owners()), IN_THE_END), store.owners())
 
     def shows(instance: Instance) -> bool:
-        return wait_until(lambda: refusing(instance, slot) == {"a", "b"}, IN_THE_END)
+        return wait_until(lambda: refusing(instance, shard) == {"a", "b"}, IN_THE_END)
 
     for instance in (one, other):
         checks.true(f"{what}: {instance.name} shows that both can't open it", shows(instance), instance.status())
-    term, begun = store.term(slot), time.monotonic()
+    term, begun = store.term(shard), time.monotonic()
     time.sleep(5)
     most = 3 + (time.monotonic() - begun) / 5
-    checks.true(f"{what}: it is not thrown to and fro", store.term(slot) - term <= most, (term, store.term(slot)))
+    checks.true(f"{what}: it is not thrown to and fro", store.term(shard) - term <= most, (term, store.term(shard)))
     checks.true(f"{what}: both go on", one.is_running() and other.is_running(), [one.last_lines(), other.last_lines()])
 
 
@@ -274,27 +275,27 @@ def serve_again(checks: Checks, what: str, store: Store, one: Instance, other: I
 
 
 def series(instance: Instance) -> dict[int, int]:
-    """Of each slot how many series it has, once all say so."""
+    """Of each shard how many series it has, once all say so."""
     said: list[dict[int, int]] = []
 
     def is_whole() -> bool:
-        slots = (instance.status() or {"slots": []})["slots"]
-        said.append({slot["slot"]: slot["series"] for slot in slots if "unknown" not in slot})
-        return len(said[-1]) == SLOTS
+        shards = (instance.status() or {"shards": []})["shards"]
+        said.append({shard["shard"]: shard["series"] for shard in shards if "unknown" not in shard})
+        return len(said[-1]) == SHARDS
 
     wait_until(is_whole, IN_THE_END)
     return said[-1]
 
 
-def slot_of(instance: Instance, resource: str) -> int:
-    """The slot that a new resource is in: it has one series more."""
+def shard_of(instance: Instance, resource: str) -> int:
+    """The shard that a new resource is in: it has one series more."""
     before = series(instance)
     found: list[int] = []
     instance.posted(request(resource, 1, "probe"))
 
     def is_seen() -> bool:
         now = series(instance)
-        found[:] = [slot for slot in now if now[slot] > before.get(slot, now[slot])]
+        found[:] = [shard for shard in now if now[shard] > before.get(shard, now[shard])]
         return len(found) == 1
 
     wait_until(is_seen, IN_THE_END)
@@ -306,12 +307,12 @@ def try_units(checks: Checks, program: str, folder: str, store: Store, sink: Otl
     one, other = (Instance(program, folder, name, store, sink.address) for name in "ab")
     for instance in (one, other):
         instance.start()
-    checks.true("two have their slots", settled(store, "a", "b"), [one.last_lines(), other.last_lines()])
+    checks.true("two have their shards", settled(store, "a", "b"), [one.last_lines(), other.last_lines()])
     resources = [f"resource-{number:02}" for number in range(12)]
-    of_slots = places(range(SLOTS), "ab")
-    homes = {of_slots[slot_of(one, resource)]: resource for resource in resources}
+    of_shards = places(range(SHARDS), "ab")
+    homes = {of_shards[shard_of(one, resource)]: resource for resource in resources}
     checks.same("each has a resource", {"a", "b"}, set(homes))
-    # The one that takes over has taken the name in whole seconds, in a slot of its own.
+    # The one that takes over has taken the name in whole seconds, in a shard of its own.
     checks.same("whole numbers come first at the one", 200, other.posted(request(homes["b"], 7, "whole", "s"))[0])
     body = request(homes["a"], 0.25, "whole", "s")
     status, text = one.posted(body)
@@ -354,7 +355,7 @@ def try_clock(checks: Checks, program: str, folder: str, store: Store, sink: Otl
     one, other = (Instance(program, folder, name, store, sink.address, "--max-ahead", "100s") for name in "ab")
     one.start()
     other.start(clock.environment())
-    checks.true("two have their slots", settled(store, "a", "b"), [one.last_lines(), other.last_lines()])
+    checks.true("two have their shards", settled(store, "a", "b"), [one.last_lines(), other.last_lines()])
     clock.set(23 * SECOND // 2)
     checks.true("one whose clock is wrong hands all over", settled(store, "a"), [store.owners(), other.last_lines()])
     ready = other.asked("GET", "/readyz")
@@ -368,7 +369,7 @@ def try_clock(checks: Checks, program: str, folder: str, store: Store, sink: Otl
     answers = [other.posted(request(f"r{number}", 1)) for number in range(20)]
     checks.same("what is posted there is brought to the other, which takes it", {(200, "{}")}, set(answers))
     clock.set(0)
-    checks.true("it has slots again once its clock is right", settled(store, "a", "b") and other.wait_ready(), other.last_lines())
+    checks.true("it has shards again once its clock is right", settled(store, "a", "b") and other.wait_ready(), other.last_lines())
     ended(checks, "clocks", one, other)
 
 
@@ -377,14 +378,14 @@ def try_namesake(checks: Checks, program: str, folder: str, store: Store, sink: 
     one = Instance(program, folder, "a", store, sink.address)
     one.start()
     checks.true("one has all", settled(store, "a") and one.wait_ready(), one.last_lines())
-    terms = store.ask("select sum(term) from totxegun_store.slot")
+    terms = store.ask("select sum(term) from totxegun_store.shard")
     os.mkdir(f"{folder}/other")
     later = Instance(program, f"{folder}/other", "a", store, sink.address)
     later.start()
     checks.true("the later one ends", wait_until(lambda: not later.is_running(), IN_THE_END), later.last_lines())
     checks.true("by a status, and a line", later.process.returncode == 2 and "already uses the name a" in later.last_lines(),
                 [later.process.returncode, later.last_lines()])
-    checks.same("no slot was taken", terms, store.ask("select sum(term) from totxegun_store.slot"))
+    checks.same("no shard was taken", terms, store.ask("select sum(term) from totxegun_store.shard"))
     checks.true("the other goes on", one.is_ready() and one.posted(request("r3", 1))[0] == 200, one.last_lines())
     one.kill()
     one.start()
@@ -397,7 +398,7 @@ def try_copies(checks: Checks, program: str, folder: str, _: Store, sink: OtlpSi
     """Its server asks for no standby any more while it runs."""
     pair = Pair()
     try:
-        subprocess.run([program, "store", "init", pair.address, "--slots", "4"], check=True, capture_output=True)
+        subprocess.run([program, "store", "init", pair.address, "--shards", "4"], check=True, capture_output=True)
         pair.make_standby()
         one = Service(program, f"{folder}/copies", sink.address, "--store", pair.address, "--instance", "a", "--peer",
                       f"localhost:{free_port()}")
@@ -438,9 +439,9 @@ def main(words: list[str]) -> int:
         try:
             certificates(folder)
             try_refused(checks, program, folder, store, sink)
-            done = subprocess.run([program, "store", "init", store.address, "--slots", str(SLOTS)], check=False)
+            done = subprocess.run([program, "store", "init", store.address, "--shards", str(SHARDS)], check=False)
             checks.same("a store is made", 0, done.returncode)
-            for part in (try_tls, try_no_store, try_broken_slot, try_units, try_clock, try_namesake, try_copies, try_sink):
+            for part in (try_tls, try_no_store, try_broken_shard, try_units, try_clock, try_namesake, try_copies, try_sink):
                 part(checks, program, folder, store, sink)
         finally:
             sink.close()

@@ -216,7 +216,7 @@ def run(checks: Checks, totxegun: str, seconds: float, folder: str, stack: conte
     checks.same("without a name; without TLS; the admin address", ["401", "None", "not reached", ""], without)
     checks.same("the programs in Go end", [0, 0], [one.wait(120) for one in programs])
     said("flush")
-    checks.true("all is delivered", wait_until(lambda: json.loads(said("status", "--json"))["slots"][0]["waiting"] == 0), said("status"))
+    checks.true("all is delivered", wait_until(lambda: json.loads(said("status", "--json"))["shards"][0]["waiting"] == 0), said("status"))
     report = ask(f"{data}/admin.sock", "GET", "/report")[1].decode()
     owners = dict(re.findall(r"^series (\S+) .* owner (\S+) ", report, re.MULTILINE))
     taken = int(python.stdout or 0)

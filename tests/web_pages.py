@@ -132,10 +132,10 @@ def look(checks: Checks, what: str, found: Any, readable: bool) -> None:
 def state(service: Service) -> Any:
     """Everything that an order would change."""
     status = service.status()
-    slot = status["slots"][0]
+    shard = status["shards"][0]
     with open(f"{service.data}/acts.jsonl", encoding="utf-8") as file:
         acts = file.read()
-    return acts, slot["quarantined"], slot["series"], status["dead_letters"], json.loads(service.asked("GET", "/dead-letters")[1])
+    return acts, shard["quarantined"], shard["series"], status["dead_letters"], json.loads(service.asked("GET", "/dead-letters")[1])
 
 
 def put_letter(service: Service) -> None:

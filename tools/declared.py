@@ -1,7 +1,7 @@
 #!/usr/bin/env python3
 """Generates the service's declarations of the proved library from the library's source.
 
-    tools/declared.py             writes service/src/core/book/declared.rs
+    tools/declared.py             writes service/src/book/library/declared.rs
     tools/declared.py --check     compares that file with what would be written: a step of the gate
 
 It declares each exported function of the crate book_c with its parameters, the fields of `Answer` and `Handle`, the statuses, and
@@ -18,7 +18,7 @@ from tooling.files import text_of, write
 
 LIBRARY = f"{ROOT}/crates/book_c/src"
 LIMITS = f"{ROOT}/crates/metric_events/src/limits.rt"
-WRITTEN = f"{ROOT}/service/src/core/book/declared.rs"
+WRITTEN = f"{ROOT}/service/src/book/library/declared.rs"
 
 HEAD = """//! What crosses between the service and the proved library: written by `tools/declared.py` from the source of the library
 //! (`crates/book_c`). Who changes that runs it; `make test` compares. The service has no use for some of it.
@@ -78,7 +78,7 @@ def statuses() -> str:
     consts = "\n".join(f"{about}pub const {name}: u32 = {number};" for about, name, number in found)
     named = ", ".join(name for _, name, _ in found)
     return "/// What a call answers with, in `Answer::status` or by itself.\n#[allow(dead_code)]\n" \
-        f"pub(in crate::core) mod status {{\n{consts}\n" \
+        f"pub(in crate::book) mod status {{\n{consts}\n" \
         f"/// All of them.\n#[cfg(test)]\npub const ALL: [u32; {len(found)}] = [{named}];\n}}\n"
 
 
@@ -87,7 +87,7 @@ def most_taken() -> str:
     if not found:
         wrong("the limits have no MAX_TAKEN")
     about, number = found.groups()
-    return f"{about}pub(in crate::core) const MAX_TAKEN: usize = {number};\n"
+    return f"{about}pub(in crate::book) const MAX_TAKEN: usize = {number};\n"
 
 
 def wrong(why: str) -> NoReturn:
@@ -96,7 +96,7 @@ def wrong(why: str) -> NoReturn:
 
 def declared() -> str:
     traits = "#[derive(Clone, Copy, Debug, Default, PartialEq, Eq)]\n"
-    parts = [HEAD, struct("handle.rt", "Handle", "", "super"), struct("answers.rt", "Answer", traits, "in crate::core"),
+    parts = [HEAD, struct("handle.rt", "Handle", "", "super"), struct("answers.rt", "Answer", traits, "in crate::book"),
              statuses(), most_taken(), "#[allow(dead_code)]\n" + functions()]
     command = ["rustfmt", "--edition", "2021", "--config-path", f"{ROOT}/service/rustfmt.toml"]
     laid_out = subprocess.run(command, input="\n".join(parts), stdout=subprocess.PIPE, text=True, check=False)
@@ -109,7 +109,7 @@ def main(words: list[str]) -> int:
     text = declared()
     if words == ["--check"]:
         if text_of(WRITTEN) != text:
-            wrong("service/src/core/book/declared.rs is not what the library's source says: run tools/declared.py")
+            wrong("service/src/book/library/declared.rs is not what the library's source says: run tools/declared.py")
     elif words:
         sys.exit(f"usage: {sys.argv[0]} [--check]")
     else:

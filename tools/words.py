@@ -154,7 +154,7 @@ def of_sql(code: str) -> Iterator[tuple[str, dict[str, str]]]:
 
 def names() -> Iterator[tuple[str, int, str, dict[str, str]]]:
     """Each name that is compared, with its place and what such names were called."""
-    for name, text in sources("operate/**/*.rs", "command/**/*.rs", "shares/**/*.rs", "late/*.rs", "otlp/explain.rs", "otlp/outcome.rs"):
+    for name, text in sources("admin/**/*.rs", "command/**/*.rs", "quota/**/*.rs", "late/*.rs", "otlp/explain.rs", "otlp/outcome.rs"):
         for struct in SERIALIZED.finditer(text):
             for field in FIELD.finditer(struct[1]):
                 yield name, line_at(text, struct.start(1) + field.start()), field[1] or field[2], FIELDS
@@ -170,14 +170,14 @@ def names() -> Iterator[tuple[str, int, str, dict[str, str]]]:
             for label in re.findall(r'"(\w+)"', metric[2] or ""):
                 yield name, line_at(text, metric.start()), label, LABELS
     for sink in ("sqlite", "postgres"):
-        name = f"service/src/sinks/{sink}/schema.sql"
+        name = f"service/src/sink/{sink}/schema.sql"
         for number, line in enumerate(text_of(f"{ROOT}/{name}").splitlines(), 1):
             for word, exact in of_sql(line.partition("--")[0]):
                 yield name, number, word, exact
     for block in SQL_BLOCK.finditer(text_of(f"{ROOT}/{QUERIES}")):
         for word, exact in of_sql(block[1]):
             yield QUERIES, line_at(block.string, block.start(1)), word, exact
-    for name, text in sources("command/*.rs", "runs/law.rs"):
+    for name, text in sources("command/*.rs", "runs/rules.rs"):
         for setting in SETTING.finditer(text):
             option = (setting[2] or setting[1]).lower().replace("_", "-")
             was = next((better for old, better in OPTIONS.items() if re.fullmatch(old, option)), None)

@@ -111,7 +111,7 @@ class Play:
             status = self.service.status()
             self.samples.append({
                 "at": round(self.at(), 2), "ready": bool(status and status["ready"]),
-                "waiting": status["slots"][0]["waiting"] if status else None,
+                "waiting": status["shards"][0]["waiting"] if status else None,
                 "posts": [shop.said[0] for shop in self.shops], "ordered": sum(shop.said[3] for shop in self.shops),
                 "database": self.ordered})
 

@@ -67,7 +67,7 @@ fn until_it_is_delivered(service: &Service) {
     loop {
         let (_, status) = asked(&service.operate, "GET", "/status", "").unwrap();
         let status: serde_json::Value = serde_json::from_str(&status).unwrap();
-        if status["slots"][0]["waiting"] == 0 {
+        if status["shards"][0]["waiting"] == 0 {
             break;
         }
         assert!(begun.elapsed() < Duration::from_secs(60), "{status}");

@@ -160,9 +160,9 @@ class Service:
         return json.loads(body) if status == 200 else None
 
     def is_drained(self) -> bool:
-        """Whether the service is ready and the outbox of each slot is empty."""
+        """Whether the service is ready and the outbox of each shard is empty."""
         status = self.status()
-        return status is not None and status["ready"] and all(slot["waiting"] == 0 for slot in status["slots"])
+        return status is not None and status["ready"] and all(shard["waiting"] == 0 for shard in status["shards"])
 
     def has_delivered_all(self, seconds: float = SECONDS) -> bool:
         """Flushes and waits until the sink has everything. A process that has just started refuses the order, and with

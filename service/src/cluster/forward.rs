@@ -17,14 +17,14 @@ mod wire;
 pub use head::Secret;
 pub use internal::Internal;
 pub use operators::{Answers, Asks};
-pub use peer::{Unanswering, CONNECTIONS};
+pub use peer::{UnresponsivePeer, CONNECTIONS};
 
 use super::local_view::{Cluster, Places};
-use super::owners::Whose;
+use super::owners::ShardOwner;
 use super::terms::Doing;
 use crate::log::RateLimit;
 use crate::otlp::{Original, Outcome, Reason};
-use crate::slot::Elsewhere;
+use crate::shard::Forwarder;
 use crate::tls::Tls;
 use crate::work::locked;
 use head::Head;
@@ -65,7 +65,7 @@ pub trait Here: Send + Sync + 'static {
     /// was taken.
     fn post<'a>(
         &'a self,
-        slot: u16,
+        shard: u16,
         term: u64,
         sender: &'a str,
         part: Original,
@@ -123,7 +123,7 @@ impl<H: Here> Forward<H> {
 
     /// Has the owner of the shard take a part of a request: returns its answer, or 503. While the store does not
     /// answer, no instance is asked or looked for.
-    pub async fn post(&self, slot: u16, sender: &str, part: Original) -> Outcome {
+    pub async fn post(&self, shard: u16, sender: &str, part: Original) -> Outcome {
         if let Some(why) = self.cluster.unavailable() {
             return why.into();
         }
@@ -131,17 +131,17 @@ impl<H: Here> Forward<H> {
         let mut places = self.cluster.places();
         loop {
             places.borrow_and_update();
-            let whose = self.cluster.whose(slot);
+            let whose = self.cluster.whose(shard);
             let said = match &whose {
-                Whose::Nobody => None,
-                Whose::Here { term } => match self.here.get() {
-                    Some(here) => here.post(slot, *term, sender, part.clone()).await,
+                ShardOwner::Nobody => None,
+                ShardOwner::Here { term } => match self.here.get() {
+                    Some(here) => here.post(shard, *term, sender, part.clone()).await,
                     None => None,
                 },
-                Whose::There { address, term, .. } => {
+                ShardOwner::There { address, term, .. } => {
                     asked += 1;
                     let peer = self.peers.at(address);
-                    let head = Head { slot, term: *term, sender: sender.into(), encoding: part.encoding };
+                    let head = Head { shard, term: *term, sender: sender.into(), encoding: part.encoding };
                     let late = began + WITHIN + on_the_way(part.body.len());
                     let said = self.ask(&peer, &head, &part, &whose, late).await;
                     self.heard(&peer, began, said)
@@ -155,7 +155,7 @@ impl<H: Here> Forward<H> {
             }
             self.cluster.look();
             let until = Instant::now() + pause;
-            pause = match self.has_moved(slot, &whose, &mut places, until).await {
+            pause = match self.has_moved(shard, &whose, &mut places, until).await {
                 true => SHORTEST,
                 false => (2 * pause).min(LONGEST),
             };
@@ -163,14 +163,14 @@ impl<H: Here> Forward<H> {
     }
 
     /// Waits until the shard has another owner, as far as is known, but not after `until`.
-    async fn has_moved(&self, slot: u16, from: &Whose, places: &mut Watched, until: Instant) -> bool {
-        let moves = async { while self.cluster.whose(slot) == *from && places.changed().await.is_ok() {} };
+    async fn has_moved(&self, shard: u16, from: &ShardOwner, places: &mut Watched, until: Instant) -> bool {
+        let moves = async { while self.cluster.whose(shard) == *from && places.changed().await.is_ok() {} };
         timeout_at(until, moves).await.is_ok()
     }
 
     /// Returns when it is too late for the owner's answer: at `until`, or soon after the shard has moved.
-    async fn no_answer(&self, slot: u16, owner: &Whose, until: Instant) {
-        if self.has_moved(slot, owner, &mut self.cluster.places(), until).await {
+    async fn no_answer(&self, shard: u16, owner: &ShardOwner, until: Instant) {
+        if self.has_moved(shard, owner, &mut self.cluster.places(), until).await {
             sleep_until(until.min(Instant::now() + AFTER_MOVE)).await;
         }
     }
@@ -181,14 +181,14 @@ impl<H: Here> Forward<H> {
         peer: &Peer,
         head: &Head,
         part: &Original,
-        owner: &Whose,
+        owner: &ShardOwner,
         late: Instant,
     ) -> Result<Option<Outcome>, Broken> {
         tokio::select! {
             biased;
             () = peer.is_unreached() => Err(Broken::Unreached),
             said = self.exchange(peer, head, part) => said,
-            () = self.no_answer(head.slot, owner, late) => Err(Broken::Late),
+            () = self.no_answer(head.shard, owner, late) => Err(Broken::Late),
         }
     }
 
@@ -220,13 +220,13 @@ impl<H: Here> Forward<H> {
     }
 }
 
-impl<H: Here> Elsewhere for Forward<H> {
+impl<H: Here> Forwarder for Forward<H> {
     fn unavailable(&self) -> Option<Reason> {
         self.cluster.unavailable()
     }
 
-    fn post<'a>(&'a self, slot: u16, sender: &'a str, part: Original) -> Doing<'a, Outcome> {
-        Box::pin(Forward::post(self, slot, sender, part))
+    fn post<'a>(&'a self, shard: u16, sender: &'a str, part: Original) -> Doing<'a, Outcome> {
+        Box::pin(Forward::post(self, shard, sender, part))
     }
 }
 

@@ -1,8 +1,8 @@
 //! What this instance knows of the others and of all shards. `beats` updates it, and the rest of the process reads it.
 
-use super::owners::{Owners, Whose};
-use super::status::{Counted, OtherInstance, Status, Unserved};
-use super::terms::Silence;
+use super::owners::{Owners, ShardOwner};
+use super::status::{Counted, OtherInstance, Status, UnservedShards};
+use super::terms::Unavailable;
 use crate::log::shown;
 use crate::otlp::Reason;
 use crate::work::locked;
@@ -18,7 +18,7 @@ pub const STALL: Duration = Duration::from_secs(2);
 /// How many characters of a reason the other instances are told.
 const REASON_SHOWN: usize = 500;
 
-pub type Places = Arc<BTreeMap<u16, Whose>>;
+pub type Places = Arc<BTreeMap<u16, ShardOwner>>;
 
 /// This instance among the others.
 pub struct Cluster {
@@ -29,7 +29,7 @@ pub struct Cluster {
     beaten: Mutex<Option<Instant>>,
     /// Why the store has too few copies, by the last heartbeat that had an answer.
     few_copies: Mutex<Option<String>>,
-    unserved: Mutex<Unserved>,
+    unserved: Mutex<UnservedShards>,
     counted: Mutex<Counted>,
 }
 
@@ -61,14 +61,14 @@ impl Cluster {
         self.places.subscribe()
     }
 
-    pub fn whose(&self, slot: u16) -> Whose {
-        self.places.borrow().get(&slot).cloned().unwrap_or(Whose::Nobody)
+    pub fn whose(&self, shard: u16) -> ShardOwner {
+        self.places.borrow().get(&shard).cloned().unwrap_or(ShardOwner::Nobody)
     }
 
     /// Whether some shards' posts are sent to other instances.
     pub fn has_others(&self) -> bool {
         let places = self.places.borrow();
-        places.values().any(|whose| matches!(whose, Whose::There { .. }))
+        places.values().any(|whose| matches!(whose, ShardOwner::There { .. }))
     }
 
     /// The number of other live instances; at least one.
@@ -94,7 +94,7 @@ impl Cluster {
     /// The other instances and their addresses for posts; those that are gone only while they own shards.
     pub(super) fn addresses(&self) -> Vec<(String, String)> {
         let owners = self.owners();
-        let rows = owners.slots();
+        let rows = owners.shards();
         let is_of_use = |other: &OtherInstance| {
             !other.address.is_empty() && (!other.is_gone || rows.iter().any(|row| row.owner == other.name))
         };
@@ -137,26 +137,26 @@ impl Cluster {
     }
 
     /// Notes the answer of a heartbeat; without an answer nothing changes.
-    pub(super) fn has_few_copies(&self, silence: &Silence) {
-        if let Silence::FewCopies(why) = silence {
+    pub(super) fn has_few_copies(&self, silence: &Unavailable) {
+        if let Unavailable::FewCopies(why) = silence {
             *locked(&self.few_copies) = Some(why.clone());
         }
     }
 
     /// Notes that a shard could not be opened here, or ended because of a fault.
-    pub fn failed(&self, slot: u16, term: u64, reason: &str) {
+    pub fn failed(&self, shard: u16, term: u64, reason: &str) {
         let reason = shown(reason, REASON_SHOWN);
-        let then = match self.owners().failed(slot, term, &reason) {
+        let then = match self.owners().failed(shard, term, &reason) {
             true => "another instance takes it",
             false => "no other instance is left to take it, so this one retries",
         };
-        tracing::error!(slot, then, reason, "the slot can't be served here");
+        tracing::error!(shard, then, reason, "the shard can't be served here");
         self.publish();
     }
 
     /// Called by a shard's writer when it finds another owner's term.
-    pub fn lost(&self, slot: u16, term: u64) {
-        if self.owners().lost(slot, term) {
+    pub fn lost(&self, shard: u16, term: u64) {
+        if self.owners().lost(shard, term) {
             self.counted().lost += 1;
         }
         self.look();
@@ -169,7 +169,7 @@ impl Cluster {
         Status {
             name: owners.name().into(),
             others: owners.others(),
-            slots: owners.slots(),
+            shards: owners.shards(),
             without_owner: unserved.count(),
             longest_without_owner: longest.unwrap_or_default(),
             terms: owners.terms(),
@@ -186,7 +186,7 @@ impl Cluster {
 
     /// Sets what a heartbeat would find, for an hour: a test may be slow.
     #[cfg(test)]
-    pub(crate) fn knows(&self, places: &[(u16, Whose)]) {
+    pub(crate) fn knows(&self, places: &[(u16, ShardOwner)]) {
         self.has_beaten(Instant::now() + Duration::from_secs(3600));
         self.places.send_replace(Arc::new(places.iter().cloned().collect()));
     }
@@ -194,7 +194,7 @@ impl Cluster {
     /// A heartbeat of a test, whose steps are not carried out.
     #[cfg(test)]
     pub(crate) fn has_seen(&self, seen: super::terms::Seen) {
-        self.owners().beat(seen);
+        self.owners().heartbeat(seen);
     }
 
     /// As when the instance is stopping: it hands over its shards.
@@ -213,11 +213,11 @@ impl Cluster {
     /// value published is the latest one.
     pub(super) fn publish(&self) {
         self.places.send_if_modified(|said| {
-            let (places, slots) = {
+            let (places, shards) = {
                 let owners = self.owners();
-                (owners.whose(), owners.slots())
+                (owners.whose(), owners.shards())
             };
-            locked(&self.unserved).note(&slots, Instant::now());
+            locked(&self.unserved).note(&shards, Instant::now());
             let is_new = **said != places;
             if is_new {
                 *said = Arc::new(places);
@@ -239,7 +239,7 @@ impl Cluster {
     }
 
     /// Sets the open shards that do not take posts yet.
-    pub(super) fn fill(&self, slots: BTreeSet<u16>) {
-        locked(&self.unserved).filling = slots;
+    pub(super) fn fill(&self, shards: BTreeSet<u16>) {
+        locked(&self.unserved).filling = shards;
     }
 }

@@ -7,18 +7,18 @@
 //!
 //! Nothing here keeps two owners apart: only a shard's term in the store does (`store/postgres`).
 
-pub mod beats;
 pub mod forward;
+pub mod heartbeats;
 mod local_view;
 pub mod owners;
-pub mod places;
+pub mod placement;
 pub mod status;
 pub mod terms;
 
-pub use beats::Beats;
-pub use forward::{Answers, Asks, Forward, Forwarded, Here, Internal, Secret, Unanswering};
+pub use forward::{Answers, Asks, Forward, Forwarded, Here, Internal, Secret, UnresponsivePeer};
+pub use heartbeats::Heartbeats;
 pub use local_view::Cluster;
-pub use owners::{Refusal, Whose};
+pub use owners::{Refusal, ShardOwner};
 pub use status::Status;
 
 #[cfg(test)]

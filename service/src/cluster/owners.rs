@@ -14,10 +14,10 @@ mod shown;
 mod step;
 
 pub use refused::Refusal;
-pub use step::{Act, Step, Whose};
+pub use step::{ShardAction, ShardOwner, Step};
 
-use super::places::places;
-use super::terms::{Refused, Row, Seen, Stay, Told};
+use super::placement::places;
+use super::terms::{Eligibility, InstanceReport, Refused, Row, Seen};
 use clock::OwnClock;
 use cut_off::CutOff;
 use namesake::Namesake;
@@ -47,7 +47,7 @@ enum Phase {
     Closing,
 }
 
-struct Mine {
+struct OwnShard {
     /// While it is being taken, the term that was seen.
     term: u64,
     phase: Phase,
@@ -56,8 +56,8 @@ struct Mine {
 }
 
 /// A shard that was handed over, until another instance takes it.
-struct Handed {
-    slot: u16,
+struct HandedOver {
+    shard: u16,
     term: u64,
     beats: u32,
     is_released: bool,
@@ -74,9 +74,9 @@ pub struct Owners {
     living: BTreeMap<String, Refused>,
     places: BTreeMap<u16, Option<String>>,
     rows: Vec<Row>,
-    mine: BTreeMap<u16, Mine>,
+    mine: BTreeMap<u16, OwnShard>,
     refusals: Refusals,
-    handed: Option<Handed>,
+    handed: Option<HandedOver>,
     namesake: Namesake,
 }
 
@@ -100,10 +100,10 @@ impl Owners {
     }
 
     /// What this instance tells the others with a heartbeat.
-    pub fn told(&self) -> (Stay, Told) {
+    pub fn told(&self) -> (Eligibility, InstanceReport) {
         (
             self.stay(),
-            Told {
+            InstanceReport {
                 refused: self.refusals.told(),
                 clock: self.clock.now(),
                 reached: self.cut_off.reached().cloned(),
@@ -112,7 +112,7 @@ impl Owners {
     }
 
     /// Whether this instance owns no shards and has no steps left.
-    pub fn is_rid_of_all(&self) -> bool {
+    pub fn has_drained(&self) -> bool {
         self.mine.is_empty() && self.rows.iter().all(|row| row.owner != self.me)
     }
 
@@ -137,23 +137,23 @@ impl Owners {
     /// The shards that are open here, or being opened or closed, and their terms.
     pub fn terms(&self) -> BTreeMap<u16, u64> {
         let owned = self.mine.iter().filter(|(_, mine)| mine.phase != Phase::Taking);
-        owned.map(|(slot, mine)| (*slot, mine.term)).collect()
+        owned.map(|(shard, mine)| (*shard, mine.term)).collect()
     }
 
     /// The owners of all shards in the store.
-    pub fn whose(&self) -> BTreeMap<u16, Whose> {
-        self.rows.iter().map(|row| (row.slot, self.whose_is(row))).collect()
+    pub fn whose(&self) -> BTreeMap<u16, ShardOwner> {
+        self.rows.iter().map(|row| (row.shard, self.whose_is(row))).collect()
     }
 
-    fn whose_is(&self, row: &Row) -> Whose {
-        match (self.mine.get(&row.slot), self.others.address(&row.owner)) {
+    fn whose_is(&self, row: &Row) -> ShardOwner {
+        match (self.mine.get(&row.shard), self.others.address(&row.owner)) {
             (Some(mine), _) if mine.phase == Phase::Serving && mine.term >= row.term => {
-                Whose::Here { term: mine.term }
+                ShardOwner::Here { term: mine.term }
             }
             (_, Some(address)) => {
-                Whose::There { name: row.owner.clone(), address: address.into(), term: row.term }
+                ShardOwner::There { name: row.owner.clone(), address: address.into(), term: row.term }
             }
-            _ => Whose::Nobody,
+            _ => ShardOwner::Nobody,
         }
     }
 
@@ -176,14 +176,14 @@ impl Owners {
     }
 
     /// Takes what was read after a committed heartbeat, and returns the steps to take now.
-    pub fn beat(&mut self, seen: Seen) -> Vec<Step> {
+    pub fn heartbeat(&mut self, seen: Seen) -> Vec<Step> {
         if let Some(own) = seen.instances.iter().find(|one| one.name == self.me) {
             self.namesake.note(own, seen.life);
         }
         self.others.note(&seen);
         self.clock.note(seen.clock, self.others.clocks());
         self.note_reached();
-        self.rows = seen.slots;
+        self.rows = seen.shards;
         self.note_living();
         let mut steps = self.drop_lost();
         self.note_places();
@@ -198,41 +198,41 @@ impl Owners {
         let others = self.others.staying().filter(|(name, _)| !self.cut_off.is_cut_off(name));
         let mut living: BTreeMap<String, Refused> =
             others.map(|(name, told)| (name.into(), told.refused.clone())).collect();
-        let may_another = |slot| living.values().any(|refused| !refused.contains_key(&slot));
-        self.refusals.beat(may_another);
+        let may_another = |shard| living.values().any(|refused| !refused.contains_key(&shard));
+        self.refusals.heartbeat(may_another);
         if self.is_place_of_any() {
             living.insert(self.me.clone(), self.refusals.told());
         }
         if living == self.living && self.places.len() == self.rows.len() {
             return;
         }
-        let slots: Vec<u16> = self.rows.iter().map(|row| row.slot).collect();
+        let shards: Vec<u16> = self.rows.iter().map(|row| row.shard).collect();
         let names: Vec<&str> = living.keys().map(String::as_str).collect();
-        let places = places(&slots, &names, |slot, name| !living[name].contains_key(&slot));
-        let kept = places.into_iter().map(|(slot, place)| (slot, place.map(String::from)));
+        let places = places(&shards, &names, |shard, name| !living[name].contains_key(&shard));
+        let kept = places.into_iter().map(|(shard, place)| (shard, place.map(String::from)));
         self.places = kept.collect();
         self.living = living;
     }
 
-    fn is_place(&self, slot: u16) -> bool {
-        self.places.get(&slot).is_some_and(|place| place.as_ref() == Some(&self.me))
+    fn is_place(&self, shard: u16) -> bool {
+        self.places.get(&shard).is_some_and(|place| place.as_ref() == Some(&self.me))
     }
 
     fn drop_lost(&mut self) -> Vec<Step> {
         // After a store was restored, another instance may have the same term.
         let is_anothers = |row: &Row, term: u64| row.term > term || row.term == term && row.owner != self.me;
         let is_later =
-            |slot: u16, term: u64| self.rows.iter().any(|row| row.slot == slot && is_anothers(row, term));
+            |shard: u16, term: u64| self.rows.iter().any(|row| row.shard == shard && is_anothers(row, term));
         // While a shard is being opened or closed, its own calls find this out.
         let is_lost =
-            |slot: &u16, mine: &mut Mine| mine.phase == Phase::Serving && is_later(*slot, mine.term);
+            |shard: &u16, mine: &mut OwnShard| mine.phase == Phase::Serving && is_later(*shard, mine.term);
         let lost = self.mine.extract_if(.., is_lost);
-        lost.map(|(slot, mine)| Step { act: Act::Drop, slot, term: mine.term }).collect()
+        lost.map(|(shard, mine)| Step { act: ShardAction::Drop, shard, term: mine.term }).collect()
     }
 
     fn note_places(&mut self) {
-        for (slot, mine) in &mut self.mine {
-            let is_here = self.places.get(slot).is_some_and(|place| place.as_ref() == Some(&self.me));
+        for (shard, mine) in &mut self.mine {
+            let is_here = self.places.get(shard).is_some_and(|place| place.as_ref() == Some(&self.me));
             mine.elsewhere = if is_here { 0 } else { mine.elsewhere.saturating_add(1) };
         }
     }
@@ -242,7 +242,7 @@ impl Owners {
         let leaves = !self.is_place_of_any();
         let Some(handed) = &mut self.handed else { return };
         handed.beats += 1;
-        let is_taken = |row: &Row| row.slot == handed.slot && row.term > handed.term;
+        let is_taken = |row: &Row| row.shard == handed.shard && row.term > handed.term;
         let waits_no_more = handed.beats > SETTLED || leaves;
         if handed.is_released && (waits_no_more || self.rows.iter().any(is_taken)) {
             self.handed = None;
@@ -255,11 +255,11 @@ impl Owners {
             return None;
         }
         let patience = if self.is_place_of_any() { SETTLED } else { 1 };
-        let is_due = |mine: &Mine| mine.phase == Phase::Serving && mine.elsewhere >= patience;
-        let (slot, mine) = self.mine.iter_mut().find(|(_, mine)| is_due(mine))?;
+        let is_due = |mine: &OwnShard| mine.phase == Phase::Serving && mine.elsewhere >= patience;
+        let (shard, mine) = self.mine.iter_mut().find(|(_, mine)| is_due(mine))?;
         mine.phase = Phase::Closing;
-        self.handed = Some(Handed { slot: *slot, term: mine.term, beats: 0, is_released: false });
-        Some(Step { act: Act::HandOver, slot: *slot, term: mine.term })
+        self.handed = Some(HandedOver { shard: *shard, term: mine.term, beats: 0, is_released: false });
+        Some(Step { act: ShardAction::HandOver, shard: *shard, term: mine.term })
     }
 
     // ----------------------------------------------------------------------------------------------------------------
@@ -272,7 +272,7 @@ impl Owners {
         let rows = std::mem::take(&mut self.rows);
         let mut steps = Vec::new();
         for row in &rows {
-            if !self.mine.contains_key(&row.slot) {
+            if !self.mine.contains_key(&row.shard) {
                 steps.extend(self.step_for(row));
             }
         }
@@ -288,40 +288,40 @@ impl Owners {
         if !(is_ours || self.others.is_gone(owner) || self.cut_off.is_left(owner)) {
             return None;
         }
-        let slot = row.slot;
-        if !self.is_place(slot) {
+        let shard = row.shard;
+        if !self.is_place(shard) {
             let is_mine = row.owner == self.me;
-            return is_mine.then_some(Step { act: Act::Release, slot, term: row.term });
+            return is_mine.then_some(Step { act: ShardAction::Release, shard, term: row.term });
         }
         let begun = self.mine.values().filter(|mine| matches!(mine.phase, Phase::Taking | Phase::Opening));
         if begun.count() >= AT_ONCE {
             return None;
         }
-        self.mine.insert(slot, Mine { term: row.term, phase: Phase::Taking, elsewhere: 0 });
-        Some(Step { act: Act::Take, slot, term: row.term })
+        self.mine.insert(shard, OwnShard { term: row.term, phase: Phase::Taking, elsewhere: 0 });
+        Some(Step { act: ShardAction::Take, shard, term: row.term })
     }
 
     // ----------------------------------------------------------------------------------------------------------------
     // Results of steps
 
     /// The result of a takeover: its term, or none if another instance was first or the outcome is unknown.
-    pub fn taken(&mut self, slot: u16, term: Option<u64>) {
-        match (term, self.mine.get_mut(&slot)) {
+    pub fn taken(&mut self, shard: u16, term: Option<u64>) {
+        match (term, self.mine.get_mut(&shard)) {
             (Some(term), Some(mine)) if mine.phase == Phase::Taking => {
                 (mine.term, mine.phase) = (term, Phase::Opening);
             }
             _ => {
-                self.mine.remove(&slot);
+                self.mine.remove(&shard);
             }
         }
     }
 
     /// The shard is served now. False if it was lost in the meantime.
-    pub fn opened(&mut self, slot: u16, term: u64) -> bool {
-        match self.mine.get_mut(&slot) {
+    pub fn opened(&mut self, shard: u16, term: u64) -> bool {
+        match self.mine.get_mut(&shard) {
             Some(mine) if mine.term == term && mine.phase == Phase::Opening => {
                 mine.phase = Phase::Serving;
-                self.refusals.opened(slot);
+                self.refusals.opened(shard);
                 true
             }
             _ => false,
@@ -330,27 +330,27 @@ impl Owners {
 
     /// The shard could not be opened, or ended because of a fault: the next heartbeat releases it, so that another
     /// instance can try. False if no other instance may, so that this one tries again.
-    pub fn failed(&mut self, slot: u16, term: u64, reason: &str) -> bool {
-        if self.lost(slot, term) {
-            self.refusals.failed(slot, reason);
+    pub fn failed(&mut self, shard: u16, term: u64, reason: &str) -> bool {
+        if self.lost(shard, term) {
+            self.refusals.failed(shard, reason);
         }
-        self.others.staying().any(|(_, told)| !told.refused.contains_key(&slot))
+        self.others.staying().any(|(_, told)| !told.refused.contains_key(&shard))
     }
 
     /// The shard is no longer open here: its writer found another owner. False if it was not open under this term.
-    pub fn lost(&mut self, slot: u16, term: u64) -> bool {
-        let is_it = self.mine.get(&slot).is_some_and(|mine| mine.term == term);
+    pub fn lost(&mut self, shard: u16, term: u64) -> bool {
+        let is_it = self.mine.get(&shard).is_some_and(|mine| mine.term == term);
         if is_it {
-            self.mine.remove(&slot);
+            self.mine.remove(&shard);
         }
         is_it
     }
 
     /// The shard was handed over, though the release may have an unknown outcome. A stopping instance hands over the
     /// next one at once.
-    pub fn released(&mut self, slot: u16, term: u64) -> Option<Step> {
-        self.lost(slot, term);
-        if let Some(handed) = self.handed.as_mut().filter(|handed| handed.slot == slot) {
+    pub fn released(&mut self, shard: u16, term: u64) -> Option<Step> {
+        self.lost(shard, term);
+        if let Some(handed) = self.handed.as_mut().filter(|handed| handed.shard == shard) {
             handed.is_released = true;
         }
         if self.is_place_of_any() {

@@ -13,7 +13,7 @@ pub struct Status {
     /// All other instances that the store knows, by name.
     pub others: Vec<OtherInstance>,
     /// All shards of the store, ascending.
-    pub slots: Vec<OwnedSlot>,
+    pub shards: Vec<OwnedShard>,
     /// How many of them no instance serves, as far as is known.
     pub without_owner: usize,
     /// How long the shard that has been without an owner for longest has been so.
@@ -71,8 +71,8 @@ pub struct OtherInstance {
 
 /// A shard's row in the store.
 #[derive(Clone, Debug, PartialEq, Eq)]
-pub struct OwnedSlot {
-    pub slot: u16,
+pub struct OwnedShard {
+    pub shard: u16,
     pub term: u64,
     /// Empty if no instance owns the shard.
     pub owner: String,
@@ -82,17 +82,17 @@ pub struct OwnedSlot {
 
 /// Since when shards have been served by no instance.
 #[derive(Default)]
-pub(super) struct Unserved {
+pub(super) struct UnservedShards {
     since: BTreeMap<u16, Instant>,
     /// Shards of this instance whose books are still recovering.
     pub filling: BTreeSet<u16>,
 }
 
-impl Unserved {
-    pub fn note(&mut self, slots: &[OwnedSlot], now: Instant) {
-        let is_unserved = |slot: &&OwnedSlot| !slot.is_served || self.filling.contains(&slot.slot);
-        let since = |slot: &OwnedSlot| (slot.slot, self.since.get(&slot.slot).copied().unwrap_or(now));
-        self.since = slots.iter().filter(is_unserved).map(since).collect();
+impl UnservedShards {
+    pub fn note(&mut self, shards: &[OwnedShard], now: Instant) {
+        let is_unserved = |shard: &&OwnedShard| !shard.is_served || self.filling.contains(&shard.shard);
+        let since = |shard: &OwnedShard| (shard.shard, self.since.get(&shard.shard).copied().unwrap_or(now));
+        self.since = shards.iter().filter(is_unserved).map(since).collect();
     }
 
     pub fn count(&self) -> usize {
@@ -119,35 +119,35 @@ mod tests {
     use super::*;
 
     #[test]
-    fn a_slot_is_without_an_owner_since_it_was_first_seen_so() {
-        let slots = |served: &[bool]| -> Vec<OwnedSlot> {
-            let slots = (0..).zip(served).map(|(slot, is_served)| OwnedSlot {
-                slot,
+    fn a_shard_is_without_an_owner_since_it_was_first_seen_so() {
+        let shards = |served: &[bool]| -> Vec<OwnedShard> {
+            let shards = (0..).zip(served).map(|(shard, is_served)| OwnedShard {
+                shard,
                 term: 1,
                 owner: "a".into(),
                 is_served: *is_served,
             });
-            slots.collect()
+            shards.collect()
         };
-        let (mut unserved, began) = (Unserved::default(), Instant::now());
+        let (mut unserved, began) = (UnservedShards::default(), Instant::now());
         let at = |seconds| began + Duration::from_secs(seconds);
-        let longest = |unserved: &Unserved, seconds| unserved.longest(at(seconds)).as_secs();
-        unserved.note(&slots(&[true, true, true]), at(0));
+        let longest = |unserved: &UnservedShards, seconds| unserved.longest(at(seconds)).as_secs();
+        unserved.note(&shards(&[true, true, true]), at(0));
         assert_eq!((unserved.count(), longest(&unserved, 9)), (0, 0));
-        unserved.note(&slots(&[true, false, true]), at(10));
-        unserved.note(&slots(&[true, false, false]), at(20));
+        unserved.note(&shards(&[true, false, true]), at(10));
+        unserved.note(&shards(&[true, false, false]), at(20));
         assert_eq!((unserved.count(), longest(&unserved, 25)), (2, 15));
         // Another shard each time, as in a series of hand-overs.
-        unserved.note(&slots(&[true, true, false]), at(30));
+        unserved.note(&shards(&[true, true, false]), at(30));
         assert_eq!((unserved.count(), longest(&unserved, 31)), (1, 11));
-        unserved.note(&slots(&[false, true, true]), at(40));
+        unserved.note(&shards(&[false, true, true]), at(40));
         assert_eq!(longest(&unserved, 41), 1);
         // The shard is open, and its journal is being read.
         unserved.filling = [0].into();
-        unserved.note(&slots(&[true, true, true]), at(50));
+        unserved.note(&shards(&[true, true, true]), at(50));
         assert_eq!((unserved.count(), longest(&unserved, 75)), (1, 35));
         unserved.filling.clear();
-        unserved.note(&slots(&[true, true, true]), at(80));
+        unserved.note(&shards(&[true, true, true]), at(80));
         assert_eq!(unserved.count(), 0);
     }
 }

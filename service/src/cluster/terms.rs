@@ -1,4 +1,4 @@
-//! The interfaces of `cluster`: to the rows in the store (`Terms`), and to the shards of this process (`Units`).
+//! The interfaces of `cluster`: to the rows in the store (`Terms`), and to the shards of this process (`ShardHost`).
 
 use serde::{Deserialize, Serialize};
 use std::collections::{BTreeMap, BTreeSet};
@@ -25,13 +25,13 @@ pub struct Instance {
     pub life: u64,
     /// How often each of the last of these has beaten, by its number.
     pub lives: BTreeMap<u64, u64>,
-    pub told: Told,
+    pub told: InstanceReport,
 }
 
 /// What an instance tells the others with each heartbeat.
 #[derive(Clone, Debug, Default, PartialEq, Eq, Serialize, Deserialize)]
 #[serde(default)]
-pub struct Told {
+pub struct InstanceReport {
     /// The shards that it can't open, with the reasons.
     pub refused: Refused,
     /// How many microseconds its clock is ahead of the store's; below 0 if it is behind; none before the first look.
@@ -44,7 +44,7 @@ pub struct Told {
 /// A shard's row, which is never deleted.
 #[derive(Clone, Debug, PartialEq, Eq)]
 pub struct Row {
-    pub slot: u16,
+    pub shard: u16,
     /// Raised by each takeover.
     pub term: u64,
     /// Empty if no instance owns the shard.
@@ -55,7 +55,7 @@ pub struct Row {
 #[derive(Clone, Debug, Default, PartialEq, Eq)]
 pub struct Seen {
     pub instances: Vec<Instance>,
-    pub slots: Vec<Row>,
+    pub shards: Vec<Row>,
     /// How many microseconds this instance's clock is at least ahead of the store's; below 0 if it is behind.
     pub clock: Option<i64>,
     /// The number of this process among those of its name.
@@ -64,7 +64,7 @@ pub struct Seen {
 
 /// Whether an instance may own shards.
 #[derive(Clone, Copy, Debug, PartialEq, Eq)]
-pub enum Stay {
+pub enum Eligibility {
     Here,
     /// It still sends heartbeats, with an empty address, until all shards are handed over or its clock is right again.
     Leaves,
@@ -72,7 +72,7 @@ pub enum Stay {
 
 /// The call to the store may have been carried out or not.
 #[derive(Debug, thiserror::Error)]
-pub enum Silence {
+pub enum Unavailable {
     /// There was no answer, or its meaning is unknown.
     #[error("the store does not answer: {0}")]
     Unanswered(String),
@@ -84,39 +84,43 @@ pub enum Silence {
 /// The rows of instances and shards. Each call waits as long as the store needs, or reports an unknown outcome.
 pub trait Terms: Send + Sync {
     /// Adds one to this instance's heartbeat and writes `told`; after the commit it reads all instances and shards.
-    fn beat(&self, stay: Stay, told: Told) -> impl Future<Output = Result<Seen, Silence>> + Send;
+    fn heartbeat(
+        &self,
+        stay: Eligibility,
+        told: InstanceReport,
+    ) -> impl Future<Output = Result<Seen, Unavailable>> + Send;
     /// Reads only the shards; used after an answer `not mine`.
-    fn slots(&self) -> impl Future<Output = Result<Vec<Row>, Silence>> + Send;
+    fn shards(&self) -> impl Future<Output = Result<Vec<Row>, Unavailable>> + Send;
     /// Takes the shard under the term after the one that was seen, with this instance as owner. Returns the new term,
     /// or none if another instance was first.
-    fn take(&self, slot: u16, seen: u64) -> impl Future<Output = Result<Option<u64>, Silence>> + Send;
+    fn take(&self, shard: u16, seen: u64) -> impl Future<Output = Result<Option<u64>, Unavailable>> + Send;
     /// Removes the owner of the shard if it still has this term. The term stays, so the next owner's is higher.
-    fn release(&self, slot: u16, term: u64) -> impl Future<Output = Result<(), Silence>> + Send;
+    fn release(&self, shard: u16, term: u64) -> impl Future<Output = Result<(), Unavailable>> + Send;
     /// Deletes this instance's row, when it has no shards left.
-    fn leave(&self) -> impl Future<Output = Result<(), Silence>> + Send;
+    fn leave(&self) -> impl Future<Output = Result<(), Unavailable>> + Send;
     /// Deletes another instance's row if its heartbeat is still this one; returns whether it did.
-    fn forget(&self, name: &str, beat: u64) -> impl Future<Output = Result<bool, Silence>> + Send;
+    fn remove_row(&self, name: &str, beat: u64) -> impl Future<Output = Result<bool, Unavailable>> + Send;
 }
 
 /// Why a shard that this instance has taken is not served.
 #[derive(Debug, thiserror::Error)]
-pub enum Unopened {
+pub enum OpenFailure {
     /// Another instance has taken it since.
-    #[error("another instance owns this slot")]
-    Lost,
+    #[error("another instance owns this shard")]
+    Fenced,
     #[error("{0}")]
     Fault(String),
 }
 
 /// The shards of this process: for each its journal, outbox, book, worker and delivery.
-pub trait Units: Send + Sync {
+pub trait ShardHost: Send + Sync {
     /// Reads the files of a shard after its takeover, recovers its book, and serves it.
-    fn open(&self, slot: u16, term: u64) -> Doing<'_, Result<(), Unopened>>;
+    fn open(&self, shard: u16, term: u64) -> Doing<'_, Result<(), OpenFailure>>;
     /// Stops taking posts for the shard, makes a last checkpoint and closes it. After that nothing of it is written any
     /// more, even if a part of this failed.
-    fn hand_over(&self, slot: u16, term: u64) -> Doing<'_, ()>;
+    fn hand_over(&self, shard: u16, term: u64) -> Doing<'_, ()>;
     /// Closes a fenced shard: nothing more of it is answered, delivered or written.
-    fn drop_lost(&self, slot: u16, term: u64) -> Doing<'_, ()>;
+    fn drop_lost(&self, shard: u16, term: u64) -> Doing<'_, ()>;
     /// The open shards whose books are still recovering; their posts get 503.
     fn filling(&self) -> BTreeSet<u16>;
 }

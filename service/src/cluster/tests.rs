@@ -1,12 +1,12 @@
 //! Instances with real sockets over a store in memory. Posts go to any of them while some stand still, end, come and
 //! go. Every answered post must be there, once.
 
-use super::beats::tests::{Of, Store, SLOTS};
-use super::beats::CameLater;
-use super::terms::{Doing, Units, Unopened};
+use super::heartbeats::tests::{Of, Store, SHARDS};
+use super::heartbeats::NameTaken;
+use super::terms::{Doing, OpenFailure, ShardHost};
 use super::*;
-use crate::intake::connections::serve;
-use crate::intake::Limits;
+use crate::ingest::connections::serve;
+use crate::ingest::Limits;
 use crate::otlp::{Encoding, Original, Outcome, Reason};
 use bytes::Bytes;
 use std::collections::{BTreeMap, BTreeSet, HashMap};
@@ -29,21 +29,21 @@ struct Ledger {
 
 impl Ledger {
     /// False if the shard has another term. The check and the write are one step.
-    fn commit(&self, slot: u16, term: u64, posts: Vec<(String, u64)>) -> bool {
+    fn commit(&self, shard: u16, term: u64, posts: Vec<(String, u64)>) -> bool {
         let rows = self.store.rows.lock().unwrap();
-        let is_mine = rows.1[usize::from(slot)].term == term;
+        let is_mine = rows.1[usize::from(shard)].term == term;
         if is_mine {
-            let posts = posts.into_iter().map(|(sender, number)| (slot, sender, number));
+            let posts = posts.into_iter().map(|(sender, number)| (shard, sender, number));
             self.posts.lock().unwrap().extend(posts);
         }
         is_mine
     }
 
     /// The last post of each sender.
-    fn ends(&self, slot: u16) -> HashMap<String, u64> {
+    fn ends(&self, shard: u16) -> HashMap<String, u64> {
         let posts = self.posts.lock().unwrap();
-        let of_slot = posts.iter().filter(|(of, _, _)| *of == slot);
-        of_slot.map(|(_, sender, number)| (sender.clone(), *number)).collect()
+        let of_shard = posts.iter().filter(|(of, _, _)| *of == shard);
+        of_shard.map(|(_, sender, number)| (sender.clone(), *number)).collect()
     }
 }
 
@@ -55,24 +55,24 @@ struct Book {
 }
 
 /// The shards of an instance.
-struct Slots {
+struct Shards {
     cluster: Arc<Cluster>,
     ledger: Arc<Ledger>,
     open: Mutex<HashMap<u16, Book>>,
 }
 
-impl Slots {
-    fn close(&self, slot: u16, term: u64) {
+impl Shards {
+    fn close(&self, shard: u16, term: u64) {
         let mut open = self.open.lock().unwrap();
-        if open.get(&slot).is_some_and(|book| book.term == term) {
-            open.remove(&slot);
+        if open.get(&shard).is_some_and(|book| book.term == term) {
+            open.remove(&shard);
         }
     }
 
     /// Whether a post is new to the book; none if the shard is not open here.
-    fn admit(&self, slot: u16, term: u64, sender: &str, number: u64) -> Option<bool> {
+    fn admit(&self, shard: u16, term: u64, sender: &str, number: u64) -> Option<bool> {
         let mut open = self.open.lock().unwrap();
-        let book = open.get_mut(&slot).filter(|book| book.term == term)?;
+        let book = open.get_mut(&shard).filter(|book| book.term == term)?;
         let end = book.ends.entry(sender.into()).or_default();
         let is_new = number > *end;
         if is_new {
@@ -83,37 +83,37 @@ impl Slots {
     }
 
     /// Writes all posts taken so far. False if another instance owns the shard.
-    fn sync(&self, slot: u16, term: u64) -> bool {
+    fn sync(&self, shard: u16, term: u64) -> bool {
         let mut open = self.open.lock().unwrap();
-        let Some(book) = open.get_mut(&slot).filter(|book| book.term == term) else {
+        let Some(book) = open.get_mut(&shard).filter(|book| book.term == term) else {
             return false;
         };
-        let is_mine = self.ledger.commit(slot, term, std::mem::take(&mut book.pending));
+        let is_mine = self.ledger.commit(shard, term, std::mem::take(&mut book.pending));
         if !is_mine {
-            open.remove(&slot);
-            self.cluster.lost(slot, term);
+            open.remove(&shard);
+            self.cluster.lost(shard, term);
         }
         is_mine
     }
 }
 
-impl Units for Slots {
-    fn open(&self, slot: u16, term: u64) -> Doing<'_, Result<(), Unopened>> {
+impl ShardHost for Shards {
+    fn open(&self, shard: u16, term: u64) -> Doing<'_, Result<(), OpenFailure>> {
         Box::pin(async move {
-            let ends = self.ledger.ends(slot);
+            let ends = self.ledger.ends(shard);
             sleep(Duration::from_millis(5)).await;
             let pending = Vec::new();
-            self.open.lock().unwrap().insert(slot, Book { term, ends, pending });
+            self.open.lock().unwrap().insert(shard, Book { term, ends, pending });
             Ok(())
         })
     }
 
-    fn hand_over(&self, slot: u16, term: u64) -> Doing<'_, ()> {
-        Box::pin(async move { self.close(slot, term) })
+    fn hand_over(&self, shard: u16, term: u64) -> Doing<'_, ()> {
+        Box::pin(async move { self.close(shard, term) })
     }
 
-    fn drop_lost(&self, slot: u16, term: u64) -> Doing<'_, ()> {
-        Box::pin(async move { self.close(slot, term) })
+    fn drop_lost(&self, shard: u16, term: u64) -> Doing<'_, ()> {
+        Box::pin(async move { self.close(shard, term) })
     }
 
     fn filling(&self) -> BTreeSet<u16> {
@@ -122,24 +122,24 @@ impl Units for Slots {
 }
 
 /// The same shards, as the target of posts.
-struct Open(Arc<Slots>);
+struct Open(Arc<Shards>);
 
 impl Here for Open {
     fn post<'a>(
         &'a self,
-        slot: u16,
+        shard: u16,
         term: u64,
         sender: &'a str,
         part: Original,
     ) -> Doing<'a, Option<Outcome>> {
-        let (slots, sender) = (self.0.clone(), sender.to_string());
+        let (shards, sender) = (self.0.clone(), sender.to_string());
         let number: u64 = std::str::from_utf8(&part.body).unwrap().parse().unwrap();
         Box::pin(async move {
-            let is_new = slots.admit(slot, term, &sender, number)?;
+            let is_new = shards.admit(shard, term, &sender, number)?;
             // A post that the book has taken is written even if no caller waits for it.
             let writing = tokio::spawn(async move {
                 sleep(Duration::from_millis(number % 7)).await;
-                slots.sync(slot, term)
+                shards.sync(shard, term)
             });
             let refused = |reason| Outcome::refused(reason, "said");
             Some(match (writing.await.unwrap(), is_new) {
@@ -161,7 +161,7 @@ impl Answers for Open {
 struct Node {
     forward: Arc<Forward<Open>>,
     cluster: Arc<Cluster>,
-    beats: JoinHandle<Result<(), CameLater>>,
+    beats: JoinHandle<Result<(), NameTaken>>,
     stop: watch::Sender<bool>,
     /// Its address is served until this is dropped.
     _serves: watch::Sender<bool>,
@@ -171,8 +171,9 @@ async fn start(ledger: &Arc<Ledger>, name: &'static str) -> Node {
     let listener = TcpListener::bind("127.0.0.1:0").await.unwrap();
     let address = listener.local_addr().unwrap().to_string();
     let (cluster, secret) = (Cluster::new(name, None), Secret::new("of these").unwrap());
-    let slots = Arc::new(Slots { cluster: cluster.clone(), ledger: ledger.clone(), open: Mutex::default() });
-    let here = Arc::new(Open(slots.clone()));
+    let shards =
+        Arc::new(Shards { cluster: cluster.clone(), ledger: ledger.clone(), open: Mutex::default() });
+    let here = Arc::new(Open(shards.clone()));
     let forward = Arc::new(Forward::new(cluster.clone(), secret.clone(), None));
     forward.serve(here.clone());
     let limits = Limits { connections: 200, head: Duration::from_secs(5), idle: Duration::from_secs(60) };
@@ -180,7 +181,7 @@ async fn start(ledger: &Arc<Ledger>, name: &'static str) -> Node {
     let internal = Internal::new(cluster.clone(), here.clone(), secret, here);
     tokio::spawn(serve(Arc::new(listener), limits, internal, served));
     let terms = Of(ledger.store.clone(), name, address, AtomicU64::new(0));
-    let beats = Beats::new(cluster.clone(), Arc::new(terms), slots).each(BEAT);
+    let beats = Heartbeats::new(cluster.clone(), Arc::new(terms), shards).each(BEAT);
     let (stop, stopped) = watch::channel(false);
     Node { forward, cluster, beats: tokio::spawn(beats.run(stopped)), stop, _serves: serves }
 }
@@ -190,7 +191,7 @@ type Doors = Arc<Mutex<Vec<Arc<Forward<Open>>>>>;
 
 /// Sends posts one after another, each until it is answered; returns how many.
 async fn load(sender: usize, doors: Doors, ends: Arc<AtomicBool>, forwarded: Arc<AtomicUsize>) -> u64 {
-    let (name, slot) = (format!("s{sender}"), sender as u16 % SLOTS);
+    let (name, shard) = (format!("s{sender}"), sender as u16 % SHARDS);
     let (mut number, mut tries) = (1, sender);
     while !ends.load(SeqCst) {
         let door = {
@@ -201,7 +202,7 @@ async fn load(sender: usize, doors: Doors, ends: Arc<AtomicBool>, forwarded: Arc
         let part = Original { encoding: Encoding::Json, body: Bytes::from(number.to_string()) };
         // A sender may go away before it is answered.
         let patience = Duration::from_millis(if tries.is_multiple_of(20) { 3 } else { 4000 });
-        match timeout(patience, door.post(slot, &name, part)).await.map(|outcome| outcome.status()) {
+        match timeout(patience, door.post(shard, &name, part)).await.map(|outcome| outcome.status()) {
             Ok(200 | 400) => number += 1,
             Ok(503) | Err(_) => sleep(Duration::from_millis(20)).await,
             Ok(other) => panic!("status {other}"),

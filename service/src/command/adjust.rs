@@ -2,8 +2,8 @@
 
 use super::ask::Address;
 use super::{amend, ask, client};
-use crate::operate::{AskedAdjustment, ADJUSTMENTS};
-use crate::sinks::periods::Period;
+use crate::admin::{AskedAdjustment, ADJUSTMENTS};
+use crate::sink::periods::Period;
 use anyhow::{Context, Result};
 use clap::Args;
 use hyper::Method;

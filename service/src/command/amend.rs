@@ -1,7 +1,7 @@
 //! `totxegun rewind` and `forget`: change what the service knows of series.
 
-use crate::operate::Named;
-use crate::sinks::periods::seconds_of;
+use crate::admin::Named;
+use crate::sink::periods::seconds_of;
 use clap::Args;
 
 #[derive(Args)]

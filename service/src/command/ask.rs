@@ -2,7 +2,7 @@
 
 use super::values::{counted, operator, orders_at, SOCKET};
 use super::{client, line, Form};
-use crate::slot::is_sender;
+use crate::shard::is_sender;
 use anyhow::{bail, Context, Result};
 use clap::Args;
 use hyper::Method;

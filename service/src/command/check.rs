@@ -8,10 +8,12 @@ mod posts;
 
 use super::table::Table;
 use super::{json, values, Ended, Form};
-use crate::files::{Dropped, Durability, Fault, Folder, Journal, Outbox, Replayed, UnitOfMetric};
+use crate::journal::{Journal, Replayed};
 use crate::log::shown;
+use crate::outbox::{Outbox, UnitOfMetric};
 use crate::post_reports::SERIES_SHOWN;
 use crate::service::is_made;
+use crate::storage::{Dropped, Durability, Fault, Folder};
 use anyhow::{bail, Context};
 use clap::Args;
 use copy::{interrupts, remove_at, Copy};
@@ -117,7 +119,7 @@ fn lock(data: &Path) -> anyhow::Result<File> {
     look_at(data)?;
     if let Some(place) = in_store(data) {
         bail!(
-            "{place} has no folder of slots to read: an instance has them in its --store, and checks each when it takes it. \
+            "{place} has no folder of shards to read: an instance has them in its --store, and checks each when it takes it. \
              `totxegun status` shows them, its log what is wrong with one, and `totxegun store check` whether a store counts. \
              Without --store a start would begin anew there"
         );
@@ -177,8 +179,8 @@ fn found(copy: &Path) -> Result<CheckReport, Ended> {
         dead_letters: folder.dead()?.count(),
         ..CheckReport::default()
     };
-    found.segments = segments(&copy.join("slot-0/journal"));
-    let (journal, outbox) = folder.slot()?;
+    found.segments = segments(&copy.join("shard-0/journal"));
+    let (journal, outbox) = folder.shard()?;
     found.journal_bytes = journal.size().0;
     let held = journal.held();
     (found.parked_posts, found.parked_bytes) = (held.posts, held.bytes);
@@ -202,7 +204,7 @@ impl CheckReport {
 }
 
 fn count_posts(journal: &Journal, outbox: &Outbox, found: &mut CheckReport) -> Result<(), Fault> {
-    let (end, _) = journal.turn();
+    let (end, _) = journal.roll();
     let mut senders = HashSet::new();
     journal.posts(outbox.journal(), end, |Replayed { post, .. }| {
         found.posts += 1;
@@ -262,7 +264,10 @@ fn text(found: &CheckReport, data: &Path) -> String {
         row("left out", dropped.clone());
     }
     for fault in &found.faults {
-        row("fault", format!("{fault}. A start goes on, but delivers no request of this slot from there on"));
+        row(
+            "fault",
+            format!("{fault}. A start goes on, but delivers no request of this shard from there on"),
+        );
     }
     if found.faults.is_empty() {
         row("faults", "none".into());

@@ -2,8 +2,8 @@
 
 use super::ask::{Address, Shown};
 use super::{values::SOCKET, with_end};
+use crate::admin::{Status, OPERATOR};
 use crate::log::all_shown;
-use crate::operate::{Status, OPERATOR};
 use crate::work::whole_body;
 use anyhow::{anyhow, bail, Context, Result};
 use hyper::client::conn;
@@ -348,7 +348,7 @@ mod tests {
     fn who_says_where_to_ask_is_left_for_that_one() {
         let last =
             writes(b"HTTP/1.1 200 OK\r\ncontent-type: application/json\r\ncontent-length: 2\r\n\r\n{}");
-        let body = r#"{"message":"slot 1 is at instance b"}"#;
+        let body = r#"{"message":"shard 1 is at instance b"}"#;
         let head = "HTTP/1.1 307 Temporary Redirect\r\ncontent-type: application/json\r\n";
         let answer =
             move |location: &str| format!("{head}{location}content-length: {}\r\n\r\n{body}", body.len());
@@ -360,14 +360,14 @@ mod tests {
         assert_eq!(ask(&at(&first), Method::POST, "/dead-letters/1-a-7/drop").unwrap(), b"{}");
         let nowhere = sends("");
         let said = format!("{:#}", ask(&at(&nowhere), Method::POST, "/dead-letters/1-a-7/drop").unwrap_err());
-        assert!(said.contains("answered 307: slot 1 is at instance b"), "{said}");
+        assert!(said.contains("answered 307: shard 1 is at instance b"), "{said}");
         // As if a series of each of two instances were posted again as soon as it is forgotten: that would never end.
         let itself = answers(move |stream| {
             let there = format!("location: http://{}/forget\r\n", stream.local_addr().unwrap());
             stream.write_all(answer(&there).as_bytes()).unwrap();
         });
         let said = format!("{:#}", ask(&at(&itself), Method::POST, "/forget?all").unwrap_err());
-        assert!(said.contains("slot 1 is at instance b; it was asked already"), "{said}");
+        assert!(said.contains("shard 1 is at instance b; it was asked already"), "{said}");
     }
 
     /// Whatever its status. Otherwise an order would be said to be done.

@@ -3,11 +3,11 @@
 //! It calls the functions of `otlp` that the service calls, so what it says holds there too, except for what only the
 //! running service knows (`UNKNOWN`).
 
-use super::reading::OfReading;
+use super::reading_options::ReadingOptions;
 use super::table::Table;
 use super::values::counted;
 use super::{json, Ended, Form};
-use crate::intake::refusal::Refusal;
+use crate::ingest::refusal::Refusal;
 use crate::otlp::{self, Attributed, Clock, Encoding, Explained, Outcome, Profile, Reading, Refused};
 use crate::otlp::{Rounding, SenderNames};
 use crate::post_reports::of_twice;
@@ -41,7 +41,7 @@ pub struct Options {
     #[arg(long, env = super::config::VARIABLE, value_name = "FILE")]
     config: Option<PathBuf>,
     #[command(flatten)]
-    reading: OfReading,
+    reading: ReadingOptions,
 }
 
 /// What was found.

@@ -3,15 +3,15 @@
 //! The rows come from the sink, as of one moment. The service is asked only for the sink's address and for late data,
 //! which is in no row.
 
-use super::ask::Address as Operate;
+use super::ask::Address as AdminAddress;
 use super::time_zone::{self, TimeZone};
 use super::{client, series, values};
-use crate::operate::{begun, LateSum};
-use crate::sinks::periods::{Closed, Period};
-use crate::sinks::sql::export::{Line, What};
-use crate::sinks::sql::reading;
-use crate::sinks::sql::BegunBefore;
-use crate::sinks::Address;
+use crate::admin::{begun, LateSum};
+use crate::sink::periods::{Closed, Period};
+use crate::sink::sql::export::{Line, What};
+use crate::sink::sql::reading;
+use crate::sink::sql::BegunBefore;
+use crate::sink::Address;
 use anyhow::{bail, Context, Result};
 use clap::Args;
 use hyper::Method;
@@ -43,7 +43,7 @@ pub struct Options {
     #[arg(long, env = "TOTXEGUN_SINK", value_name = "ADDRESS", hide_env_values = true)]
     sink: Option<Address>,
     #[command(flatten)]
-    at: Operate,
+    at: AdminAddress,
 }
 
 fn period(is_so: fn(&Period) -> bool, what: &'static str) -> impl Fn(&str) -> Result<Period, String> + Clone {
@@ -87,7 +87,7 @@ fn tell_of_begun(period: &Period, all: Vec<BegunBefore>) {
 }
 
 /// On standard error, what of the period was refused and is in no row: the service knows it.
-fn tell_of_late(period: &Period, at: &Operate) {
+fn tell_of_late(period: &Period, at: &AdminAddress) {
     let path = time_zone::path("late", period, None);
     match client::read::<Vec<LateSum>>(at, Method::GET, &path) {
         Ok(sums) if sums.is_empty() => {
@@ -103,7 +103,7 @@ fn tell_of_late(period: &Period, at: &Operate) {
 }
 
 /// The sink to read: the one that was given, or the service's.
-pub(super) fn sink(given: Option<&Address>, at: &Operate) -> Result<Address> {
+pub(super) fn sink(given: Option<&Address>, at: &AdminAddress) -> Result<Address> {
     if let Some(sink) = given {
         return Ok(sink.clone());
     }

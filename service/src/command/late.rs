@@ -2,7 +2,7 @@
 
 use super::ask::{sender, Shown};
 use super::{amend, client, table::Table, values::counted};
-use crate::operate::Status;
+use crate::admin::Status;
 use anyhow::Result;
 use clap::Args;
 use percent_encoding::{utf8_percent_encode, NON_ALPHANUMERIC};

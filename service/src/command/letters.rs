@@ -2,9 +2,9 @@
 
 use super::ask::{Address, Shown};
 use super::{client, line, table::Table, values, with_end};
-use crate::files::dead::Letter;
+use crate::admin::ResendOutcome;
+use crate::dead_letters::DeadLetter;
 use crate::log::seconds;
-use crate::operate::Resent;
 use anyhow::{bail, Result};
 use clap::{Args, Subcommand};
 use hyper::Method;
@@ -44,7 +44,7 @@ impl Command {
     pub fn run(self) -> Result<Vec<u8>> {
         match self {
             Command::List(of) => {
-                let letters: Vec<Letter> = client::read(&of.at, Method::GET, "/dead-letters")?;
+                let letters: Vec<DeadLetter> = client::read(&of.at, Method::GET, "/dead-letters")?;
                 tell_of_others(&of.at, letters.len());
                 match of.form.json {
                     true => Ok(with_end(serde_json::to_vec(&letters)?)),
@@ -70,7 +70,7 @@ fn tell_of_others(at: &Address, listed: usize) {
     let Ok(status) = client::status(at) else { return };
     let (more, cluster) =
         (status.dead_letters.saturating_sub(listed as u64), status.cluster.unwrap_or_default());
-    let others = cluster.instances.iter().filter(|one| one.name != cluster.instance && one.slots > 0);
+    let others = cluster.instances.iter().filter(|one| one.name != cluster.instance && one.shards > 0);
     let others: Vec<&str> = others.map(|one| one.name.as_str()).collect();
     if more > 0 && !others.is_empty() {
         let (count, others) = (values::counted(more, "request"), others.join(" or "));
@@ -78,19 +78,19 @@ fn tell_of_others(at: &Address, listed: usize) {
     }
 }
 
-fn list(letters: Vec<Letter>) -> String {
+fn list(letters: Vec<DeadLetter>) -> String {
     if letters.is_empty() {
         return format!("{NONE}\n");
     }
     let mut table = Table::new(&["key", "age", "size", "reason"]);
-    for Letter { key, since, bytes, reason } in letters {
+    for DeadLetter { key, since, bytes, reason } in letters {
         let age = values::seconds_shown(seconds().saturating_sub(since));
         table.row(&[key, age, values::bytes_shown(bytes), reason]);
     }
     table.to_string()
 }
 
-fn sent(key: &str, at: &Address) -> Result<Resent> {
+fn sent(key: &str, at: &Address) -> Result<ResendOutcome> {
     client::read(at, Method::POST, &format!("/dead-letters/{}/resend", checked(key)?))
 }
 
@@ -108,13 +108,13 @@ struct All {
 /// read keeps no later one from the sink. But if the sink or the service does not answer, this stops, since each letter
 /// would wait.
 fn resend_all(at: &Address) -> Result<Vec<u8>> {
-    let letters: Vec<Letter> = client::read(at, Method::GET, "/dead-letters")?;
+    let letters: Vec<DeadLetter> = client::read(at, Method::GET, "/dead-letters")?;
     tell_of_others(at, letters.len());
     if letters.is_empty() {
         return Ok(line(NONE));
     }
     let mut all = All::default();
-    for Letter { key, .. } in letters.iter().filter(|letter| !is_part(&letter.key)) {
+    for DeadLetter { key, .. } in letters.iter().filter(|letter| !is_part(&letter.key)) {
         all.note(key, sent(key, at));
         if all.end.is_some() {
             break;
@@ -124,13 +124,13 @@ fn resend_all(at: &Address) -> Result<Vec<u8>> {
 }
 
 impl All {
-    fn note(&mut self, key: &str, resent: Result<Resent>) {
+    fn note(&mut self, key: &str, resent: Result<ResendOutcome>) {
         let (reason, is_end) = match resent {
-            Ok(Resent { reason: None, .. }) => {
+            Ok(ResendOutcome { reason: None, .. }) => {
                 self.taken += 1;
                 return;
             }
-            Ok(Resent { reason: Some(reason), later, .. }) => (reason, later),
+            Ok(ResendOutcome { reason: Some(reason), later, .. }) => (reason, later),
             Err(why) => match why.downcast_ref::<client::Refused>() {
                 Some(refused) => (refused.said.clone(), refused.status == 503),
                 None => (format!("{why:#}"), true),

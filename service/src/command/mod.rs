@@ -6,6 +6,7 @@
 mod adjust;
 mod amend;
 mod ask;
+mod book_options;
 mod check;
 mod client;
 mod config;
@@ -13,19 +14,18 @@ mod explain;
 mod export;
 mod late;
 mod letters;
-mod of_book;
-mod of_receivers;
-mod of_senders;
-mod of_store;
 mod periods;
 mod print;
-mod reading;
-mod retention;
+mod reading_options;
+mod receiver_options;
+mod retention_options;
+mod sender_options;
 mod senders;
 mod series;
 mod serve;
 mod status;
 mod store;
+mod store_options;
 mod table;
 mod time_zone;
 mod token;
@@ -34,7 +34,7 @@ pub(crate) mod values;
 mod version;
 
 use crate::service::Ended;
-use crate::sinks::periods::Period;
+use crate::sink::periods::Period;
 use anyhow::Context;
 use clap::error::{ContextKind, ContextValue};
 use clap::{Args, FromArgMatches, Parser, Subcommand};
@@ -46,7 +46,7 @@ use std::process::ExitCode;
 const REFUSED: u8 = 1;
 const FAULTY: u8 = 2;
 const DISK: u8 = 70;
-const MEMORY: u8 = crate::core::NONE_LEFT as u8;
+const MEMORY: u8 = crate::book::NONE_LEFT as u8;
 
 /// Takes counters and histograms by OTLP, adds them up, keeps them on disk, and delivers the totals to a sink.
 #[derive(Parser)]
@@ -270,7 +270,7 @@ mod tests {
     #[test]
     fn faulty_lines_are_refused_by_name() {
         for (words, part) in [
-            ("serve --data d --slots 1", "--slots"),
+            ("serve --data d --shards 1", "--shards"),
             ("serve --data d --max-series 0", "--max-series"),
             ("serve --data d --max-series 1000001", "--max-series"),
             ("serve --data d --flush-interval 0s", "--flush-interval"),
@@ -297,7 +297,7 @@ mod tests {
             ("serve --data d --store postgres://u@h/d --instance a --peer h:1 --peer-cert c", "--peer-key"),
             ("serve --data d --store postgres://u@h/d --peer h:1 --instance a/b", "--instance"),
             ("store init mysql://h/d", "a store is postgres://"),
-            ("store init postgres://u@h/d --slots 0", "--slots"),
+            ("store init postgres://u@h/d --shards 0", "--shards"),
             ("serve --data d --listen nowhere", "--listen"),
             ("serve --data d --listen 127.0.0.1:65536", "--listen"),
             ("serve --data d --listen-grpc :4317", "--listen-grpc"),

@@ -2,9 +2,9 @@
 
 use super::time_zone::{self, TimeZone};
 use super::{ask, ask::Address, client};
+use crate::admin::{FLUSHED, FORCE};
 use crate::log::seconds;
-use crate::operate::{FLUSHED, FORCE};
-use crate::sinks::periods::{hour_shown, Period};
+use crate::sink::periods::{hour_shown, Period};
 use anyhow::{bail, Result};
 use clap::Args;
 use hyper::Method;
@@ -87,9 +87,9 @@ fn deliver(at: &Address) -> Result<()> {
             return Ok(());
         }
         if begun.elapsed() > DELIVERED {
-            if let Some((slot, why)) = unknown {
+            if let Some((shard, why)) = unknown {
                 bail!(
-                    "nothing was closed: after {} s nothing is known of slot {slot} ({why}), which may have requests for {}",
+                    "nothing was closed: after {} s nothing is known of shard {shard} ({why}), which may have requests for {}",
                     DELIVERED.as_secs(),
                     status.sink
                 );

@@ -1,7 +1,7 @@
 //! A series with what it counted, as `totals --json` and `export --json` print it: one object on a line.
 
 use super::with_end;
-use crate::sinks::sql::export::{Line, Times};
+use crate::sink::sql::export::{Line, Times};
 use anyhow::{Context, Result};
 use serde::Serialize;
 use serde_json::value::RawValue;
@@ -68,7 +68,7 @@ fn texts(list: Option<&RawValue>) -> Result<Option<Vec<String>>> {
 #[cfg(test)]
 mod tests {
     use super::*;
-    use crate::sinks::sql::totals::Kind;
+    use crate::sink::sql::totals::Kind;
 
     fn raw(text: &str) -> Box<RawValue> {
         RawValue::from_string(text.into()).unwrap()

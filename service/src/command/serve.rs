@@ -3,29 +3,29 @@
 //! `Options::settings` turns the options into `Settings`, for a start, for `config check` and for SIGHUP; so it must
 //! change nothing.
 
+use super::book_options::BookOptions;
 use super::config::{self, unknown_setting};
-use super::of_book::OfBook;
-use super::of_receivers::{OfPass, OfSink};
-use super::of_senders::OfSenders;
-use super::of_store::OfStore;
-use super::reading::OfReading;
-use super::retention::OfRetention;
+use super::reading_options::ReadingOptions;
+use super::receiver_options::{PassthroughOptions, SinkOptions};
+use super::retention_options::RetentionOptions;
+use super::sender_options::SenderOptions;
+use super::store_options::StoreOptions;
 use super::values::{
     operator, orders_at, place, place_or_off, size_from, time, time_or, MayBeNone, MayBePlace, SOCKET,
 };
 use super::version::Versions;
 use super::Ended;
-use crate::core::{self, Across};
-use crate::files::Durability;
+use crate::admin::Times;
+use crate::book::{self, FlushWindow};
 use crate::identity;
 use crate::log;
 use crate::metrics::Metrics;
-use crate::operate::Times;
 use crate::otlp::Reason;
 use crate::post_reports::ReportOptions;
 use crate::runs;
-use crate::service::{self, Live, Operate, Settings};
-use crate::sinks::Address;
+use crate::service::{self, AdminAddresses, Live, Settings};
+use crate::sink::Address;
+use crate::storage::Durability;
 use anyhow::{anyhow, bail, Context};
 use clap::builder::{PossibleValuesParser, TypedValueParser};
 use clap::{value_parser, Args, CommandFactory};
@@ -109,7 +109,7 @@ pub struct Options {
     flush_interval: Duration,
     /// The period, in UTC, at whose ends delivered points are split: none spans two of them, unless a posted point does
     #[arg(long, env = "TOTXEGUN_SPLIT_AT", value_name = "WHAT", default_value = "hour", value_enum)]
-    split_at: Across,
+    split_at: FlushWindow,
     /// What an answered post survives: `disk` a loss of power, `process` the end of the process
     #[arg(long, env = "TOTXEGUN_DURABILITY", value_name = "WHAT", default_value = "disk", value_enum)]
     durability: Durability,
@@ -142,21 +142,21 @@ pub struct Options {
     threads: Option<u16>,
     // The options after a group stand under its heading in the help, so the groups come last.
     #[command(flatten)]
-    of_senders: OfSenders,
+    sender_options: SenderOptions,
     #[command(flatten)]
-    of_store: OfStore,
+    store_options: StoreOptions,
     #[command(flatten)]
-    of_sink: OfSink,
+    of_sink: SinkOptions,
     #[command(flatten)]
-    of_pass: OfPass,
+    of_pass: PassthroughOptions,
     #[command(flatten)]
-    of_retention: OfRetention,
+    of_retention: RetentionOptions,
     #[command(flatten)]
-    of_reading: OfReading,
+    of_reading: ReadingOptions,
     #[command(flatten)]
     of_runs: runs::Options,
     #[command(flatten)]
-    of_book: OfBook,
+    book_options: BookOptions,
 }
 
 /// Refuses a variable that no option reads.
@@ -194,7 +194,7 @@ impl Options {
         let mut building = tokio::runtime::Builder::new_multi_thread();
         building
             .worker_threads(BACKGROUND)
-            .max_blocking_threads(match self.of_store.is_given() {
+            .max_blocking_threads(match self.store_options.is_given() {
                 true => LONG_WORK_OF_STORE,
                 false => LONG_WORK,
             })
@@ -202,8 +202,8 @@ impl Options {
             .enable_all();
         let runtime = building.build().context("no threads could be started")?;
         let reload = config::reload(level, &metrics)?;
-        core::bound_memory(self.of_book.memory());
-        metrics.limit_series(self.of_book.max_series);
+        book::bound_memory(self.book_options.memory());
+        metrics.limit_series(self.book_options.max_series);
         let max_connections = self.connections(most_files);
         let settings = self.settings(metrics)?;
         let ended = runtime.block_on(service::run(Settings { reload, max_connections, ..settings }));
@@ -222,7 +222,7 @@ impl Options {
     /// The settings that SIGHUP may change. `config::LIVE` names their options.
     pub fn live(&self) -> Live {
         Live {
-            of_each: self.of_senders.of_each(),
+            of_each: self.sender_options.of_each(),
             report_options: ReportOptions {
                 log_rejected: self.log_rejected as usize,
                 expected: self.expect_rejected.clone(),
@@ -260,7 +260,7 @@ impl Options {
         let sink = match self.sink {
             Some(sink) => sink,
             // A store has no folder in which a file could be the sink.
-            None if self.of_store.is_given() => {
+            None if self.store_options.is_given() => {
                 let why = "--store has no sink of its own: give --sink postgres://.. or http://.. too";
                 return Err(Ended::Line(anyhow!(why)));
             }
@@ -269,15 +269,16 @@ impl Options {
         let sink = self.of_sink.put_into(sink).map_err(Ended::Line)?;
         let retention = self.of_retention.retention(&sink).map_err(Ended::Line)?;
         let likeness = self.of_reading.likeness(self.split_at);
-        let store = self.of_store.settings(likeness, &sink, self.of_senders.pair()).map_err(Ended::Line)?;
+        let store =
+            self.store_options.settings(likeness, &sink, self.sender_options.pair()).map_err(Ended::Line)?;
         let clock = self.of_reading.clock();
         let reading = self.of_reading.reading().map_err(Ended::Line)?;
-        if self.of_senders.has_names() && reading.sender_from.is_some() {
+        if self.sender_options.has_names() && reading.sender_from.is_some() {
             return Err(Ended::Line(anyhow!(
                 "--sender-from would take a sender's word for its name: leave it out where --client-ca or --tokens name senders"
             )));
         }
-        if let (Some(name), false) = (&reading.sender_attribute, self.of_senders.has_names()) {
+        if let (Some(name), false) = (&reading.sender_attribute, self.sender_options.has_names()) {
             return Err(Ended::Line(anyhow!(
                 "--sender-attribute {name} is for the name that a sender proves, and here none does: give --tokens or --client-ca, \
                  or leave it out"
@@ -295,11 +296,11 @@ impl Options {
         Ok(Settings {
             data,
             store,
-            door: self.of_senders.door([Some(&self.listen), self.listen_grpc.0.as_ref()], &metrics)?,
+            door: self.sender_options.door([Some(&self.listen), self.listen_grpc.0.as_ref()], &metrics)?,
             listen: self.listen,
             listen_grpc: self.listen_grpc.0,
             operate,
-            behind_proxy: self.of_senders.behind_proxy,
+            behind_proxy: self.sender_options.behind_proxy,
             live,
             reload: Box::new(|| None),
             sink,
@@ -317,7 +318,7 @@ impl Options {
             max_late: self.max_late,
             max_connections: self.max_connections as usize,
             threads: self.threads.map_or_else(processors, usize::from),
-            max_series: self.of_book.max_series as usize,
+            max_series: self.book_options.max_series as usize,
             totals_times: match self.totals_timestamps {
                 true => Times::OfIntervals,
                 false => Times::None,
@@ -333,13 +334,13 @@ fn processors() -> usize {
 }
 
 /// At most one address of TCP and one socket.
-fn operate(addresses: &[String], data: &Path) -> anyhow::Result<Operate> {
+fn operate(addresses: &[String], data: &Path) -> anyhow::Result<AdminAddresses> {
     let is_socket = |address: &&String| address.starts_with(SOCKET);
     let (sockets, tcp): (Vec<&String>, Vec<&String>) = addresses.iter().partition(is_socket);
     if let Some(second) = sockets.get(1).or(tcp.get(1)) {
         bail!("--admin has a second address like {second}: give one HOST:PORT and one unix:PATH at most");
     }
-    Ok(Operate {
+    Ok(AdminAddresses {
         tcp: tcp.first().map(ToString::to_string),
         socket: absolute(&orders_at(sockets.into_iter().map(String::as_str), data))?,
         tokens: None,
@@ -378,7 +379,7 @@ mod tests {
     #[test]
     fn no_warning_of_a_library_is_logged() {
         let is_told = |target: &str, level| told(LevelFilter::INFO).would_enable(target, &level);
-        assert!(is_told("totxegun::slot", Level::INFO) && !is_told("totxegun::slot", Level::DEBUG));
+        assert!(is_told("totxegun::shard", Level::INFO) && !is_told("totxegun::shard", Level::DEBUG));
         assert!(!is_told("h2::proto::ping_pong", Level::WARN) && is_told("h2", Level::ERROR));
     }
 }

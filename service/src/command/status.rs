@@ -1,8 +1,8 @@
 //! `totxegun status`: prints the status of the running service.
 
 use super::table::Table;
+use crate::admin::status::{Section, Shown, Status};
 use crate::log::{all_shown, cut};
-use crate::operate::status::{Section, Shown, Status};
 
 /// How much of a text is shown in any column but the last, in characters.
 const CELL: usize = 60;
@@ -44,7 +44,7 @@ fn cells(row: &[String]) -> Vec<String> {
 #[cfg(test)]
 mod tests {
     use super::*;
-    use crate::operate::status::{First, RefusedStatus};
+    use crate::admin::status::{First, RefusedStatus};
     use crate::otlp::Reason;
 
     #[test]

@@ -3,7 +3,7 @@
 
 use super::{line, values::counted};
 use crate::store::moving::from_folder;
-use crate::store::postgres::{address, Copies, PostgresStore, Server, MOST_SLOTS};
+use crate::store::postgres::{address, Copies, PostgresStore, Server, MOST_SHARDS};
 use anyhow::Result;
 use clap::{value_parser, Args, Subcommand};
 use std::path::PathBuf;
@@ -15,9 +15,9 @@ pub enum Command {
         /// The database: postgres://USER@HOST:PORT/DB, or postgres://USER@HOST1,HOST2/DB for servers that stand in for each other
         #[arg(value_name = "ADDRESS", value_parser = address)]
         database: Server,
-        /// How many slots the store has for its series: four for each machine. It can't be changed later
-        #[arg(long, value_name = "N", default_value_t = 12, value_parser = value_parser!(u16).range(1..=i64::from(MOST_SLOTS)))]
-        slots: u16,
+        /// How many shards the store has for its series: four for each machine. It can't be changed later
+        #[arg(long, value_name = "N", default_value_t = 12, value_parser = value_parser!(u16).range(1..=i64::from(MOST_SHARDS)))]
+        shards: u16,
     },
     /// Moves what a folder has into a store that nobody has used yet, which counts from then on. All services must have ended; if it is killed, the same command goes on
     Move(Move),
@@ -31,8 +31,8 @@ pub enum Command {
 pub struct Restored {
     #[command(flatten)]
     store: Place,
-    /// Slots that begin with nothing: what they have is deleted. For rows that are lost
-    #[arg(long, value_name = "SLOTS", value_delimiter = ',')]
+    /// Shards that begin with nothing: what they have is deleted. For rows that are lost
+    #[arg(long, value_name = "SHARDS", value_delimiter = ',')]
     anew: Vec<u16>,
 }
 
@@ -58,9 +58,9 @@ pub struct Move {
 impl Command {
     pub fn run(&self) -> Result<Vec<u8>> {
         Ok(line(match self {
-            Command::Init { database, slots } => {
-                let slots = PostgresStore::make(database, *slots)?.slots;
-                format!("a store of {slots} slots in {database}")
+            Command::Init { database, shards } => {
+                let shards = PostgresStore::make(database, *shards)?.shards;
+                format!("a store of {shards} shards in {database}")
             }
             Command::Move(of) => of.run()?,
             Command::Restored(of) => of.run()?,
@@ -96,8 +96,8 @@ impl Restored {
         let numbers: Vec<String> = anew.iter().map(u16::to_string).collect();
         let anew = match &numbers[..] {
             [] => String::new(),
-            [one] => format!("; slot {one} begins with nothing"),
-            several => format!("; the slots {} begin with nothing", several.join(", ")),
+            [one] => format!("; shard {one} begins with nothing"),
+            several => format!("; the shards {} begin with nothing", several.join(", ")),
         };
         Ok(format!("the store in {database} goes on with what it has{anew}. Start the instances: their log says what the sink has beyond it"))
     }

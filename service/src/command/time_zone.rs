@@ -1,6 +1,6 @@
 //! `--time-zone`: a month or a day by the clocks of a zone.
 
-use crate::sinks::periods::{Period, Zone};
+use crate::sink::periods::{Period, Zone};
 use anyhow::{Error, Result};
 use clap::Args;
 use percent_encoding::{utf8_percent_encode, NON_ALPHANUMERIC};

@@ -2,9 +2,9 @@
 
 use super::table::Table;
 use super::{ask, export, line, series};
-use crate::sinks::sql::export::{Line, What};
-use crate::sinks::sql::reading::read;
-use crate::sinks::Address;
+use crate::sink::sql::export::{Line, What};
+use crate::sink::sql::reading::read;
+use crate::sink::Address;
 use anyhow::Result;
 use clap::Args;
 
@@ -82,7 +82,7 @@ fn shown(line: &Line) -> [String; COLUMNS.len()] {
 #[cfg(test)]
 mod tests {
     use super::*;
-    use crate::sinks::sql::totals::Kind;
+    use crate::sink::sql::totals::Kind;
     use serde_json::value::RawValue;
 
     /// Else whoever looks here bills what was counted twice, and has no number for `totxegun adjust`.

@@ -3,9 +3,9 @@
 use super::answer;
 use super::guard::Guarded;
 use crate::identity::Who;
-use crate::intake::connections::{Protocol, Shared, Transport};
-use crate::intake::permits::ConnectionPermit;
-use crate::intake::Taker;
+use crate::ingest::connections::{Protocol, Shared, Transport};
+use crate::ingest::permits::ConnectionPermit;
+use crate::ingest::PostHandler;
 use crate::latch::Latch;
 use crate::tls;
 use crate::work::locked;
@@ -93,20 +93,20 @@ pub struct Grpc;
 impl Protocol for Grpc {
     const OVER_TLS: tls::Protocol = tls::Protocol::Grpc;
 
-    async fn connection<S: Transport, T: Taker>(
+    async fn connection<S: Transport, T: PostHandler>(
         stream: S,
         shared: Arc<Shared<T>>,
         who: Who,
         permit: Arc<ConnectionPermit>,
     ) {
         let Shared { limits, permits, .. } = &*shared;
-        let (intake, mut stop, who) = (shared.intake.clone(), shared.stop.clone(), Arc::new(who));
+        let (ingest, mut stop, who) = (shared.ingest.clone(), shared.stop.clone(), Arc::new(who));
         let calls = Calls::new(permit.clone());
         let of_calls = calls.clone();
         let service = service_fn(move |request| {
-            let (intake, who, call) = (intake.clone(), who.clone(), Call::begin(&of_calls));
+            let (ingest, who, call) = (ingest.clone(), who.clone(), Call::begin(&of_calls));
             async move {
-                let response = answer(intake, &who, request).await;
+                let response = answer(ingest, &who, request).await;
                 drop(call);
                 Ok::<_, Infallible>(response)
             }

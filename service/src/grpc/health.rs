@@ -2,8 +2,8 @@
 //! name.
 
 use super::{is_grpc, message, reply, timeout};
-use crate::intake::refusal::Refusal;
-use crate::intake::{Intake, Taker};
+use crate::ingest::refusal::Refusal;
+use crate::ingest::{Ingest, PostHandler};
 use hyper::http::request::Parts;
 use hyper::{Body, Response};
 use prost::Message;
@@ -37,8 +37,8 @@ pub fn is_asked(parts: &Parts) -> bool {
 }
 
 /// Answers a health check. An error says what to send instead.
-pub async fn answer<T: Taker>(intake: &Intake<T>, parts: &Parts, body: &mut Body) -> Response<Body> {
-    let mut hold = intake.budget.hold();
+pub async fn answer<T: PostHandler>(ingest: &Ingest<T>, parts: &Parts, body: &mut Body) -> Response<Body> {
+    let mut hold = ingest.budget.hold();
     let received = tokio::time::timeout(timeout::of(&parts.headers), message::receive(body, &mut hold)).await;
     let message = match received {
         Ok(Ok(message)) if !message.is_packed => Some(message),
@@ -57,7 +57,7 @@ pub async fn answer<T: Taker>(intake: &Intake<T>, parts: &Parts, body: &mut Body
             reply::failed(NOT_FOUND, "unknown service: ask for the empty name, or for the metrics service")
         }
         Some(_) => {
-            let status = if intake.is_available() { SERVING } else { NOT_SERVING };
+            let status = if ingest.is_available() { SERVING } else { NOT_SERVING };
             reply::message(&HealthCheckResponse { status }.encode_to_vec()).await
         }
     }

@@ -1,7 +1,7 @@
 //! Receives the one message of a call: a byte that says whether it is compressed, its length, and its bytes.
 
-use crate::intake::refusal::Refusal;
-use crate::intake::{Arrival, Hold, LEFT_BYTES, LEFT_TIME, MOST};
+use crate::ingest::refusal::Refusal;
+use crate::ingest::{Arrival, MemoryHold, LEFT_BYTES, LEFT_TIME, MOST};
 use bytes::Bytes;
 use hyper::body::{Body, HttpBody};
 
@@ -16,7 +16,7 @@ pub struct Message {
 }
 
 /// Receives the whole body of a call. If its announced length is too long, it is refused before it has arrived.
-pub async fn receive(body: &mut Body, hold: &mut Hold) -> Result<Message, Refusal> {
+pub async fn receive(body: &mut Body, hold: &mut MemoryHold) -> Result<Message, Refusal> {
     let mut whole = Vec::new();
     let mut first: Option<Bytes> = None;
     let mut arrival = Arrival::of(hold);
@@ -75,7 +75,7 @@ fn length(received: &[u8]) -> Result<Option<usize>, Refusal> {
 #[cfg(test)]
 mod tests {
     use super::*;
-    use crate::intake::Budget;
+    use crate::ingest::Budget;
 
     const TOO_LONG: &str =
         "body too long: over 4194304 bytes, compressed or not: post fewer points at a time";

@@ -3,12 +3,12 @@
 use super::reply::RetryInfo;
 use super::*;
 use crate::identity::{AllowedHosts, Door};
-use crate::intake::connections::{spread, Limits, Shared};
-use crate::intake::{Budget, Hears, Threads};
+use crate::ingest::connections::{spread, Limits, Shared};
+use crate::ingest::{Budget, ResponseObserver, Threads};
 use crate::metrics::Metrics;
 use crate::otlp::Status;
 use crate::otlp::{a_request_of_test, Original, Reading, Rejection};
-use crate::slot::{Request as Posted, Slots};
+use crate::shard::{Request as Posted, Shards};
 use bytes::Bytes;
 use flate2::{write::GzEncoder, Compression};
 use hyper::body::HttpBody;
@@ -34,7 +34,7 @@ struct Kept {
     outcome: Option<Outcome>,
 }
 
-impl Taker for Kept {
+impl PostHandler for Kept {
     fn post(
         self: &Arc<Self>,
         sender: &str,
@@ -53,7 +53,7 @@ impl Taker for Kept {
     }
 }
 
-impl Hears for Kept {
+impl ResponseObserver for Kept {
     fn answered(&self, sender: &str, outcome: &Outcome) {
         if outcome.refusal().is_some() {
             self.turned.lock().unwrap().push(sender.into());
@@ -79,8 +79,8 @@ impl Served {
         let kept = Arc::new(Kept { posts: Mutex::new(Vec::new()), turned: Mutex::new(Vec::new()), outcome });
         let budget = Budget::new(max_bytes);
         let metrics = Arc::new(Metrics::new().unwrap());
-        let intake = Intake::of(
-            Slots::one(Some(kept.clone())),
+        let ingest = Ingest::of(
+            Shards::one(Some(kept.clone())),
             kept.clone(),
             Arc::new(Reading::default()),
             budget.clone(),
@@ -88,14 +88,14 @@ impl Served {
         );
         let is_available = Arc::new(AtomicBool::new(true));
         let available = is_available.clone();
-        intake.set_available(move || available.load(Relaxed));
+        ingest.set_available(move || available.load(Relaxed));
         let listener = TcpListener::bind("127.0.0.1:0").await.unwrap();
         let address = listener.local_addr().unwrap();
         let limits =
             Limits { connections: 4, head: Duration::from_millis(200), idle: Duration::from_millis(800) };
         let (stop, stopped) = watch::channel(false);
         let threads = Arc::new(Threads::new(2).unwrap());
-        let shared = Shared::new(limits, door, Arc::new(intake), stopped);
+        let shared = Shared::new(limits, door, Arc::new(ingest), stopped);
         let task = tokio::spawn(spread::<Grpc, _>(Arc::new(listener), shared, threads));
         Served { address, kept, budget, is_available, stop, task }
     }
@@ -175,7 +175,7 @@ async fn a_call_goes_the_way_of_a_post() {
         (&[("x-sender", "shop-1")][..], frame(0, &request)),
         (&[("grpc-encoding", "identity")], frame(0, &request)),
         (&[("grpc-encoding", "gzip")], frame(1, &gzip(&request))),
-        (&[("grpc-encoding", "zstd")], frame(1, &crate::intake::zstd_packed(&request))),
+        (&[("grpc-encoding", "zstd")], frame(1, &crate::ingest::zstd_packed(&request))),
         (&[("grpc-encoding", "gzip")], frame(0, &request)),
     ] {
         let answer = served.export(more, body).await;
@@ -190,12 +190,12 @@ async fn a_call_goes_the_way_of_a_post() {
 }
 
 #[tokio::test]
-async fn what_a_slot_says_is_said_as_grpc_does() {
+async fn what_a_shard_says_is_said_as_grpc_does() {
     let partial = Served::with(Some(Outcome::taken(7)), 1 << 20).await;
     let answer = partial.export(&[], frame(0, b"")).await;
     assert_eq!(answer.data, frame(0, &Outcome::taken(7).body(Encoding::Protobuf)));
     let text = "50% \u{fc}ber";
-    let later = Rejection { seconds: Some(7), ..Rejection::new(Reason::OverShare, text) }.into();
+    let later = Rejection { seconds: Some(7), ..Rejection::new(Reason::OverQuota, text) }.into();
     let refused = |reason| Outcome::refused(reason, text);
     let refused = [Reason::OutOfOrder, Reason::Quarantined, Reason::Full].map(refused);
     for (outcome, wanted) in refused.into_iter().chain([later]).zip([3, 7, 14, 8]) {
@@ -313,14 +313,14 @@ async fn a_deadline_ends_the_call_and_not_the_post() {
 #[tokio::test]
 async fn headers_are_dropped_while_a_message_comes() {
     let (kept, metrics) = (Served::start().await.kept, Arc::new(Metrics::new().unwrap()));
-    let (slots, reading) = (Slots::one(Some(kept)), Arc::new(Reading::default()));
-    let intake = Intake::of(slots, Arc::new(()), reading, Budget::new(1 << 20), metrics);
+    let (shards, reading) = (Shards::one(Some(kept)), Arc::new(Reading::default()));
+    let ingest = Ingest::of(shards, Arc::new(()), reading, Budget::new(1 << 20), metrics);
     let (with_headers, (_sender, body)) = (Arc::new(()), Body::channel());
     let are_there = Arc::downgrade(&with_headers);
     let request = Request::post(METHOD).header("content-type", "application/grpc");
     let request = request.extension(with_headers).body(body).unwrap();
     let who = Door::default().who(None, None);
-    let answering = tokio::spawn(async move { answer(Arc::new(intake), &who, request).await });
+    let answering = tokio::spawn(async move { answer(Arc::new(ingest), &who, request).await });
     for _ in 0..500 {
         if are_there.upgrade().is_none() {
             break;

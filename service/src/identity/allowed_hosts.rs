@@ -4,9 +4,9 @@
 //! any sender's name. Such a request names the page's host. If senders need a token or a certificate, a page has
 //! neither, so any host is accepted.
 
-use super::Stranger;
+use super::SenderRefusal;
+use crate::admin::is_ours;
 use crate::log::shown;
-use crate::operate::is_ours;
 
 /// How much of another host a refusal shows, in characters.
 const SHOWN: usize = 100;
@@ -20,11 +20,11 @@ impl AllowedHosts {
     }
 
     /// Refuses a request that names another host.
-    pub fn check<'h>(&self, mut named: impl Iterator<Item = &'h [u8]>) -> Result<(), Stranger> {
+    pub fn check<'h>(&self, mut named: impl Iterator<Item = &'h [u8]>) -> Result<(), SenderRefusal> {
         let is_one = |host: &str| is_ours(host, "localhost") || self.0.iter().any(|name| is_ours(host, name));
         let other = named.find(|host| !std::str::from_utf8(host).is_ok_and(is_one));
         other.map_or(Ok(()), |host| {
-            Err(Stranger::OtherHost { host: shown(&String::from_utf8_lossy(host), SHOWN) })
+            Err(SenderRefusal::OtherHost { host: shown(&String::from_utf8_lossy(host), SHOWN) })
         })
     }
 }

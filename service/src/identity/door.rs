@@ -4,7 +4,7 @@ use super::who::{By, Certified};
 use super::{AllowedHosts, Tokens, Who};
 use crate::metrics::Metrics;
 use crate::reloaded::{Reader, Reloaded};
-use crate::tls::{ClientChain, Files, Shaken, Tls, WithoutCertificate};
+use crate::tls::{ClientChain, Files, Tls, TlsConnection, WithoutCertificate};
 use anyhow::Result;
 use std::fmt;
 use std::net::IpAddr;
@@ -52,7 +52,7 @@ impl Door {
     }
 
     /// How the senders of a connection's requests are identified. `shaken` is its handshake, if it had one.
-    pub fn who(&self, shaken: Option<&Shaken>, peer: Option<IpAddr>) -> Who {
+    pub fn who(&self, shaken: Option<&TlsConnection>, peer: Option<IpAddr>) -> Who {
         let chain = shaken.zip(self.tls.as_ref()).and_then(|(shaken, tls)| shaken.chain(tls));
         let by = match (chain, &self.tls, &self.tokens) {
             (Some(chain), _, tokens) => By::Certificate(Certified::new(chain, tokens.clone())),

@@ -1,5 +1,5 @@
 //! Identifies senders: by the certificate that they show, otherwise by their token, otherwise by their own word.
-//! `intake` and `grpc` ask it for each request. A sender posts under its own name, or under those that the file of
+//! `ingest` and `grpc` ask it for each request. A sender posts under its own name, or under those that the file of
 //! tokens allows.
 //!
 //! - `door`: the checks of an address; `who`: the identity of a connection and its requests.
@@ -19,7 +19,7 @@ use crate::otlp::Reason;
 
 /// Why a request is refused for its sender. The text never contains any part of a token.
 #[derive(Debug, PartialEq, Eq, thiserror::Error)]
-pub enum Stranger {
+pub enum SenderRefusal {
     #[error("no token: send one header `Authorization: Bearer TOKEN`")]
     NoToken,
     #[error(
@@ -50,15 +50,15 @@ pub enum Stranger {
 /// The text between the sender's name and the name that it asks for.
 const MAY_NOT: &str = "may not post as";
 
-impl Stranger {
+impl SenderRefusal {
     pub fn reason(&self) -> Reason {
         match self {
-            Stranger::NoToken => Reason::NoToken,
-            Stranger::WrongToken => Reason::UnknownToken,
-            Stranger::NotBelieved => Reason::CertificateNotBelieved,
-            Stranger::Nameless => Reason::CertificateWithoutName,
-            Stranger::OtherHost { .. } => Reason::OtherHost,
-            Stranger::OtherName { .. } | Stranger::TokenAsName { .. } => Reason::OtherName,
+            SenderRefusal::NoToken => Reason::NoToken,
+            SenderRefusal::WrongToken => Reason::UnknownToken,
+            SenderRefusal::NotBelieved => Reason::CertificateNotBelieved,
+            SenderRefusal::Nameless => Reason::CertificateWithoutName,
+            SenderRefusal::OtherHost { .. } => Reason::OtherHost,
+            SenderRefusal::OtherName { .. } | SenderRefusal::TokenAsName { .. } => Reason::OtherName,
         }
     }
 }

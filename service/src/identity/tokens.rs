@@ -10,8 +10,8 @@
 //! - `NAME - series=N`: a quota alone.
 
 use crate::otlp::NO_NAME;
-use crate::shares::{Share, MOST_POINTS};
-use crate::slot::is_sender;
+use crate::quota::{Quota, MOST_POINTS};
+use crate::shard::is_sender;
 use sha2::{Digest, Sha256};
 use std::collections::hash_map::Entry;
 use std::collections::HashMap;
@@ -66,14 +66,14 @@ pub struct Tokens {
     /// Senders with certificates that may use others' names, by name.
     certified: HashMap<String, Arc<Sender>>,
     /// The quotas, by name.
-    shares: HashMap<String, Share>,
+    quotas: HashMap<String, Quota>,
 }
 
 /// The contents of a line.
 struct Line {
     sender: Sender,
     proof: Proof,
-    share: Share,
+    quota: Quota,
 }
 
 /// How the sender of a line proves who it is.
@@ -99,9 +99,9 @@ impl Tokens {
     }
 
     fn add(&mut self, line: Line) -> Result<(), &'static str> {
-        let Line { sender, proof, share } = line;
+        let Line { sender, proof, quota } = line;
         let name = sender.name.clone();
-        if share != Share::default() && self.shares.insert(name.clone(), share).is_some() {
+        if quota != Quota::default() && self.quotas.insert(name.clone(), quota).is_some() {
             return Err("an earlier line has series= or points= for this name");
         }
         match proof {
@@ -120,14 +120,14 @@ impl Tokens {
     }
 
     /// The quota of a sender, if a line has one.
-    pub fn share(&self, name: &str) -> Option<Share> {
-        self.shares.get(name).copied()
+    pub fn quota(&self, name: &str) -> Option<Quota> {
+        self.quotas.get(name).copied()
     }
 
     /// Checks a file of operators, which has only names and tokens.
     pub fn of_operators(self) -> Result<Tokens, String> {
         let is_of_senders = |owner: &Arc<Sender>| !owner.others.is_empty();
-        let has_names_alone = self.certified.is_empty() && self.shares.is_empty();
+        let has_names_alone = self.certified.is_empty() && self.quotas.is_empty();
         match has_names_alone && !self.owners.values().any(is_of_senders) {
             true => Ok(self),
             false => {
@@ -147,7 +147,7 @@ impl Tokens {
 
     /// The same if certificates let senders in: then the file may have quotas alone.
     pub fn shut_beside_certificates(&self) -> Option<&'static str> {
-        self.shut().filter(|_| self.shares.is_empty())
+        self.shut().filter(|_| self.quotas.is_empty())
     }
 
     /// The owner of a token.
@@ -166,7 +166,7 @@ fn read_line(line: &str) -> Result<Line, &'static str> {
     let (Some(who), Some(proof)) = (words.next(), words.next()) else {
         return Err("write `NAME sha256:HEX`, as `totxegun token NAME` prints it");
     };
-    let share = read_share(words)?;
+    let quota = read_share(words)?;
     let (name, other) = match who.split_once('/') {
         Some((name, other)) => (name, Some(other)),
         None => (who, None),
@@ -177,7 +177,7 @@ fn read_line(line: &str) -> Result<Line, &'static str> {
     if other.is_some_and(|other| other != "*" && !is_sender(other.strip_suffix('*').unwrap_or(other))) {
         return Err("after the / write a sender's name, the beginning of one and *, or only *");
     }
-    let says_more = other.is_some() || share != Share::default();
+    let says_more = other.is_some() || quota != Quota::default();
     let proof = match proof {
         CERTIFICATE | NO_PROOF if !says_more => {
             return Err("a line without a token needs NAME/PATTERN, series= or points=")
@@ -194,17 +194,17 @@ fn read_line(line: &str) -> Result<Line, &'static str> {
     };
     let (name, others) = (name.to_string(), other.map(str::to_string).into_iter().collect());
     let sender = Sender { name, others };
-    Ok(Line { sender, proof, share })
+    Ok(Line { sender, proof, quota })
 }
 
-fn read_share<'l>(words: impl Iterator<Item = &'l str>) -> Result<Share, &'static str> {
-    let mut share = Share::default();
+fn read_share<'l>(words: impl Iterator<Item = &'l str>) -> Result<Quota, &'static str> {
+    let mut quota = Quota::default();
     for word in words {
         let (what, number) = word.split_once('=').unwrap_or((word, ""));
         let number = number.parse().ok().filter(|number| (1..=MOST_POINTS).contains(number));
         let of = match what {
-            "series" => &mut share.series,
-            "points" => &mut share.points,
+            "series" => &mut quota.series,
+            "points" => &mut quota.points,
             _ => return Err("after the digest write series=N, points=N, or nothing"),
         };
         if number.is_none() || of.is_some() {
@@ -212,7 +212,7 @@ fn read_share<'l>(words: impl Iterator<Item = &'l str>) -> Result<Share, &'stati
         }
         *of = number;
     }
-    Ok(share)
+    Ok(quota)
 }
 
 fn digest(proof: &str) -> Option<[u8; 32]> {
@@ -299,11 +299,11 @@ mod tests {
             "a {OF_ABC} points=50 series=1000\nb certificate series=7\nc - points=9\nd/* certificate\n"
         );
         let tokens = Tokens::read(text.as_bytes()).unwrap();
-        let share = |series, points| Some(Share { series, points });
-        assert_eq!(tokens.share("a"), share(Some(1000), Some(50)));
-        assert_eq!(tokens.share("b"), share(Some(7), None));
-        assert_eq!(tokens.share("c"), share(None, Some(9)));
-        assert_eq!(tokens.share("d"), None);
+        let quota = |series, points| Some(Quota { series, points });
+        assert_eq!(tokens.quota("a"), quota(Some(1000), Some(50)));
+        assert_eq!(tokens.quota("b"), quota(Some(7), None));
+        assert_eq!(tokens.quota("c"), quota(None, Some(9)));
+        assert_eq!(tokens.quota("d"), None);
         assert!(tokens.certified("b").is_none() && tokens.certified("d").is_some());
         assert!(tokens.of_operators().is_err());
     }

@@ -1,6 +1,6 @@
-//! Identifies the sender of a connection and of each of its requests. `intake/head` and `grpc` ask it.
+//! Identifies the sender of a connection and of each of its requests. `ingest/head` and `grpc` ask it.
 
-use super::{AllowedHosts, Sender, Stranger, Tokens};
+use super::{AllowedHosts, Sender, SenderRefusal, Tokens};
 use crate::otlp::{self, NO_NAME};
 use crate::reloaded::Reloaded;
 use crate::tls::ClientChain;
@@ -33,7 +33,7 @@ pub enum Proved {
 
 impl Who {
     /// Refuses a request that names a host which is not allowed.
-    pub fn check_hosts<'h>(&self, named: impl Iterator<Item = &'h [u8]>) -> Result<(), Stranger> {
+    pub fn check_hosts<'h>(&self, named: impl Iterator<Item = &'h [u8]>) -> Result<(), SenderRefusal> {
         match &self.by {
             By::Believed(Some(hosts)) => hosts.check(named),
             _ => Ok(()),
@@ -41,7 +41,7 @@ impl Who {
     }
 
     /// The identity of a request with these values of the header `Authorization`.
-    pub fn proved<'h>(&self, authorization: impl Iterator<Item = &'h [u8]>) -> Result<Proved, Stranger> {
+    pub fn proved<'h>(&self, authorization: impl Iterator<Item = &'h [u8]>) -> Result<Proved, SenderRefusal> {
         match &self.by {
             By::Believed(_) => Ok(Proved::Anybody),
             By::Token(tokens) => by_token(&tokens.now(), authorization).map(Proved::Sender),
@@ -65,17 +65,17 @@ impl Who {
     }
 
     /// The same refusal without a token in it: some senders put theirs into `x-sender`.
-    pub fn without_token(&self, stranger: Stranger) -> Stranger {
+    pub fn without_token(&self, stranger: SenderRefusal) -> SenderRefusal {
         let tokens = match &self.by {
             By::Believed(_) => None,
             By::Token(tokens) => Some(tokens),
             By::Certificate(certified) => certified.tokens.as_ref(),
         };
         match stranger {
-            Stranger::OtherName { name, other }
+            SenderRefusal::OtherName { name, other }
                 if tokens.is_some_and(|tokens| tokens.now().owner(other.as_bytes()).is_some()) =>
             {
-                Stranger::TokenAsName { name }
+                SenderRefusal::TokenAsName { name }
             }
             other => other,
         }
@@ -103,13 +103,13 @@ impl Proved {
     }
 
     /// The name that the request posts under; `own` is what it calls itself.
-    pub fn name(&self, own: Option<&str>) -> Result<String, Stranger> {
+    pub fn name(&self, own: Option<&str>) -> Result<String, SenderRefusal> {
         match (self, own) {
             (Proved::Anybody, own) => Ok(own.unwrap_or(NO_NAME).to_string()),
             (Proved::Sender(sender), None) => Ok(sender.name.clone()),
             (Proved::Sender(sender), Some(own)) if sender.may_be(own) => Ok(own.to_string()),
             (Proved::Sender(sender), Some(own)) => {
-                Err(Stranger::OtherName { name: sender.name.clone(), other: own.to_string() })
+                Err(SenderRefusal::OtherName { name: sender.name.clone(), other: own.to_string() })
             }
         }
     }
@@ -119,12 +119,12 @@ impl Proved {
 pub fn by_token<'h>(
     tokens: &Tokens,
     mut authorization: impl Iterator<Item = &'h [u8]>,
-) -> Result<Arc<Sender>, Stranger> {
+) -> Result<Arc<Sender>, SenderRefusal> {
     let (Some(value), None) = (authorization.next(), authorization.next()) else {
-        return Err(Stranger::NoToken);
+        return Err(SenderRefusal::NoToken);
     };
-    let token = bearer(value).ok_or(Stranger::NoToken)?;
-    tokens.owner(token).ok_or(Stranger::WrongToken)
+    let token = bearer(value).ok_or(SenderRefusal::NoToken)?;
+    tokens.owner(token).ok_or(SenderRefusal::WrongToken)
 }
 
 /// The token of `Bearer TOKEN` (RFC 6750, 2.1). The scheme is case-insensitive (RFC 9110, 11.1).
@@ -149,11 +149,11 @@ impl Certified {
         Certified { chain, sender: sender.map(Arc::new), tokens }
     }
 
-    fn sender(&self) -> Result<Arc<Sender>, Stranger> {
+    fn sender(&self) -> Result<Arc<Sender>, SenderRefusal> {
         if !self.chain.is_believed() {
-            return Err(Stranger::NotBelieved);
+            return Err(SenderRefusal::NotBelieved);
         }
-        let sender = self.sender.as_ref().ok_or(Stranger::Nameless)?;
+        let sender = self.sender.as_ref().ok_or(SenderRefusal::Nameless)?;
         let with_others = self.tokens.as_ref().and_then(|tokens| tokens.now().certified(&sender.name));
         Ok(with_others.unwrap_or_else(|| sender.clone()))
     }
@@ -195,6 +195,6 @@ mod tests {
 
     #[test]
     fn a_certificate_without_a_name_is_nobody_s() {
-        assert_eq!(shown("/O=x", None).sender(), Err(Stranger::Nameless));
+        assert_eq!(shown("/O=x", None).sender(), Err(SenderRefusal::Nameless));
     }
 }

@@ -1,5 +1,5 @@
 //! Late data: points that their series refused, kept with the names of their series in `late/` of the folder, so that a
-//! person can look at them (`totxegun late`) and book them (`totxegun adjust`). `slot` hands them over after the post
+//! person can look at them (`totxegun late`) and book them (`totxegun adjust`). `shard` hands them over after the post
 //! was answered.
 //!
 //! Posts never wait for it: a thread writes the points. If its queue is full, or the disk is full or fails, the points

@@ -1,10 +1,11 @@
 //! The form of a late point: a line of JSON.
 
-use crate::core::{Names, PointRefusal};
-use crate::files::{Names as _, Outbox, Points};
+use crate::book::{Names, PointRefusal};
+use crate::journal::{Names as _, Points};
 use crate::log::seconds;
 use crate::otlp::series::{only, SeriesKey};
 use crate::otlp::Reason;
+use crate::outbox::Outbox;
 use serde::{Deserialize, Serialize};
 use serde_json::value::RawValue;
 use sha2::{Digest, Sha256};

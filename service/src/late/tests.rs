@@ -1,9 +1,9 @@
 //! What is kept of late points, in which files, and what happens if that fails.
 
 use super::*;
-use crate::core::PointRefusal;
-use crate::files::test_random::TestRandom;
+use crate::book::PointRefusal;
 use crate::otlp::Reason;
+use crate::storage::test_random::TestRandom;
 use serde_json::value::RawValue;
 use std::os::unix::fs::PermissionsExt;
 use std::path::Path;
@@ -168,15 +168,16 @@ fn of_one_post_no_more_is_made_than_a_segment_has_room_for() {
 /// If the thread stalls no post waits: points that find no room are counted as not kept.
 #[test]
 fn nobody_waits_for_the_thread_that_writes() {
-    use crate::core::Names;
-    use crate::files::{Outbox, Points};
+    use crate::book::Names;
+    use crate::journal::Points;
+    use crate::outbox::Outbox;
     let metrics = Arc::new(Metrics::new().unwrap());
     let (queue, queued) = sync_channel(2);
     let late = LateData { queue: Some(queue), folder: PathBuf::new(), metrics, state: Arc::default() };
     let names = Names::of_one_post().unwrap();
     let outbox = Arc::<Outbox>::new({
-        use crate::files::drive::{self, memory::Store};
-        drive::open(Arc::<Store>::default().take(), "00000000000000aa").unwrap().1
+        use crate::storage::shard_store::{self, memory::Store};
+        shard_store::open(Arc::<Store>::default().take(), "00000000000000aa").unwrap().1
     });
     let post = |count: usize| {
         let mut points = Points::default();

@@ -1,9 +1,9 @@
 //! The metrics of an instance that shares a store with others: about itself, and about what it sees of the others.
-//! `operate` sets them when the page is made.
+//! `admin` sets them when the page is made.
 
 use super::make::metrics;
+use crate::admin::DatabaseStatus;
 use crate::cluster::{Forwarded, Status};
-use crate::operate::DatabaseStatus;
 use crate::store::postgres::Counts;
 use crate::work::locked;
 use prometheus::{Gauge, GaugeVec, IntCounter, IntCounterVec, IntGauge, IntGaugeVec};
@@ -12,33 +12,33 @@ use std::sync::Mutex;
 
 metrics! {
     /// Set when the page is made.
-    pub struct OfCluster(registry) {
-        slots_owned: IntGauge = "slots_owned", "Slots that this instance owns";
-        slot_term: IntGaugeVec = "slot_term" ["slot"],
-            "The term of each slot that this instance owns: it rises whenever an instance takes the slot";
-        without_owner: IntGauge = "slots_without_owner", "Slots that no instance serves, as far as this one knows";
+    pub struct ClusterMetrics(registry) {
+        shards_owned: IntGauge = "shards_owned", "Shards that this instance owns";
+        shard_term: IntGaugeVec = "shard_term" ["shard"],
+            "The term of each shard that this instance owns: it rises whenever an instance takes the shard";
+        without_owner: IntGauge = "shards_without_owner", "Shards that no instance serves, as far as this one knows";
         longest_without_owner: Gauge = "longest_without_owner_seconds",
-            "Longest time for which no instance has served one of these slots";
+            "Longest time for which no instance has served one of these shards";
         instances: IntGauge = "instances", "Instances whose heartbeats continue, including this one";
         beat_age: Gauge = "heartbeat_age_seconds",
             "Age of the last heartbeat of this instance that is known to be in the store";
         clock_off: Gauge = "clock_off_seconds",
             "How far this instance's clock is ahead of the other instances and the store (negative: behind), while it is so \
-             far off that the instance takes no slots; otherwise 0";
+             far off that the instance takes no shards; otherwise 0";
         cut_off: IntGauge = "cut_off",
-            "1 while most other instances can't connect to this one, so that it has no slots, or while it can't connect to \
-             an owner of slots that others can connect to";
+            "1 while most other instances can't connect to this one, so that it has no shards, or while it can't connect to \
+             an owner of shards that others can connect to";
         copies: IntGaugeVec = "store_copies" ["database"],
             "Servers that have each commit of the database; absent if unknown";
         copies_asked: IntGauge = "store_copies_asked", "Servers that must have each commit, by --store-copies";
         doubt: GaugeVec = "store_unknown_outcome_seconds" ["database"],
             "Age of this instance's oldest write to the store of which the outcome is unknown; 0 if there is none";
         forwarded: IntCounterVec = "forwarded_posts_total" ["result"],
-            "Posts, or parts of them, that were sent on to the instance of their slot, by its answer";
-        writes: IntCounterVec = "store_writes_total" ["outcome"], "Writes of slots to the store, by outcome";
-        takeovers: IntCounter = "takeovers_total", "Slots that this instance took";
-        hand_overs: IntCounter = "hand_overs_total", "Slots that this instance handed over";
-        lost: IntCounter = "slots_lost_total", "Slots that another instance took while this one owned them";
+            "Posts, or parts of them, that were sent on to the instance of their shard, by its answer";
+        writes: IntCounterVec = "store_writes_total" ["outcome"], "Writes of shards to the store, by outcome";
+        takeovers: IntCounter = "takeovers_total", "Shards that this instance took";
+        hand_overs: IntCounter = "hand_overs_total", "Shards that this instance handed over";
+        lost: IntCounter = "shards_lost_total", "Shards that another instance took while this one owned them";
     }
     with {
         // One page at a time raises the counters to the values that are counted elsewhere.
@@ -46,7 +46,7 @@ metrics! {
     }
 }
 
-impl OfCluster {
+impl ClusterMetrics {
     /// `owned` shards are here.
     pub fn set(
         &self,
@@ -57,10 +57,10 @@ impl OfCluster {
         writes: &Counts,
     ) {
         let _one = locked(&self.setting);
-        self.slots_owned.set(owned as i64);
-        self.slot_term.reset();
-        for (slot, term) in &seen.terms {
-            self.slot_term.with_label_values(&[&slot.to_string()]).set(*term as i64);
+        self.shards_owned.set(owned as i64);
+        self.shard_term.reset();
+        for (shard, term) in &seen.terms {
+            self.shard_term.with_label_values(&[&shard.to_string()]).set(*term as i64);
         }
         self.without_owner.set(seen.without_owner as i64);
         self.longest_without_owner.set(seen.longest_without_owner.as_secs_f64());
@@ -143,7 +143,7 @@ mod tests {
     #[test]
     fn the_page_has_what_is_seen_now_and_counters_as_they_are() {
         let metrics = Metrics::new().unwrap();
-        let of_cluster = OfCluster::of(&metrics.registry).unwrap();
+        let of_cluster = ClusterMetrics::of(&metrics.registry).unwrap();
         let (writes, forwarded) = (Counts::default(), Forwarded { answered: 7, not_mine: 2, broken: 1 });
         writes.commits.store(40, Relaxed);
         of_cluster.set(2, &seen(&[(3, 5), (4, 9)], 2), &database(Some(1)), forwarded, &writes);
@@ -151,9 +151,9 @@ mod tests {
         let page = || String::from_utf8(metrics.page()).unwrap();
         let has = |line: &str| page().lines().any(|found| found == line);
         for line in [
-            "totxegun_slots_owned 1",
-            "totxegun_slot_term{slot=\"4\"} 10",
-            "totxegun_slots_without_owner 2",
+            "totxegun_shards_owned 1",
+            "totxegun_shard_term{shard=\"4\"} 10",
+            "totxegun_shards_without_owner 2",
             "totxegun_longest_without_owner_seconds 31.5",
             "totxegun_instances 3",
             "totxegun_heartbeat_age_seconds 0.25",
@@ -169,11 +169,11 @@ mod tests {
             "totxegun_store_writes_total{outcome=\"vanished\"} 0",
             "totxegun_takeovers_total 3",
             "totxegun_hand_overs_total 1",
-            "totxegun_slots_lost_total 0",
+            "totxegun_shards_lost_total 0",
         ] {
             assert!(has(line), "{line} in\n{}", page());
         }
-        assert!(!page().contains("slot=\"3\""), "it is another's");
+        assert!(!page().contains("shard=\"3\""), "it is another's");
         of_cluster.set(1, &seen(&[], 3), &database(None), forwarded, &writes);
         assert!(!page().contains("totxegun_store_copies{"), "it is not known");
     }

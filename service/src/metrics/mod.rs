@@ -1,4 +1,4 @@
-//! The metrics of the service, and the page that Prometheus scrapes. All parts of the service count here, and `operate`
+//! The metrics of the service, and the page that Prometheus scrapes. All parts of the service count here, and `admin`
 //! serves the page. No label takes an unbounded number of values from senders.
 
 mod cluster;
@@ -6,11 +6,11 @@ mod make;
 mod process;
 mod rounding;
 
-pub use cluster::OfCluster;
+pub use cluster::ClusterMetrics;
 pub use rounding::{RoundedSeries, SeriesOfRule, SHOWN as SHOWN_OF_RULE};
 
 use crate::otlp::{Causes, Encoding, Outcome, Reason, Rounded, Rounding};
-use crate::shares::Used;
+use crate::quota::Used;
 use crate::work::locked;
 use ahash::AHashMap;
 use make::metrics;
@@ -37,7 +37,7 @@ metrics! {
             "Time from the head of a request until its answer is ready, by encoding and status";
         pub request_size: Histogram = "request_size_bytes", "Length of the bodies of requests, uncompressed";
         pub refused_parts: IntCounterVec = "refused_parts_total" ["reason"],
-            "Parts for other slots that were refused, of requests that were accepted, by reason";
+            "Parts for other shards that were refused, of requests that were accepted, by reason";
         // Both have the label `sender`, with at most `SENDERS` values and `other`.
         accepted_points: IntCounterVec = "accepted_points_total" ["sender"], "Points that were accepted";
         rejected_points: IntCounterVec = "rejected_points_total" ["sender", "reason"],
@@ -67,8 +67,8 @@ metrics! {
         // A request that is `denied` is retried, too.
         pub deliveries: IntCounterVec = "deliveries_total" ["outcome"] of ["taken", "partial", "again", "denied", "refused"],
             "Attempts to deliver a request, by outcome";
-        pub sink_ahead: IntGaugeVec = "sink_ahead_requests" ["slot"],
-            "Requests that the sink had but the store lacked when a slot was opened here: the store was restored to an \
+        pub sink_ahead: IntGaugeVec = "sink_ahead_requests" ["shard"],
+            "Requests that the sink had but the store lacked when a shard was opened here: the store was restored to an \
              earlier state";
         pub noted_runs: IntCounter = "noted_runs_total",
             "Cumulative series that count from their first point here: what they had before is left out";
@@ -84,7 +84,7 @@ metrics! {
             "Points that the sink rejected, and bugs of the program";
         pub checkpoint_pause_seconds: Histogram = "checkpoint_pause_seconds", "How long a checkpoint paused posts";
         pub last_recovery: Gauge = "last_recovery_duration_seconds",
-            "How long the last start of a slot took to replay the journal, plus what seeding the book took longer than \
+            "How long the last start of a shard took to replay the journal, plus what seeding the book took longer than \
              opening the files";
         build_info: IntGaugeVec = "build_info" ["version", "book"],
             "1, with the version of the program and the revision of the book in it";
@@ -116,7 +116,7 @@ metrics! {
         pub dead_letters: IntGauge = "dead_letters", "Requests that the sink refused for good, kept aside";
         pub quarantined_senders: IntGauge = "quarantined_senders",
             "Quarantined senders: their points are kept back, and their posts refused; of several instances only the one \
-             that owns the first slot counts them";
+             that owns the first shard counts them";
         pub parked_posts: IntGauge = "parked_posts", "Posts of quarantined senders that are kept back";
         pub parked_bytes: IntGauge = "parked_bytes", "Bytes on disk of these posts";
         pub delivery_stuck: IntGauge = "delivery_stuck",

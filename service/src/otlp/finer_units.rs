@@ -191,13 +191,13 @@ impl FinerUnits {
         FinerUnits { profile, ..self }
     }
 
-    /// The same for a slot of several, which decides by what it has itself.
-    pub fn of_slot(&self) -> FinerUnits {
+    /// The same for a shard of several, which decides by what it has itself.
+    pub fn of_shard(&self) -> FinerUnits {
         let units = self.units.clone();
-        FinerUnits { units: units.map(|of_all| Arc::new(Units::of_slot(of_all))), ..self.clone() }
+        FinerUnits { units: units.map(|of_all| Arc::new(Units::of_shard(of_all))), ..self.clone() }
     }
 
-    /// Whose decisions these are: 0 where all slots have the same.
+    /// Whose decisions these are: 0 where all shards have the same.
     pub fn decides(&self) -> u64 {
         self.units.as_ref().map_or(0, |units| units.number)
     }

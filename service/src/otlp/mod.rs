@@ -9,7 +9,7 @@
 //! `sender_attributes` puts a sender's name into its resources.
 //! `outside` is what of a request is handed on to another receiver, `clock` which points end too far from the service's clock.
 //! `reason` has why something is not taken, `outcome` what became of a request, `answers` how that is written. `resources` says
-//! which slot a resource has and takes requests apart, `combined_outcome` is one answer of several.
+//! which shard a resource has and takes requests apart, `combined_outcome` is one answer of several.
 
 mod answers;
 mod causes;
@@ -51,7 +51,7 @@ pub use numbered::{Learnt, NotNamed, Numbered, Series};
 pub use outcome::{Outcome, RejectedPoint, Rejection};
 pub use outside::{Original, Outside};
 pub use reason::Reason;
-pub use resources::{slot_of, slot_of_series, Part, Resources, Split};
+pub use resources::{shard_of, shard_of_series, Part, Resources, Split};
 pub use sender::{legal, sender, NO_NAME};
 pub use sender_attributes::{with_sender_attributes, Attributed, SenderNames, INSTANCE};
 pub use series::{protobuf_of_forwarded, Profile};
@@ -148,9 +148,9 @@ pub struct Reading {
 }
 
 impl Reading {
-    /// The same for a slot of several.
-    pub fn of_slot(&self) -> Reading {
-        Reading { finer_units: self.finer_units.of_slot(), ..self.clone() }
+    /// The same for a shard of several.
+    pub fn of_shard(&self) -> Reading {
+        Reading { finer_units: self.finer_units.of_shard(), ..self.clone() }
     }
 }
 

@@ -18,7 +18,7 @@ mod walk;
 
 use super::series::{request_of, visit_body, Profile, Seen, SeriesKey, Temporality};
 use super::{Reading, Rounded};
-use crate::files::Points;
+use crate::journal::Points;
 use bytes::Bytes;
 use identity::{Learn, Learner};
 use levels::{Levels, FOREIGN, KEYS};
@@ -50,7 +50,7 @@ pub struct Numbered {
     pub cumulative: Vec<u32>,
 }
 
-/// All that is known by its bytes, under one way of reading, but for what slots decide by themselves.
+/// All that is known by its bytes, under one way of reading, but for what shards decide by themselves.
 pub struct Series {
     levels: RwLock<Levels>,
     /// Something found no room.

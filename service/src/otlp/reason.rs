@@ -5,14 +5,14 @@
 use serde::{Deserialize, Serialize};
 
 /// How a sender is told.
-enum Told {
+enum Disclosure {
     /// The request is taken but for so many of these: one, and several.
     Points([&'static str; 2]),
     /// All of the request is refused: the status of HTTP, and what the text begins with.
     Request(u16, &'static str),
 }
 
-use Told::{Points, Request};
+use Disclosure::{Points, Request};
 
 /// A reason has a row: what it is where its name does not say so, its label, how a sender is told, and what is to be done.
 macro_rules! reasons {
@@ -25,7 +25,7 @@ macro_rules! reasons {
         impl Reason {
             pub const ALL: &'static [Reason] = &[$(Reason::$reason),*];
 
-            fn row(self) -> (&'static str, Told, &'static str) {
+            fn row(self) -> (&'static str, Disclosure, &'static str) {
                 match self {
                     $(Reason::$reason => ($label, $told, $advice),)*
                 }
@@ -153,35 +153,35 @@ reasons! {
     /// Until there is a new start nothing is taken.
     Unfilled "unfilled" Request(503, "no memory: the book does not take what the journal has"), "raise --max-memory";
     Stopping "stopping" Request(503, "stopping"), "the service ends";
-    NoOwner "no_owner" Request(503, "no instance has the slot of this post"),
+    NoOwner "no_owner" Request(503, "no instance has the shard of this post"),
         "wait: another instance takes it over; if this stays, look at the log of each instance";
-    /// Of an instance that takes no slots: those of others it brings posts to.
-    ClockOff "clock_off" Request(503, "the clock of this instance is wrong"), "set it by NTP: it has no slots until it is right";
+    /// Of an instance that takes no shards: those of others it brings posts to.
+    ClockOff "clock_off" Request(503, "the clock of this instance is wrong"), "set it by NTP: it has no shards until it is right";
     /// Nothing of the post was taken.
-    OwnerChanges "owner_changes" Request(503, "the slot of this post is being moved"),
+    OwnerChanges "owner_changes" Request(503, "the shard of this post is being moved"),
         "this ends by itself once another instance has it";
     /// The post may have been taken.
-    OwnerSilent "owner_silent" Request(503, "the instance that has the slot of this post has given no answer"),
-        "wait: it answers again, or another takes its slots; if this stays, look at its log, and the network to its --peer";
+    OwnerSilent "owner_silent" Request(503, "the instance that has the shard of this post has given no answer"),
+        "wait: it answers again, or another takes its shards; if this stays, look at its log, and the network to its --peer";
     /// What is kept free of the disk is all that is left of it.
     NoRoom "no_room" Request(503, "no room for the journal"), "make room on the disk";
     DiskSilent "disk_silent" Request(503, "the disk does not answer"),
         "look at the disk, its controller or its network (dmesg)";
-    /// A store has the slot's files.
+    /// A store has the shard's files.
     StoreSilent "store_silent" Request(503, "the store does not answer"),
         "look at the store's server, its standby and the network";
     /// A write would be on fewer servers than `--store-copies` asks for.
     FewCopies "few_copies" Request(503, "the store has too few copies"),
         "name its standby in synchronous_standby_names; with --store-copies 1 one server is enough, and what it had is lost with it";
-    /// Another instance has the slot, or will have it in a moment.
-    SlotMoves "slot_moves" Request(503, "this slot is being moved"), "this ends by itself once another instance has it";
+    /// Another instance has the shard, or will have it in a moment.
+    ShardMoves "shard_moves" Request(503, "this shard is being moved"), "this ends by itself once another instance has it";
     TooManySeries "too_many_series" Request(503, "too many series"),
         "shorten --series-ttl, drop an attribute, or raise --max-series";
     TooLarge "too_large" Request(503, "too large"), "this ends by itself once what is pending is written";
     NoMemory "no_memory" Request(503, "no memory"), "raise --max-memory";
-    OverShare "over_quota" Request(429, "over its quota"),
+    OverQuota "over_quota" Request(429, "over its quota"),
         "raise its series= or points= in the file of --tokens, --sender-series or --sender-points; or have it send less";
-    PostOverShare "post_over_quota" Request(413, "over its quota"),
+    PostOverQuota "post_over_quota" Request(413, "over its quota"),
         "raise its series= in the file of --tokens, or --sender-series; or have it post fewer series at a time";
     Full "full" Request(503, "full"), "this ends by itself once what is being flushed is written";
     /// Of an order.

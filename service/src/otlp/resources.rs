@@ -1,7 +1,7 @@
-//! The slot of each resource of a request, and a request in parts: for each slot one, with its resources as they came.
+//! The shard of each resource of a request, and a request in parts: for each shard one, with its resources as they came.
 //!
-//! A resource's slot is a hash of it as the identity of its series has it. So all points of a series have one slot, however
-//! their resource was written, and whoever sends them. What can't be read as a resource is slot 0's, which refuses it; so is
+//! A resource's shard is a hash of it as the identity of its series has it. So all points of a series have one shard, however
+//! their resource was written, and whoever sends them. What can't be read as a resource is shard 0's, which refuses it; so is
 //! a request that can't be taken apart.
 
 use super::json::Document;
@@ -17,77 +17,77 @@ use std::sync::{Arc, PoisonError, RwLock};
 
 /// Whose is what can't be read.
 const UNREAD: u16 = 0;
-/// How many bytes of resources are known by their slots, about. Where there are more they begin anew.
+/// How many bytes of resources are known by their shards, about. Where there are more they begin anew.
 const MOST_KNOWN: usize = 16 << 20;
 /// A longer one is not kept.
 const LONGEST_KNOWN: usize = 16 << 10;
 /// What one takes beside its bytes.
 const ENTRY: usize = 96;
 
-/// The slot that a text has, of so many.
-pub fn slot_of(text: &str, slots: u16) -> u16 {
+/// The shard that a text has, of so many.
+pub fn shard_of(text: &str, shards: u16) -> u16 {
     let digest: [u8; 32] = Sha256::digest(text.as_bytes()).into();
     let [a, b, c, d, e, f, g, h, ..] = digest;
     let number = u64::from_be_bytes([a, b, c, d, e, f, g, h]);
-    u16::try_from(number % u64::from(slots.max(1))).unwrap_or(UNREAD)
+    u16::try_from(number % u64::from(shards.max(1))).unwrap_or(UNREAD)
 }
 
-/// The slot of a series, which is that of its resource; none of what is no key.
-pub fn slot_of_series(key: &SeriesKey, slots: u16) -> Option<u16> {
+/// The shard of a series, which is that of its resource; none of what is no key.
+pub fn shard_of_series(key: &SeriesKey, shards: u16) -> Option<u16> {
     let document = Document::parse(key.0.as_bytes()).ok()?;
     let resource = document.root().elements()?.next()?;
-    Some(slot_of(resource.raw(), slots))
+    Some(shard_of(resource.raw(), shards))
 }
 
 /// Where a request goes.
 #[derive(Debug, PartialEq, Eq)]
 pub enum Split {
-    /// As it came, to one slot.
+    /// As it came, to one shard.
     Whole(u16),
-    /// To several slots, each once, in the order of their first resources.
+    /// To several shards, each once, in the order of their first resources.
     Parts(Vec<Part>),
 }
 
-/// Of a request the resources of one slot.
+/// Of a request the resources of one shard.
 #[derive(Clone, Debug, PartialEq, Eq)]
 pub struct Part {
-    pub slot: u16,
+    pub shard: u16,
     /// In the encoding of the request.
     pub body: Bytes,
     /// Their places in the request, ascending.
     pub resources: Vec<u32>,
 }
 
-/// What says the slots of resources.
+/// What says the shards of resources.
 pub struct Resources {
-    slots: u16,
+    shards: u16,
     reading: Arc<Reading>,
     /// Of each encoding.
-    known: [SlotCache; 2],
+    known: [ShardCache; 2],
 }
 
-/// Slots of resources by their bytes as they came.
+/// Shards of resources by their bytes as they came.
 #[derive(Default)]
-struct SlotCache(RwLock<Slots>);
+struct ShardCache(RwLock<Shards>);
 
 #[derive(Default)]
-struct Slots {
+struct Shards {
     /// Nobody who posts can make two of them meet: the hash has a key of its own.
     of: HashMap<Box<[u8]>, u16, RandomState>,
     bytes: usize,
 }
 
-/// A resource of a request, with its metrics, and its slot.
+/// A resource of a request, with its metrics, and its shard.
 type PlacedResource<'b> = (u16, Node<'b>);
 
 impl Resources {
-    pub fn new(slots: u16, reading: Arc<Reading>) -> Resources {
-        Resources { slots, reading, known: Default::default() }
+    pub fn new(shards: u16, reading: Arc<Reading>) -> Resources {
+        Resources { shards, reading, known: Default::default() }
     }
 
     /// How many there are.
-    pub fn slots(&self) -> u16 {
-        self.slots
+    pub fn shards(&self) -> u16 {
+        self.shards
     }
 
     /// Takes a request apart.
@@ -96,8 +96,8 @@ impl Resources {
         let Some(found) = request.as_ref().and_then(|request| self.found(encoding, request.root())) else {
             return Split::Whole(UNREAD);
         };
-        let first = found.first().map_or(UNREAD, |(slot, _)| *slot);
-        match found.iter().all(|(slot, _)| *slot == first) {
+        let first = found.first().map_or(UNREAD, |(shard, _)| *shard);
+        match found.iter().all(|(shard, _)| *shard == first) {
             true => Split::Whole(first),
             false => Split::Parts(parts(encoding, &found)),
         }
@@ -109,7 +109,7 @@ impl Resources {
         elements.map(|element| Some((self.of_element(encoding, element)?, element))).collect()
     }
 
-    /// The slot of a resource with its metrics; none if that can be no message.
+    /// The shard of a resource with its metrics; none if that can be no message.
     fn of_element(&self, encoding: Encoding, element: Node<'_>) -> Option<u16> {
         let Some(mut parts) = element.all(RESOURCE_OF) else {
             return element.may_be_message().then_some(UNREAD);
@@ -126,55 +126,55 @@ impl Resources {
         })
     }
 
-    /// The slot of the one resource of a request.
+    /// The shard of the one resource of a request.
     fn hashed(&self, encoding: Encoding, request: Vec<u8>) -> u16 {
         let identity = || {
             let prepared = prepare(encoding, request.into(), &self.reading).ok()?;
             series::first_resource(&Document::parse(&prepared.body).ok()?)
         };
-        identity().map_or(UNREAD, |resource| slot_of(&resource, self.slots))
+        identity().map_or(UNREAD, |resource| shard_of(&resource, self.shards))
     }
 }
 
 fn parts(encoding: Encoding, found: &[PlacedResource<'_>]) -> Vec<Part> {
     let mut parts: Vec<(u16, Vec<u32>)> = Vec::new();
-    for (place, (slot, _)) in (0..).zip(found) {
-        match parts.iter_mut().find(|(of, _)| of == slot) {
+    for (place, (shard, _)) in (0..).zip(found) {
+        match parts.iter_mut().find(|(of, _)| of == shard) {
             Some((_, resources)) => resources.push(place),
-            None => parts.push((*slot, vec![place])),
+            None => parts.push((*shard, vec![place])),
         }
     }
-    let made = parts.into_iter().map(|(slot, resources)| {
+    let made = parts.into_iter().map(|(shard, resources)| {
         let own = resources.iter().map(|place| found[*place as usize].1.raw());
-        Part { slot, body: request_of(encoding, RESOURCES, own).into(), resources }
+        Part { shard, body: request_of(encoding, RESOURCES, own).into(), resources }
     });
     made.collect()
 }
 
-impl SlotCache {
-    /// The slot of what has these bytes.
-    fn of(&self, resource: &[u8], slot: impl FnOnce() -> u16) -> u16 {
+impl ShardCache {
+    /// The shard of what has these bytes.
+    fn of(&self, resource: &[u8], shard: impl FnOnce() -> u16) -> u16 {
         let known = self.0.read().unwrap_or_else(PoisonError::into_inner); // each change of it is whole
-        if let Some(slot) = known.of.get(resource) {
-            return *slot;
+        if let Some(shard) = known.of.get(resource) {
+            return *shard;
         }
         drop(known);
-        let slot = slot();
+        let shard = shard();
         if resource.len() <= LONGEST_KNOWN {
             let mut known = self.0.write().unwrap_or_else(PoisonError::into_inner);
-            known.put(resource, slot);
+            known.put(resource, shard);
         }
-        slot
+        shard
     }
 }
 
-impl Slots {
-    fn put(&mut self, resource: &[u8], slot: u16) {
+impl Shards {
+    fn put(&mut self, resource: &[u8], shard: u16) {
         let takes = ENTRY + resource.len();
         if self.bytes + takes > MOST_KNOWN {
-            *self = Slots::default();
+            *self = Shards::default();
         }
-        if self.of.insert(resource.into(), slot).is_none() {
+        if self.of.insert(resource.into(), shard).is_none() {
             self.bytes += takes;
         }
     }

@@ -3,7 +3,7 @@
 use super::request::{Node, Request};
 use super::schema::{ANY_VALUE, ATTRIBUTES, KEY, RESOURCES, RESOURCE_OF, STRING_VALUE, VALUE};
 use super::{refusal, Encoding, Reading, Refused};
-use crate::slot::is_sender;
+use crate::shard::is_sender;
 use sha2::{Digest, Sha256};
 use std::borrow::Cow;
 

@@ -1,4 +1,4 @@
-//! Resource attributes that are of the sender, put into a request before anything else is read of it: so slots, numbers of series,
+//! Resource attributes that are of the sender, put into a request before anything else is read of it: so shards, numbers of series,
 //! other instances and what `--forward-unsupported` hands on all have them.
 //!
 //! - `--sender-attribute NAME`: the name that the sender's certificate or token proves, in each resource, in place of what the body

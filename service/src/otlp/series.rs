@@ -6,8 +6,8 @@ mod forwarded;
 mod identity;
 mod point;
 mod posted;
+mod seed_points;
 mod why;
-mod zeros;
 
 pub use around::Around;
 pub use digest::{Digest, Digests};
@@ -16,10 +16,10 @@ pub(super) use point::Temporality;
 pub use posted::Profile;
 pub(super) use posted::{first_resource, is_monotonic, points_by_resource, visit, visit_body, Seen};
 pub use posted::{only, others, posted, words_of};
+pub use seed_points::{request_of, zeros};
 #[cfg(test)]
 pub(crate) use tests::{KINDS, VALUES};
 pub(super) use why::{name_shown, said, short, What, LOOKED_AT};
-pub use zeros::{request_of, zeros};
 
 use super::json::{Document, NotJson, Value as Json};
 use super::number::book_whole;

@@ -5,7 +5,7 @@ use super::{Owner, Reporter};
 use crate::log::{shown, OnceAnHour};
 use crate::otlp::series::SeriesKey;
 use crate::otlp::{foreign_points, Causes, OffClock, Outcome, Reason};
-use crate::slot::Source;
+use crate::shard::Source;
 use crate::work::locked;
 use bytes::Bytes;
 use std::collections::{BTreeMap, HashSet};
@@ -161,7 +161,13 @@ impl Reporter {
         if locked(&self.logged).series.is_due(&series) {
             let advice = of_owner(sender, &owner);
             let series = shown(&series.0, SERIES_SHOWN);
-            tracing::warn!(sender, owner, series, advice, "posts are refused because the series is another sender's");
+            tracing::warn!(
+                sender,
+                owner,
+                series,
+                advice,
+                "posts are refused because the series is another sender's"
+            );
         }
     }
 }

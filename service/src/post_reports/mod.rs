@@ -1,6 +1,6 @@
 //! Reports posts that were not taken, or not completely: in their answers, in the log, and to operators.
 //!
-//! `Reported` wraps what takes the posts of a shard (`Taker`) and changes nothing but the text of the answers. Only a
+//! `Reported` wraps what takes the posts of a shard (`PostHandler`) and changes nothing but the text of the answers. Only a
 //! post with points that were not taken has its body read once more, for the answer (`texts`). The reports of all
 //! shards share `activity`, the senders that posted, and `logged`, what the log has. For the log one body at a time is
 //! read on a blocking thread; bodies that come meanwhile are skipped, since their senders post again.
@@ -14,12 +14,12 @@ pub use activity::{OfReason, OfSender, SenderActivity};
 pub use options::ReportOptions;
 pub(crate) use texts::{late, named, of_another, of_owner, of_twice, twice, whose, Interval, SERIES_SHOWN};
 
-use crate::intake::{Hears, Taker};
+use crate::ingest::{PostHandler, ResponseObserver};
 use crate::metrics::Metrics;
 use crate::otlp::series::SeriesKey;
 use crate::otlp::{point_at, Causes, Original, Outcome, Reason, RejectedPoint, Rejection, NO_NAME};
-use crate::pass::Pass;
-use crate::slot::{is_sender, Request, Slot, Source};
+use crate::passthrough::Passthrough;
+use crate::shard::{is_sender, Request, Shard, Source};
 use crate::work::Readers;
 use logged::Logged;
 use options::Changing;
@@ -42,7 +42,7 @@ pub struct Reporter {
     options: Changing,
     metrics: Arc<Metrics>,
     activity: Arc<SenderActivity>,
-    pass: Option<Arc<Pass>>,
+    pass: Option<Arc<Passthrough>>,
     readers: Readers,
     is_reading: AtomicBool,
     logged: Mutex<Logged>,
@@ -58,7 +58,7 @@ enum Report {
     OtherWriter(u64),
 }
 
-impl<T: Taker> Reported<T> {
+impl<T: PostHandler> Reported<T> {
     pub fn new(
         taker: Arc<T>,
         owner: impl Fn(&SeriesKey) -> Option<String> + Send + Sync + 'static,
@@ -81,12 +81,12 @@ impl<T: Taker> Reported<T> {
 }
 
 impl Reporter {
-    /// `activity` is updated for each post. `pass` gets the points that are outside the profile.
+    /// `activity` is updated for each post. `passthrough` gets the points that are outside the profile.
     pub fn new(
         options: ReportOptions,
         metrics: Arc<Metrics>,
         activity: Arc<SenderActivity>,
-        pass: Option<Arc<Pass>>,
+        pass: Option<Arc<Passthrough>>,
     ) -> Arc<Reporter> {
         Arc::new(Reporter {
             options: Changing::new(options),
@@ -199,9 +199,9 @@ impl Reporter {
     }
 }
 
-impl<T: Taker> Taker for Reported<T> {
-    fn slot(&self) -> Option<&Slot> {
-        self.taker.slot()
+impl<T: PostHandler> PostHandler for Reported<T> {
+    fn shard(&self) -> Option<&Shard> {
+        self.taker.shard()
     }
 
     fn wants_originals(&self) -> bool {
@@ -232,7 +232,7 @@ impl<T: Taker> Taker for Reported<T> {
     }
 }
 
-impl Hears for Reporter {
+impl ResponseObserver for Reporter {
     fn answered(&self, sender: &str, outcome: &Outcome) {
         match is_sender(sender) || self.is_known_stranger(sender) {
             true => self.note(sender, outcome),

@@ -3,7 +3,7 @@
 use super::logged::*;
 use super::texts::*;
 use super::*;
-use crate::core::Refused;
+use crate::book::Refused;
 use crate::log::shown;
 use crate::otlp::{Clock, OffClock};
 use crate::work::locked;
@@ -14,7 +14,7 @@ use std::time::Duration;
 /// Answers what it was given.
 struct Answering(Outcome);
 
-impl Taker for Answering {
+impl PostHandler for Answering {
     async fn post(self: &Arc<Self>, _: &str, _: Request, _: Option<Original>) -> Outcome {
         self.0.clone()
     }

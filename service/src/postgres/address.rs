@@ -1,7 +1,7 @@
 //! The address of a PostgreSQL server: its hosts, the user, and the options that libpq has in a URL.
 
 use super::passfile;
-use crate::sinks::roots::{self, ClientFiles, NoRoots};
+use crate::sink::roots::{self, ClientFiles, NoRoots};
 use rustls::ClientConfig;
 use std::path::PathBuf;
 use std::str::FromStr;

@@ -2,7 +2,7 @@
 
 use super::tls::Tls;
 use super::Server;
-use crate::sinks::roots::NoRoots;
+use crate::sink::roots::NoRoots;
 use crate::work::locked;
 use std::future::poll_fn;
 use std::sync::{Arc, Mutex};

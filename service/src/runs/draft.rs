@@ -1,9 +1,9 @@
-//! Converts a post's cumulative points to the deltas that the book is asked to take. `slot/cumulative` makes a draft
+//! Converts a post's cumulative points to the deltas that the book is asked to take. `shard/cumulative` makes a draft
 //! for each try.
 
 use super::{added_by, Kind, Locked, Names, Point, Points, Run, Runs};
-use crate::core;
-use crate::files::OfRun;
+use crate::book;
+use crate::journal::OfRun;
 use crate::otlp::series::Digest;
 use crate::otlp::Causes;
 use ahash::AHashMap;
@@ -143,7 +143,7 @@ impl Draft<'_> {
     }
 
     /// A refusal that names a point, with the point's index among those of the profile.
-    pub fn refused(&self, refused: core::Refused, among_all: impl Fn(u64) -> u64) -> core::Refused {
+    pub fn refused(&self, refused: book::Refused, among_all: impl Fn(u64) -> u64) -> book::Refused {
         refused.placed(|point| match self.places.get(point as usize) {
             Some(place) => self.placed(*place, &among_all),
             None => point,

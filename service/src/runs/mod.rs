@@ -1,4 +1,4 @@
-//! Runs of cumulative series: converts cumulative points to deltas before they reach the book. `slot` owns a `Runs` for
+//! Runs of cumulative series: converts cumulative points to deltas before they reach the book. `shard` owns a `Runs` for
 //! each shard.
 //!
 //! For each series the last point that was taken is kept, under a lock of its own. That lock is taken before the book's
@@ -15,18 +15,21 @@
 
 mod draft;
 mod forgotten;
-mod law;
+mod rules;
 
 pub use draft::{Draft, Posted};
 pub use forgotten::Forgotten;
-pub use law::{EndedRun, Entry, InitialValue, Kind, Options, Point, Reset, Run, Since};
+pub use rules::{EndedRun, Entry, InitialValue, Kind, Options, Point, Reset, Run, Since};
 
-use crate::core::Names;
-use crate::files::{self, OfRun, Outbox, Points};
+use crate::book::Names;
+use crate::journal;
+use crate::journal::{OfRun, Points};
 use crate::otlp::series::{self, Digest, SeriesKey};
 use crate::otlp::Reason;
+use crate::outbox;
+use crate::outbox::Outbox;
 use crate::work::locked;
-use law::entry;
+use rules::entry;
 use std::collections::HashMap;
 use std::sync::atomic::{AtomicUsize, Ordering::Relaxed};
 use std::sync::{Arc, Mutex, MutexGuard, OnceLock};
@@ -116,7 +119,7 @@ impl State {
     /// The state that an outbox has.
     pub fn of(outbox: &Outbox) -> State {
         let mut state = State { since: outbox.since(), forgotten: outbox.forgotten(), ..State::default() };
-        let series = |key: SeriesKey, known: files::Series| {
+        let series = |key: SeriesKey, known: outbox::Series| {
             let series = state.series_of(&key, key.digest(), |_| known.frontier)?;
             Some(Series { run: known.run, ..series })
         };
@@ -169,14 +172,14 @@ impl State {
     }
 
     /// The current runs that are in no commit.
-    pub fn changed(&self) -> files::Runs {
+    pub fn changed(&self) -> outbox::Runs {
         let changed = self.changed.iter().map(|place| &self.series[*place as usize]);
         let runs = changed.filter_map(|series| Some((series.digest, series.run.clone()?)));
         runs.collect()
     }
 
     /// Records that these runs are in a commit.
-    pub fn saved(&mut self, runs: &files::Runs) {
+    pub fn saved(&mut self, runs: &outbox::Runs) {
         for (digest, saved) in runs {
             let Some(place) = self.places.get(digest) else {
                 continue;
@@ -190,7 +193,7 @@ impl State {
 
     /// Switches to the numbers of these names.
     fn go_by(&mut self, names: &Names) {
-        let generation = files::Names::generation(names);
+        let generation = journal::Names::generation(names);
         if self.generation != generation {
             self.generation = generation;
             self.by_number.clear();
@@ -201,7 +204,7 @@ impl State {
     /// The series of a number; none if its name does not name one. `frontier` is asked for a series that is new here.
     fn find(&mut self, names: &Names, number: u64, frontier: impl Fn(&Digest) -> u64) -> Option<&Series> {
         if self.place(number).is_none() && !self.untaken.contains_key(&number) {
-            let key = series::only(&files::Names::text(names, number))?;
+            let key = series::only(&journal::Names::text(names, number))?;
             let digest = key.digest();
             match self.places.get(&digest).copied() {
                 Some(place) => self.number(number, place),

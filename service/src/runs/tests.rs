@@ -2,9 +2,9 @@
 
 mod draft;
 
-use super::law::entry;
+use super::rules::entry;
 use super::*;
-use crate::files::test_random::TestRandom;
+use crate::storage::test_random::TestRandom;
 
 fn point(start: u64, time: u64, words: &[u64]) -> Point {
     let words = words.to_vec();

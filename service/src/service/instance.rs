@@ -1,21 +1,21 @@
-//! One of several instances that share a store. `cluster/beats` has it open and close shards (`terms::Units`).
+//! One of several instances that share a store. `cluster/heartbeats` has it open and close shards (`terms::ShardHost`).
 
+use super::open_shard::{End, Files};
+use super::open_shards::OpenShards;
 use super::parts::limits;
 use super::peers::Peers;
-use super::unit::{End, Files};
-use super::units::Units;
 use super::{Ended, Settings};
-use crate::cluster::beats::CameLater;
-use crate::cluster::terms::{self, Doing, Unopened};
-use crate::cluster::{forward, Beats, Cluster, Forward, Internal, Secret};
-use crate::files::Fault;
-use crate::intake::connections::{serve_over, Limits};
-use crate::intake::Intake;
-use crate::metrics::OfCluster;
-use crate::operate::{Desk, Others, StoreHealth};
+use crate::admin::{AdminApi, Others, StoreHealth};
+use crate::cluster::heartbeats::NameTaken;
+use crate::cluster::terms::{self, Doing, OpenFailure};
+use crate::cluster::{forward, Cluster, Forward, Heartbeats, Internal, Secret};
+use crate::ingest::connections::{serve_over, Limits};
+use crate::ingest::Ingest;
+use crate::metrics::ClusterMetrics;
 use crate::post_reports::Reported;
-use crate::slot::{Phase, Slot, Slots};
-use crate::store::postgres::{Copies, Member, PostgresDrive, PostgresStore, Server};
+use crate::shard::{Phase, Shard, Shards};
+use crate::storage::Fault;
+use crate::store::postgres::{Copies, Member, PostgresShardStore, PostgresStore, Server};
 use crate::tls;
 use crate::work::{blocking, locked};
 use anyhow::{anyhow, Context};
@@ -29,7 +29,7 @@ use tokio::task::JoinHandle;
 const PEERS: usize = forward::CONNECTIONS + 32;
 
 /// The settings for a shared store.
-pub struct OfStore {
+pub struct StoreSettings {
     pub database: Server,
     pub copies: Copies,
     /// This instance's name, which no other one may use.
@@ -45,22 +45,22 @@ pub struct OfStore {
 }
 
 /// Takes the posts for shards that are open here.
-type Here = Intake<Reported<Slot>>;
+type LocalIngest = Ingest<Reported<Shard>>;
 
 /// The store, and what is known of the other instances.
 pub(super) struct Joining {
     pub store: Arc<PostgresStore>,
     pub cluster: Arc<Cluster>,
-    pub forward: Arc<Forward<Here>>,
+    pub forward: Arc<Forward<LocalIngest>>,
     secret: Secret,
     peers: Peers,
     /// None after `others` was called.
-    metrics: Option<Box<OfCluster>>,
+    metrics: Option<Box<ClusterMetrics>>,
 }
 
 impl Joining {
     pub fn new(
-        of: &OfStore,
+        of: &StoreSettings,
         peers: Peers,
         store: PostgresStore,
         settings: &Settings,
@@ -80,13 +80,13 @@ impl Joining {
             secret,
             peers,
             metrics: Some(Box::new(
-                OfCluster::of(&settings.metrics.registry).context("the metrics can't be registered")?,
+                ClusterMetrics::of(&settings.metrics.registry).context("the metrics can't be registered")?,
             )),
         })
     }
 
     /// How operators reach the other instances. Returns it only once.
-    pub fn others(&mut self, of: &OfStore) -> Option<Others> {
+    pub fn others(&mut self, of: &StoreSettings) -> Option<Others> {
         Some(Others {
             metrics: *self.metrics.take()?,
             cluster: self.cluster.clone(),
@@ -101,22 +101,22 @@ impl Joining {
     pub fn join(
         self,
         settings: &Settings,
-        of: &OfStore,
-        units: Units,
-        intake: &Arc<Here>,
-        desk: Arc<Desk>,
+        of: &StoreSettings,
+        open_shards: OpenShards,
+        ingest: &Arc<LocalIngest>,
+        admin: Arc<AdminApi>,
     ) -> Joined {
-        self.forward.serve(intake.clone());
+        self.forward.serve(ingest.clone());
         let (stop_peer, peer_stopped) = watch::channel(false);
         let (stop_beats, beats_stopped) = watch::channel(false);
-        let internal = Internal::new(self.cluster.clone(), intake.clone(), self.secret, desk.clone());
+        let internal = Internal::new(self.cluster.clone(), ingest.clone(), self.secret, admin.clone());
         let of_peers = Limits { connections: PEERS, ..limits(settings) };
         let Peers { listener, tls } = self.peers;
         let peer = tokio::spawn(serve_over(Arc::new(listener), tls, of_peers, internal, peer_stopped));
-        let instance = Arc::new(Instance { units, store: self.store.clone(), open: Mutex::default() });
-        let operate = operate_for_others(&desk.operate, desk.is_local, &of.peer);
+        let instance = Arc::new(Instance { open_shards, store: self.store.clone(), open: Mutex::default() });
+        let operate = operate_for_others(&admin.operate, admin.is_local, &of.peer);
         let member = Member::new(&self.store, &of.instance, &of.peer, &operate);
-        let beats = Beats::new(self.cluster.clone(), Arc::new(member), instance.clone());
+        let beats = Heartbeats::new(self.cluster.clone(), Arc::new(member), instance.clone());
         Joined {
             cluster: self.cluster,
             instance,
@@ -148,7 +148,7 @@ fn operate_for_others(operate: &str, is_local: bool, peer: &str) -> String {
 pub(super) struct Joined {
     cluster: Arc<Cluster>,
     instance: Arc<Instance>,
-    pub beats: JoinHandle<Result<(), CameLater>>,
+    pub beats: JoinHandle<Result<(), NameTaken>>,
     pub peer: JoinHandle<()>,
     looks: JoinHandle<()>,
     stop_beats: watch::Sender<bool>,
@@ -158,12 +158,12 @@ pub(super) struct Joined {
 impl Joined {
     /// A shard has ended alone: its writes found another owner, or it failed, and another instance may be able to open
     /// it. If we have taken it again in the meantime, it goes on.
-    pub fn ended(&self, slot: u16, term: Option<u64>, end: &End) {
-        let Some(drive) = self.instance.forget(slot, term) else { return };
-        self.instance.units.lose(slot);
+    pub fn ended(&self, shard: u16, term: Option<u64>, end: &End) {
+        let Some(shard_store) = self.instance.close_shard(shard, term) else { return };
+        self.instance.open_shards.fence_off(shard);
         match end {
-            End::Lost => self.cluster.lost(slot, drive.term()),
-            End::Failed(why) => self.cluster.failed(slot, drive.term(), &why.to_string()),
+            End::Fenced => self.cluster.lost(shard, shard_store.term()),
+            End::Failed(why) => self.cluster.failed(shard, shard_store.term(), &why.to_string()),
         }
     }
 
@@ -185,88 +185,88 @@ impl Drop for Joined {
 
 /// The shards of this process, which the cluster opens and closes.
 struct Instance {
-    units: Units,
+    open_shards: OpenShards,
     store: Arc<PostgresStore>,
-    open: Mutex<BTreeMap<u16, Arc<PostgresDrive>>>,
+    open: Mutex<BTreeMap<u16, Arc<PostgresShardStore>>>,
 }
 
 impl Instance {
     /// Stops all writes to a shard that is open under this term.
-    fn forget(&self, slot: u16, term: Option<u64>) -> Option<Arc<PostgresDrive>> {
+    fn close_shard(&self, shard: u16, term: Option<u64>) -> Option<Arc<PostgresShardStore>> {
         let mut open = locked(&self.open);
-        open.get(&slot).filter(|drive| Some(drive.term()) == term)?;
-        let drive = open.remove(&slot)?;
-        drive.lose();
-        Some(drive)
+        open.get(&shard).filter(|shard_store| Some(shard_store.term()) == term)?;
+        let shard_store = open.remove(&shard)?;
+        shard_store.fence_off();
+        Some(shard_store)
     }
 
-    async fn begin(&self, slot: u16, term: u64) -> Result<(), Unopened> {
+    async fn begin(&self, shard: u16, term: u64) -> Result<(), OpenFailure> {
         let store = self.store.clone();
         let epoch = store.cluster.epoch.clone();
         let read = blocking(move || {
-            let drive = store.drive(slot, term).map_err(Fault::Lost)?;
-            let files = drive.open_files(&epoch)?;
-            Ok::<_, Fault>((drive, files))
+            let shard_store = store.shard_store(shard, term).map_err(Fault::Fenced)?;
+            let files = shard_store.open_files(&epoch)?;
+            Ok::<_, Fault>((shard_store, files))
         });
-        let (drive, files) = read.await.map_err(|fault| match fault {
-            Fault::Lost(_) => Unopened::Lost,
-            fault => Unopened::Fault(format!("{fault}. {}", to_do(slot))),
+        let (shard_store, files) = read.await.map_err(|fault| match fault {
+            Fault::Fenced(_) => OpenFailure::Fenced,
+            fault => OpenFailure::Fault(format!("{fault}. {}", to_do(shard))),
         })?;
-        locked(&self.open).insert(slot, drive);
-        let opened = self.units.open(Files::of_drive(slot, files)).await;
+        locked(&self.open).insert(shard, shard_store);
+        let opened = self.open_shards.open(Files::of_shard_store(shard, files)).await;
         opened.map_err(|ended| {
-            self.forget(slot, Some(term));
-            Unopened::Fault(ended.to_string())
+            self.close_shard(shard, Some(term));
+            OpenFailure::Fault(ended.to_string())
         })
     }
 }
 
-impl terms::Units for Instance {
-    fn open(&self, slot: u16, term: u64) -> Doing<'_, Result<(), Unopened>> {
-        Box::pin(self.begin(slot, term))
+impl terms::ShardHost for Instance {
+    fn open(&self, shard: u16, term: u64) -> Doing<'_, Result<(), OpenFailure>> {
+        Box::pin(self.begin(shard, term))
     }
 
-    fn hand_over(&self, slot: u16, term: u64) -> Doing<'_, ()> {
+    fn hand_over(&self, shard: u16, term: u64) -> Doing<'_, ()> {
         Box::pin(async move {
-            if let Err(ended) = self.units.hand_over(slot).await {
+            if let Err(ended) = self.open_shards.hand_over(shard).await {
                 let reason = ended.to_string();
                 tracing::warn!(
-                    slot,
+                    shard,
                     reason,
-                    "the slot's last checkpoint failed: its next owner replays the journal"
+                    "the shard's last checkpoint failed: its next owner replays the journal"
                 );
             }
-            self.forget(slot, Some(term));
+            self.close_shard(shard, Some(term));
         })
     }
 
-    fn drop_lost(&self, slot: u16, term: u64) -> Doing<'_, ()> {
+    fn drop_lost(&self, shard: u16, term: u64) -> Doing<'_, ()> {
         Box::pin(async move {
-            self.forget(slot, Some(term));
-            self.units.lose(slot);
+            self.close_shard(shard, Some(term));
+            self.open_shards.fence_off(shard);
         })
     }
 
     fn filling(&self) -> BTreeSet<u16> {
-        let units = self.units.at_work.units().all();
-        let filling = units.iter().filter(|unit| unit.slot.phase() == Phase::Recovering);
-        filling.map(|unit| unit.slot.number()).collect()
+        let open_shards = self.open_shards.shard_tasks.open_shards().all();
+        let filling = open_shards.iter().filter(|open_shard| open_shard.shard.phase() == Phase::Recovering);
+        filling.map(|open_shard| open_shard.shard.number()).collect()
     }
 }
 
 /// What an operator can do if the files of a shard can't be read.
-fn to_do(slot: u16) -> String {
+fn to_do(shard: u16) -> String {
     format!(
-        "If the store has lost rows of slot {slot}, restore them; or stop all instances and let the slot begin with \
-         nothing: `totxegun store restored --anew {slot} ADDRESS`"
+        "If the store has lost rows of shard {shard}, restore them; or stop all instances and let the shard begin with \
+         nothing: `totxegun store restored --anew {shard} ADDRESS`"
     )
 }
 
 /// Routes posts to the store's shards.
-pub(super) fn slots(joining: &Joining, settings: &Settings) -> Arc<Slots<Reported<Slot>>> {
+pub(super) fn shards(joining: &Joining, settings: &Settings) -> Arc<Shards<Reported<Shard>>> {
     let reading = Arc::new(settings.reading.clone());
-    let resources = crate::otlp::Resources::new(joining.store.cluster.slots, reading);
-    Slots::several(resources, Some(joining.forward.clone()))
+    let resources = crate::otlp::Resources::new(joining.store.cluster.shards, reading);
+    Shards::several(resources, Some(joining.forward.clone()))
 }
 
 #[cfg(test)]

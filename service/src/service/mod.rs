@@ -4,42 +4,42 @@
 //! time, and the next start reads them.
 
 mod instance;
-mod left;
+mod leftovers;
+mod open_shard;
+mod open_shards;
 mod operators;
 mod parts;
 mod peers;
+mod remembered_sink;
 mod running;
 mod senders;
-mod sink;
 mod supervisor;
-mod unit;
-mod units;
 mod waiting;
 
-pub use instance::OfStore;
-pub(crate) use left::{is_kept, is_made};
-pub use operators::Operate;
+pub use instance::StoreSettings;
+pub(crate) use leftovers::{is_kept, is_made};
+pub use operators::AdminAddresses;
 
-use crate::core::Across;
-use crate::files::{Durability, Fault, Folder, FolderFault};
+use crate::admin::{LocalShards, Times};
+use crate::book::FlushWindow;
 use crate::identity::Door;
-use crate::keeper::{Settings as Keeping, Trouble};
 use crate::metrics::Metrics;
-use crate::operate::{Times, Units};
 use crate::otlp::{Clock, Reading};
-use crate::pass::Pass;
+use crate::passthrough::Passthrough;
 use crate::post_reports::ReportOptions;
+use crate::quota::Quota;
 use crate::runs;
-use crate::shares::Share;
-use crate::sinks::{Address, Retention};
+use crate::sink::{Address, Retention};
+use crate::storage::{Durability, Fault, Folder, FolderFault};
 use crate::store::moving::address_of;
 use crate::work::blocking;
+use crate::worker::{Settings as Keeping, WorkerError};
 use anyhow::{anyhow, Context};
 use instance::Joining;
 use operators::{Operators, Readers};
 use parts::Parts;
 use peers::Peers;
-use running::Lively;
+use running::LiveSettings;
 use senders::Senders;
 use std::path::PathBuf;
 use std::sync::{Arc, OnceLock};
@@ -51,11 +51,11 @@ use tokio::signal::unix::{signal, Signal, SignalKind};
 pub struct Settings {
     pub data: PathBuf,
     /// None if a folder keeps everything.
-    pub store: Option<OfStore>,
+    pub store: Option<StoreSettings>,
     pub listen: String,
     /// Where senders call gRPC, if they may.
     pub listen_grpc: Option<String>,
-    pub operate: Operate,
+    pub operate: AdminAddresses,
     /// TLS and host names at the senders' addresses.
     pub door: Door,
     /// Other machines may reach these addresses although strangers could post there: a proxy is in front.
@@ -72,13 +72,13 @@ pub struct Settings {
     /// How far from the service's clock points may end.
     pub clock: Clock,
     /// The window (hour or day) that a forwarded point never leaves.
-    pub across: Across,
+    pub across: FlushWindow,
     pub runs: runs::Options,
     pub live: Live,
     /// Reads the live settings again and logs which changes need a restart. None if the new ones can't be used.
     pub reload: Box<dyn Fn() -> Option<Live> + Send + Sync>,
     /// Where points outside the profile are forwarded.
-    pub pass: Option<Arc<Pass>>,
+    pub pass: Option<Arc<Passthrough>>,
     pub max_bytes: usize,
     /// The most bytes of all files of late data together.
     pub max_late: u64,
@@ -96,7 +96,7 @@ pub struct Settings {
 #[derive(Clone, Default)]
 pub struct Live {
     /// The quota of a sender without one of its own.
-    pub of_each: Share,
+    pub of_each: Quota,
     pub report_options: ReportOptions,
 }
 
@@ -133,14 +133,15 @@ pub enum Ended {
     Other(#[from] anyhow::Error),
 }
 
-impl From<Trouble> for Ended {
-    fn from(trouble: Trouble) -> Ended {
+impl From<WorkerError> for Ended {
+    fn from(trouble: WorkerError) -> Ended {
         match trouble {
-            Trouble::File(fault) => Ended::Disk(fault),
-            Trouble::NoMemory => Ended::NoMemory(trouble.to_string()),
-            Trouble::Broken(_) | Trouble::NotFilled(_) | Trouble::NoMemoryToFill(_) | Trouble::Lost(_) => {
-                Ended::Other(anyhow!("{trouble}"))
-            }
+            WorkerError::File(fault) => Ended::Disk(fault),
+            WorkerError::NoMemory => Ended::NoMemory(trouble.to_string()),
+            WorkerError::Broken(_)
+            | WorkerError::NotFilled(_)
+            | WorkerError::NoMemoryToFill(_)
+            | WorkerError::Fenced(_) => Ended::Other(anyhow!("{trouble}")),
         }
     }
 }
@@ -162,10 +163,10 @@ pub async fn run(settings: Settings) -> Result<(), Ended> {
     let supervisor = Supervisor::from_environment();
     let senders = Senders::bind(&settings).await?;
     let readers = Readers::bind(&settings).await?;
-    let units = Arc::new(OnceLock::<Arc<Units>>::new());
-    let begun = units.clone();
+    let open_shards = Arc::new(OnceLock::<Arc<LocalShards>>::new());
+    let begun = open_shards.clone();
     // Before the files are opened: that may take longer than a supervisor waits.
-    let is_ready = move || begun.get().is_some_and(|units| units.are_ready());
+    let is_ready = move || begun.get().is_some_and(|open_shards| open_shards.are_ready());
     let watched = tokio::spawn(supervisor.clone().watch(is_ready));
     let opened = match &settings.store {
         None => Some(of_folder(&settings, senders, readers).await?),
@@ -184,7 +185,7 @@ pub async fn run(settings: Settings) -> Result<(), Ended> {
         "the addresses for senders and operators"
     );
     let mut running = parts.start(&settings, senders, operators).await?;
-    units.get_or_init(|| running.at_work.units().clone());
+    open_shards.get_or_init(|| running.shard_tasks.open_shards().clone());
     let reloading = tokio::spawn(reload(hangup, settings, running.live.clone()));
     let ended = tokio::select! {
         cause = running.ended() => Err(cause),
@@ -198,7 +199,7 @@ pub async fn run(settings: Settings) -> Result<(), Ended> {
 }
 
 /// Reads the settings again at each SIGHUP, on another thread, because their file may be on a disk that stalls.
-async fn reload(mut hangup: Signal, settings: Arc<Settings>, running: Lively) {
+async fn reload(mut hangup: Signal, settings: Arc<Settings>, running: LiveSettings) {
     while hangup.recv().await.is_some() {
         let settings = settings.clone();
         if let Some(live) = blocking(move || (settings.reload)()).await {
@@ -219,14 +220,14 @@ async fn of_folder(settings: &Settings, senders: Senders, readers: Readers) -> R
 /// None if it was told to end in the meantime.
 async fn of_store(
     settings: &Settings,
-    of: &OfStore,
+    of: &StoreSettings,
     senders: Senders,
     readers: Readers,
     signals: &mut Signals,
 ) -> Result<Option<Opened>, Ended> {
     let peers = Peers::bind(of, &settings.metrics).await?;
     let folder = settings.data.display();
-    left::look_at(&settings.data, &address_of(&of.database))?;
+    leftovers::look_at(&settings.data, &address_of(&of.database))?;
     std::fs::create_dir_all(&settings.data).with_context(|| format!("the folder {folder} can't be made"))?;
     let operators = readers.and_socket(&settings.operate).await?;
     let before = (senders.clone(), operators.clone());

@@ -2,10 +2,10 @@
 
 use super::senders::{bind, is_local};
 use super::{Ended, Settings};
+use crate::admin::{AdminApi, TcpAdmin};
 use crate::identity::Tokens;
-use crate::intake::connections::{serve, Handler, Limits};
-use crate::intake::{listen_at_socket, Listener};
-use crate::operate::{AtTcp, Desk};
+use crate::ingest::connections::{serve, Handler, Limits};
+use crate::ingest::{listen_at_socket, Listener};
 use crate::reloaded::Reloaded;
 use anyhow::anyhow;
 use std::path::{Path, PathBuf};
@@ -18,7 +18,7 @@ const READERS: usize = 8;
 
 /// The admin addresses, as they are configured.
 #[derive(Clone)]
-pub struct Operate {
+pub struct AdminAddresses {
     /// Where everybody may read.
     pub tcp: Option<String>,
     /// Where commands are accepted.
@@ -54,7 +54,7 @@ impl Readers {
     }
 
     /// Adds the Unix socket. It may be in the folder, so the folder must be locked by now.
-    pub async fn and_socket(self, operate: &Operate) -> Result<Operators, Ended> {
+    pub async fn and_socket(self, operate: &AdminAddresses) -> Result<Operators, Ended> {
         Ok(Operators {
             tcp: self.0,
             socket: Arc::new(bind_socket(&operate.socket).await?),
@@ -86,10 +86,10 @@ impl Operators {
     }
 
     /// Runs until both listeners have ended.
-    pub async fn serve(self, limits: Limits, desk: Arc<Desk>, stop: watch::Receiver<bool>) {
+    pub async fn serve(self, limits: Limits, admin: Arc<AdminApi>, stop: watch::Receiver<bool>) {
         let at_tcp =
-            AtTcp { desk: desk.clone(), orders_at: self.socket.shown(), tokens: self.tokens.clone() };
-        self.serve_by(limits, Arc::new(at_tcp), desk, stop).await;
+            TcpAdmin { admin: admin.clone(), orders_at: self.socket.shown(), tokens: self.tokens.clone() };
+        self.serve_by(limits, Arc::new(at_tcp), admin, stop).await;
     }
 
     /// The same with other handlers.

@@ -1,22 +1,22 @@
 //! Opens all parts of the service and connects them.
 
 use super::instance::Joining;
+use super::open_shard::{Files, Opened};
+use super::open_shards::{OpenShards, ShardTasks};
 use super::operators::Operators;
-use super::running::{Lively, Running};
+use super::remembered_sink::{InFolder, InStore, Remembers, SinkChoice};
+use super::running::{LiveSettings, Running};
 use super::senders::Senders;
-use super::sink::{InFolder, InStore, Remembers, Told};
-use super::unit::{Files, Opened};
-use super::units::{AtWork, Units};
 use super::{Ended, Settings};
-use crate::files::Folder;
-use crate::intake::connections::Limits;
-use crate::intake::{Budget, Intake, Threads};
+use crate::admin::{self, AdminApi, AuditLog, Pulse, Totals};
+use crate::ingest::connections::Limits;
+use crate::ingest::{Budget, Ingest, Threads};
 use crate::late::{self, LateData};
-use crate::operate::{self, Acts, Desk, Pulse, Totals};
 use crate::post_reports::{Reporter, SenderActivity};
-use crate::shares::Rules;
-use crate::sinks::Sink;
-use crate::slot::{Shared, Slots};
+use crate::quota::Rules;
+use crate::shard::{Shards, Shared};
+use crate::sink::Sink;
+use crate::storage::Folder;
 use anyhow::Context;
 use std::sync::Arc;
 use std::time::{Duration, Instant};
@@ -33,7 +33,7 @@ const OPERATORS: usize = 64;
 pub(super) struct Parts {
     of: Of,
     shared: Arc<Shared>,
-    acts: Arc<Acts>,
+    acts: Arc<AuditLog>,
     pub sink: Arc<dyn Sink>,
     budget: Arc<Budget>,
     threads: Arc<Threads>,
@@ -52,7 +52,7 @@ impl Parts {
     pub fn of_folder(folder: Arc<Folder>, settings: &Settings) -> Result<Parts, Ended> {
         let shared = shared(settings)?;
         let opened = Files::of_folder(&folder)?.open(1, settings, &shared)?;
-        let place = InFolder { folder, outbox: opened.slot.outbox.clone() };
+        let place = InFolder { folder, outbox: opened.shard.outbox.clone() };
         Parts::new(Of::Folder(opened), shared, Box::new(place), settings)
     }
 
@@ -69,8 +69,8 @@ impl Parts {
         place: Box<dyn Remembers>,
         settings: &Settings,
     ) -> Result<Parts, Ended> {
-        let acts = Arc::new(Acts::in_folder(&settings.data));
-        let told = Told {
+        let acts = Arc::new(AuditLog::in_folder(&settings.data));
+        let told = SinkChoice {
             address: &settings.sink,
             retention: settings.retention,
             takes_new: settings.new_sink,
@@ -93,14 +93,14 @@ impl Parts {
         senders: Senders,
         operators: Operators,
     ) -> Result<Running, Ended> {
-        let (stop_intake, intake_stopped) = watch::channel(false);
+        let (stop_ingest, ingest_stopped) = watch::channel(false);
         let (stop_operate, operate_stopped) = watch::channel(false);
-        let slots = match &self.of {
-            Of::Folder(_) => Slots::one(None),
-            Of::Store(joining) => super::instance::slots(joining, settings),
+        let shards = match &self.of {
+            Of::Folder(_) => Shards::one(None),
+            Of::Store(joining) => super::instance::shards(joining, settings),
         };
-        let of_desk = operate::Units::of(slots.count());
-        let (at_work, ends) = AtWork::new(of_desk.clone());
+        let local = admin::LocalShards::of(shards.count());
+        let (shard_tasks, ends) = ShardTasks::new(local.clone());
         let (metrics, activity) = (settings.metrics.clone(), Arc::<SenderActivity>::default());
         let reporter = Reporter::new(
             settings.live.report_options.clone(),
@@ -108,28 +108,28 @@ impl Parts {
             activity.clone(),
             settings.pass.clone(),
         );
-        let units = Units {
+        let open_shards = OpenShards {
             settings: settings.clone(),
             shared: self.shared.clone(),
             sink: self.sink.clone(),
             reporter: reporter.clone(),
-            slots: slots.clone(),
-            at_work: at_work.clone(),
+            shards: shards.clone(),
+            shard_tasks: shard_tasks.clone(),
         };
         let mut joining = match self.of {
             Of::Folder(opened) => {
-                units.begin(opened);
+                open_shards.begin(opened);
                 None
             }
             Of::Store(joining) => Some(joining),
         };
         // After the folder's shard, so that the series it knows are counted.
-        self.shared.shares.begin(Rules {
+        self.shared.quotas.begin(Rules {
             max_series: settings.max_series as u64,
             of_each: settings.live.of_each.into(),
             tokens: settings.door.tokens(),
             profile: settings.reading.profile,
-            owned: Box::new(of_desk.clone()),
+            owned: Box::new(local.clone()),
             flush_interval: settings.every,
         });
         let of_operators = Limits { connections: OPERATORS, ..limits(settings) };
@@ -138,13 +138,13 @@ impl Parts {
             tokio::spawn(pass.clone().run());
         }
         let reading = Arc::new(settings.reading.clone());
-        let intake = Intake::of(slots, reporter.clone(), reading, self.budget.clone(), metrics.clone());
-        let intake = Arc::new(intake);
+        let ingest = Ingest::of(shards, reporter.clone(), reading, self.budget.clone(), metrics.clone());
+        let ingest = Arc::new(ingest);
         let others = joining.as_mut().zip(settings.store.as_ref());
-        let desk = Desk {
-            units: of_desk,
+        let admin = AdminApi {
+            open_shards: local,
             others: others.and_then(|(joining, of)| joining.others(of)),
-            shares: self.shared.shares.clone(),
+            quotas: self.shared.quotas.clone(),
             acts: self.acts,
             sink: self.sink,
             totals: Totals::of(&settings.sink, settings.totals_times),
@@ -160,19 +160,20 @@ impl Parts {
             max_series: settings.max_series,
             begun: Instant::now(),
         };
-        let desk = Arc::new(desk);
-        let of_health = Arc::downgrade(&desk);
-        intake.set_available(move || of_health.upgrade().is_some_and(|desk| desk.is_available()));
-        let live = Lively { reporter, shares: self.shared.shares.clone() };
+        let admin = Arc::new(admin);
+        let of_health = Arc::downgrade(&admin);
+        ingest.set_available(move || of_health.upgrade().is_some_and(|admin| admin.is_available()));
+        let live = LiveSettings { reporter, quotas: self.shared.quotas.clone() };
         let joined = joining.zip(settings.store.as_ref());
-        let joined = joined.map(|(joining, of)| joining.join(settings, of, units, &intake, desk.clone()));
+        let joined =
+            joined.map(|(joining, of)| joining.join(settings, of, open_shards, &ingest, admin.clone()));
         let threads = self.threads;
         Ok(Running {
-            intake: tokio::spawn(senders.serve(limits(settings), intake, threads.clone(), intake_stopped)),
-            operate: tokio::spawn(operators.serve(of_operators, desk, operate_stopped)),
-            stop_intake,
+            ingest: tokio::spawn(senders.serve(limits(settings), ingest, threads.clone(), ingest_stopped)),
+            operate: tokio::spawn(operators.serve(of_operators, admin, operate_stopped)),
+            stop_ingest,
             stop_operate,
-            at_work,
+            shard_tasks,
             ends,
             joined,
             live,

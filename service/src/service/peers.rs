@@ -1,7 +1,7 @@
 //! The listener for posts from other instances.
 
 use super::senders::{bind, is_local};
-use super::{Ended, OfStore};
+use super::{Ended, StoreSettings};
 use crate::metrics::Metrics;
 use crate::tls::Tls;
 use anyhow::{anyhow, Context};
@@ -17,7 +17,7 @@ pub(super) struct Peers {
 
 impl Peers {
     /// Listens at an address that other machines can't reach, or at which no stranger can read or post.
-    pub async fn bind(of: &OfStore, metrics: &Arc<Metrics>) -> Result<Peers, Ended> {
+    pub async fn bind(of: &StoreSettings, metrics: &Arc<Metrics>) -> Result<Peers, Ended> {
         let listener = bind("--peer", &of.peer).await?;
         if !is_local(&listener) && of.peer_tls.is_none() && !of.peer_plain {
             return Err(Ended::Line(anyhow!(
@@ -62,8 +62,8 @@ mod tests {
     use crate::tls::Files;
     use crate::tls::{peer_tests, tests};
 
-    fn at(peer: &str, peer_plain: bool, peer_tls: Option<Files>) -> OfStore {
-        OfStore {
+    fn at(peer: &str, peer_plain: bool, peer_tls: Option<Files>) -> StoreSettings {
+        StoreSettings {
             database: address("postgres://u@h/d").unwrap(),
             copies: Copies::Two,
             instance: "a".into(),
@@ -102,7 +102,7 @@ mod tests {
     #[tokio::test(flavor = "multi_thread", worker_threads = 2)]
     async fn beyond_loopback_there_is_tls_or_nobody_else() {
         let metrics = Arc::new(Metrics::new().unwrap());
-        let bound = |of: OfStore| {
+        let bound = |of: StoreSettings| {
             let metrics = metrics.clone();
             async move { Peers::bind(&of, &metrics).await }
         };

@@ -1,14 +1,14 @@
 //! The running parts, and the order in which they end.
 
 use super::instance::Joined;
-use super::unit::{cause, End};
-use super::units::{AtWork, Ending, Ends};
+use super::open_shard::{cause, End};
+use super::open_shards::{EndedShard, Ends, ShardTasks};
 use super::{Ended, Live};
-use crate::cluster::beats::LEAVES_WITHIN;
-use crate::files::Fault;
-use crate::intake::Threads;
+use crate::cluster::heartbeats::LEAVES_WITHIN;
+use crate::ingest::Threads;
 use crate::post_reports::Reporter;
-use crate::shares::Shares;
+use crate::quota::Quotas;
+use crate::storage::Fault;
 use std::sync::Arc;
 use std::time::Duration;
 use tokio::sync::watch;
@@ -21,32 +21,32 @@ const LAST_POSTS: Duration = Duration::from_secs(2);
 /// A limit on all other waits at the end together, except hand-overs.
 const LAST: Duration = Duration::from_secs(30);
 
-/// The running parts. The intake ends first, then the shards; the others have nothing to finish.
+/// The running parts. The ingest task ends first, then the shards; the others have nothing to finish.
 pub(super) struct Running {
-    pub intake: JoinHandle<()>,
+    pub ingest: JoinHandle<()>,
     pub operate: JoinHandle<()>,
-    pub stop_intake: watch::Sender<bool>,
+    pub stop_ingest: watch::Sender<bool>,
     pub stop_operate: watch::Sender<bool>,
-    pub at_work: Arc<AtWork>,
+    pub shard_tasks: Arc<ShardTasks>,
     pub ends: Ends,
     /// None if a folder keeps everything.
     pub joined: Option<Joined>,
-    pub live: Lively,
+    pub live: LiveSettings,
     /// Kept until the workers of the shards have ended, so that posts under way can finish and be answered.
     pub _threads: Arc<Threads>,
 }
 
 /// The parts that changed settings affect.
 #[derive(Clone)]
-pub(super) struct Lively {
+pub(super) struct LiveSettings {
     pub reporter: Arc<Reporter>,
-    pub shares: Arc<Shares>,
+    pub quotas: Arc<Quotas>,
 }
 
-impl Lively {
+impl LiveSettings {
     pub fn set(&self, live: Live) {
         self.reporter.set_options(live.report_options);
-        self.shares.set_of_each(live.of_each);
+        self.quotas.set_of_each(live.of_each);
     }
 }
 
@@ -61,7 +61,7 @@ impl Running {
                         return why;
                     }
                 }
-                end = &mut self.intake => return cause("the intake", end.map(Ok::<(), Fault>)),
+                end = &mut self.ingest => return cause("the ingest task", end.map(Ok::<(), Fault>)),
                 end = &mut self.operate => return cause("the admin address", end.map(Ok::<(), Fault>)),
                 cause = of_joined(&mut self.joined) => return cause,
             }
@@ -69,10 +69,10 @@ impl Running {
     }
 
     /// The cause to end the process, if a shard's end requires that: a folder's shard has failed.
-    fn ended_with(&self, ending: Ending) -> Option<Ended> {
+    fn ended_with(&self, ending: EndedShard) -> Option<Ended> {
         match (&self.joined, ending.end) {
-            (Some(joined), end) => joined.ended(ending.slot, ending.term, &end),
-            (None, End::Lost) => self.at_work.lose(ending.slot),
+            (Some(joined), end) => joined.ended(ending.shard, ending.term, &end),
+            (None, End::Fenced) => self.shard_tasks.fence_off(ending.shard),
             (None, End::Failed(why)) => return Some(why),
         }
         None
@@ -88,11 +88,11 @@ impl Running {
         if let Some(joined) = &mut self.joined {
             joined.leave().await;
         }
-        self.stop_intake.send_replace(true);
-        let _ = tokio::time::timeout(LAST_POSTS, &mut self.intake).await; // a slower post was not answered
+        self.stop_ingest.send_replace(true);
+        let _ = tokio::time::timeout(LAST_POSTS, &mut self.ingest).await; // a slower post was not answered
         self.stop_operate.send_replace(true);
         // A command in progress keeps a file open, which then could not be closed.
-        let (_, ended) = tokio::join!(&mut self.operate, self.at_work.stop_all());
+        let (_, ended) = tokio::join!(&mut self.operate, self.shard_tasks.stop_all());
         let ended = ended?;
         // A shard that failed before it was told to end reports that only here.
         while let Ok(ending) = self.ends.try_recv() {
@@ -123,7 +123,7 @@ async fn of_joined(joined: &mut Option<Joined>) -> Ended {
 
 impl Drop for Running {
     fn drop(&mut self) {
-        for task in [&self.intake, &self.operate] {
+        for task in [&self.ingest, &self.operate] {
             task.abort();
         }
     }
@@ -131,39 +131,39 @@ impl Drop for Running {
 
 #[cfg(test)]
 mod tests {
-    use super::super::unit::tests::{no_disk, unit};
-    use super::super::unit::Unit;
+    use super::super::open_shard::tests::{no_disk, open_shard};
+    use super::super::open_shard::OpenShard;
     use super::*;
+    use crate::admin;
     use crate::latch::Latch;
     use crate::metrics::Metrics;
-    use crate::operate;
     use std::future::Future;
     use std::sync::atomic::{AtomicBool, Ordering::Relaxed};
 
-    /// With one shard, and an intake whose last posts take as long as this future.
+    /// With one shard, and an ingest task whose last posts take as long as this future.
     fn running(
-        unit: Unit,
+        open_shard: OpenShard,
         threads: Arc<Threads>,
-        intake: impl Future<Output = ()> + Send + 'static,
+        ingest: impl Future<Output = ()> + Send + 'static,
     ) -> Running {
-        let (at_work, ends) = AtWork::new(operate::Units::of(1));
-        at_work.start(unit);
+        let (shard_tasks, ends) = ShardTasks::new(admin::LocalShards::of(1));
+        shard_tasks.start(open_shard);
         Running {
-            intake: tokio::spawn(intake),
+            ingest: tokio::spawn(ingest),
             operate: tokio::spawn(async {}),
-            stop_intake: watch::channel(false).0,
+            stop_ingest: watch::channel(false).0,
             stop_operate: watch::channel(false).0,
-            at_work,
+            shard_tasks,
             ends,
             joined: None,
-            live: Lively {
+            live: LiveSettings {
                 reporter: Reporter::new(
                     Default::default(),
                     Metrics::new().unwrap().into(),
                     Arc::default(),
                     None,
                 ),
-                shares: Arc::default(),
+                quotas: Arc::default(),
             },
             _threads: threads,
         }
@@ -171,17 +171,17 @@ mod tests {
 
     /// For example a call whose deadline has passed: no connection waits for it.
     #[tokio::test]
-    async fn a_post_without_its_sender_goes_on_until_the_keeper_has_ended() {
+    async fn a_post_without_its_sender_goes_on_until_the_worker_has_ended() {
         let place = tempfile::tempdir().unwrap();
         let (done, post) = tokio::sync::oneshot::channel();
         let threads = Arc::new(Threads::new(1).unwrap());
-        let of_intake = threads.clone();
+        let of_ingest = threads.clone();
         threads.place().0.spawn(async {
             tokio::time::sleep(Duration::from_millis(200)).await;
             done.send(())
         });
-        let unit = unit(place.path(), 0, async { post.await.map_err(|_| no_disk()) });
-        let ended = running(unit, threads, async move { drop(of_intake) }).stop().await;
+        let open_shard = open_shard(place.path(), 0, async { post.await.map_err(|_| no_disk()) });
+        let ended = running(open_shard, threads, async move { drop(of_ingest) }).stop().await;
         assert!(ended.is_ok(), "the post was dropped: {ended:?}");
     }
 
@@ -189,8 +189,8 @@ mod tests {
     #[tokio::test]
     async fn operators_who_are_being_answered_are_waited_for() {
         let place = tempfile::tempdir().unwrap();
-        let unit = unit(place.path(), 0, async { Ok(()) });
-        let mut running = running(unit, Arc::new(Threads::new(1).unwrap()), async {});
+        let open_shard = open_shard(place.path(), 0, async { Ok(()) });
+        let mut running = running(open_shard, Arc::new(Threads::new(1).unwrap()), async {});
         let (stop, mut stopped) = watch::channel(false);
         let answered = Arc::new(AtomicBool::new(false));
         let has_answered = answered.clone();
@@ -205,12 +205,12 @@ mod tests {
 
     /// While the last posts are waited for, or just before the signal came.
     #[tokio::test]
-    async fn a_fault_of_a_slot_that_nobody_has_told_to_end_yet_is_told() {
+    async fn a_fault_of_a_shard_that_nobody_has_told_to_end_yet_is_told() {
         let place = tempfile::tempdir().unwrap();
-        let unit = unit(place.path(), 0, async { Ok(()) }).with_keeper(async { Err(no_disk()) });
+        let open_shard = open_shard(place.path(), 0, async { Ok(()) }).with_worker(async { Err(no_disk()) });
         let threads = Arc::new(Threads::new(1).unwrap());
         let last_posts = tokio::time::sleep(Duration::from_millis(100));
-        let ended = running(unit, threads, last_posts).stop().await;
+        let ended = running(open_shard, threads, last_posts).stop().await;
         assert!(matches!(ended, Err(Ended::Disk(_))), "{ended:?}");
     }
 }

@@ -3,9 +3,9 @@
 use super::{Ended, Settings};
 use crate::grpc::Grpc;
 use crate::identity::Door;
-use crate::intake::connections::{spread, Limits, Shared};
-use crate::intake::front::Http;
-use crate::intake::{listen, Intake, Listener, Taker, Threads};
+use crate::ingest::connections::{spread, Limits, Shared};
+use crate::ingest::front::Http;
+use crate::ingest::{listen, Ingest, Listener, PostHandler, Threads};
 use anyhow::anyhow;
 use std::io::ErrorKind;
 use std::sync::Arc;
@@ -84,14 +84,14 @@ impl Senders {
     }
 
     /// Runs until both have ended.
-    pub async fn serve<T: Taker>(
+    pub async fn serve<T: PostHandler>(
         self,
         limits: Limits,
-        intake: Arc<Intake<T>>,
+        ingest: Arc<Ingest<T>>,
         threads: Arc<Threads>,
         stop: watch::Receiver<bool>,
     ) {
-        let shared = || Shared::new(limits.clone(), self.door.clone(), intake.clone(), stop.clone());
+        let shared = || Shared::new(limits.clone(), self.door.clone(), ingest.clone(), stop.clone());
         let callers = async {
             if let Some(callers) = self.callers {
                 spread::<Grpc, _>(callers, shared(), threads.clone()).await;

@@ -4,13 +4,13 @@
 use super::operators::Operators;
 use super::parts::limits;
 use super::senders::Senders;
-use super::{Ended, OfStore, Settings};
-use crate::intake::connections::Handler;
-use crate::intake::{Budget, Intake, Threads};
+use super::{Ended, Settings, StoreSettings};
+use crate::admin::{message, reply};
+use crate::ingest::connections::Handler;
+use crate::ingest::{Budget, Ingest, Threads};
 use crate::log::RateLimit;
-use crate::operate::{message, reply};
 use crate::otlp::{Original, Outcome, Reason, Resources};
-use crate::slot::{Elsewhere, Slot, Slots};
+use crate::shard::{Forwarder, Shard, Shards};
 use crate::store::postgres::PostgresStore;
 use crate::work::blocking;
 use anyhow::Context;
@@ -31,7 +31,7 @@ const PAUSE: Duration = Duration::from_secs(1);
 static TOLD: RateLimit = RateLimit::every(Duration::from_secs(10));
 
 /// Tries until the store answers, or until there is a fault that waiting does not fix.
-async fn tried(of: &OfStore) -> Result<PostgresStore, Ended> {
+async fn tried(of: &StoreSettings) -> Result<PostgresStore, Ended> {
     loop {
         let (database, copies) = (of.database.clone(), of.copies);
         match blocking(move || PostgresStore::join(&database, copies)).await {
@@ -50,7 +50,7 @@ async fn tried(of: &OfStore) -> Result<PostgresStore, Ended> {
 /// The store; none if the service was told to end before the store answered.
 pub(super) async fn store(
     settings: &Settings,
-    of: &OfStore,
+    of: &StoreSettings,
     (senders, operators): (Senders, Operators),
     ending: impl Future<Output = ()>,
 ) -> Result<Option<PostgresStore>, Ended> {
@@ -77,12 +77,12 @@ impl Waiting {
     fn begin(settings: &Settings, senders: Senders, operators: Operators) -> Result<Waiting, Ended> {
         let (stop, stopped) = watch::channel(false);
         let reading = Arc::new(settings.reading.clone());
-        let slots = Slots::<Slot>::several(Resources::new(1, reading.clone()), Some(Arc::new(NoStore)));
+        let shards = Shards::<Shard>::several(Resources::new(1, reading.clone()), Some(Arc::new(NoStore)));
         let budget = Budget::new(settings.max_bytes);
-        let intake = Intake::of(slots, Arc::new(()), reading, budget, settings.metrics.clone());
+        let ingest = Ingest::of(shards, Arc::new(()), reading, budget, settings.metrics.clone());
         let threads = Arc::new(Threads::new(1).context("no threads could be started")?);
         let limits = limits(settings);
-        let posts = senders.serve(limits.clone(), Arc::new(intake), threads, stopped.clone());
+        let posts = senders.serve(limits.clone(), Arc::new(ingest), threads, stopped.clone());
         let asked = operators.serve_by(limits, Arc::new(NoStore), Arc::new(NoStore), stopped);
         Ok(Waiting { stop, serving: [tokio::spawn(posts), tokio::spawn(asked)] })
     }
@@ -97,7 +97,7 @@ impl Waiting {
 
 struct NoStore;
 
-impl Elsewhere for NoStore {
+impl Forwarder for NoStore {
     fn unavailable(&self) -> Option<Reason> {
         Some(Reason::StoreSilent)
     }

@@ -13,8 +13,8 @@ mod content;
 mod posts;
 mod target;
 
-use super::postgres::{Copies, PostgresStore, Server, Standing, StoreFault};
-use crate::files::{Durability, Fault, Folder, FolderFault};
+use super::postgres::{Copies, PostgresStore, Server, StoreFault, StoreState};
+use crate::storage::{Durability, Fault, Folder, FolderFault};
 use content::Content;
 use posts::Posts;
 use std::path::{Path, PathBuf};
@@ -85,7 +85,7 @@ pub fn from_folder(folder: &Path, server: &Server, copies: Copies) -> Result<Opt
     let content = Content::of_folder(&folder)?;
     // Copies of the folder draw another epoch; only a copy of the whole disk has the same one.
     let id = folder.epoch();
-    begin(&store, Standing { is_filling: true, id: id.clone(), folder: path.display().to_string() })?;
+    begin(&store, StoreState { is_filling: true, id: id.clone(), folder: path.display().to_string() })?;
     let moved = fill(&folder, &content, &store, &id)?;
     folder.set_moved(&address_of(server))?;
     decide(&store)?;
@@ -101,7 +101,7 @@ fn absolute(folder: &Path) -> Result<PathBuf, MoveFault> {
 }
 
 /// Marks the store as being filled. From here on no instance runs on it or starts on it.
-fn begin(store: &PostgresStore, to: Standing) -> Result<(), MoveFault> {
+fn begin(store: &PostgresStore, to: StoreState) -> Result<(), MoveFault> {
     let seen = store.standing()?;
     match seen.is_filling && seen.id == to.id {
         true => change(store, &seen, to)?, // the folder may have been moved in the meantime
@@ -120,14 +120,14 @@ fn begin(store: &PostgresStore, to: Standing) -> Result<(), MoveFault> {
 /// Makes the store count: it has everything, and the folder is marked as moved.
 fn decide(store: &PostgresStore) -> Result<(), MoveFault> {
     let seen = store.standing()?;
-    change(store, &seen, Standing { is_filling: false, ..seen.clone() })
+    change(store, &seen, StoreState { is_filling: false, ..seen.clone() })
 }
 
-fn change(store: &PostgresStore, seen: &Standing, to: Standing) -> Result<(), MoveFault> {
+fn change(store: &PostgresStore, seen: &StoreState, to: StoreState) -> Result<(), MoveFault> {
     check_meanwhile(store.change(seen, &to)?, to)
 }
 
-fn check_meanwhile(now: Standing, to: Standing) -> Result<(), MoveFault> {
+fn check_meanwhile(now: StoreState, to: StoreState) -> Result<(), MoveFault> {
     match now == to {
         true => Ok(()),
         false => Err(StoreFault::Meanwhile.into()),
@@ -135,24 +135,24 @@ fn check_meanwhile(now: Standing, to: Standing) -> Result<(), MoveFault> {
 }
 
 fn fill(folder: &Folder, content: &Content, store: &PostgresStore, id: &str) -> Result<Moved, MoveFault> {
-    let slots = store.cluster.slots;
-    let all: Result<Vec<To>, MoveFault> = (0..slots).map(|number| To::slot(store, number, id)).collect();
+    let shards = store.cluster.shards;
+    let all: Result<Vec<To>, MoveFault> = (0..shards).map(|number| To::shard(store, number, id)).collect();
     let mut all = all?;
     let mut moved = Moved { series: content.series.len(), ..Moved::default() };
     for to in &all {
-        to.outbox.begin_with(content.beginning(to.number, slots))?;
+        to.outbox.begin_with(content.beginning(to.number, shards))?;
         if to.number == 0 {
             moved.requests = target::go_on(&to.outbox, &content.outbox)?;
             moved.letters = to.take_letters(&folder.dead()?)?;
         }
     }
-    let mut posts = Posts::new(slots);
+    let mut posts = Posts::new(shards);
     posts.each(content, |number, post, names| {
         all.iter_mut().filter(|to| to.number == number).try_for_each(|to| to.put(post, names))
     })?;
     moved.posts = posts.count;
     for mut to in all {
-        to.settle()?;
+        to.sync()?;
         store.release_moved(to.number, to.term)?;
     }
     if let Some(sink) = folder.sink() {

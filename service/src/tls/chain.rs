@@ -11,11 +11,11 @@ use std::sync::{Arc, Mutex};
 pub struct ClientChain {
     shown: Vec<rustls::Certificate>,
     tls: Arc<Tls>,
-    judged: Mutex<Judged>,
+    judged: Mutex<ChainVerdict>,
 }
 
 /// Whether the chain was trusted, by which files, and until when that holds.
-struct Judged {
+struct ChainVerdict {
     by: Arc<Contexts>,
     is_believed: bool,
     /// When the next of its certificates expires, in seconds since 1970.
@@ -27,7 +27,7 @@ impl ClientChain {
     /// does not prove that the chain was verified then.
     pub fn new(shown: Vec<rustls::Certificate>, by: Arc<Contexts>, tls: Arc<Tls>) -> ClientChain {
         let is_believed = shown.first().is_some_and(|first| Certificate::read(&first.0).is_some());
-        let judged = Judged { by, is_believed, until: next_end(&shown, i64::MIN) };
+        let judged = ChainVerdict { by, is_believed, until: next_end(&shown, i64::MIN) };
         ClientChain { shown, tls, judged: Mutex::new(judged) }
     }
 
@@ -43,7 +43,7 @@ impl ClientChain {
         let mut judged = locked(&self.judged);
         if now > judged.until || !Arc::ptr_eq(&judged.by, &contexts) {
             let is_believed = contexts.believes(&self.shown);
-            *judged = Judged { by: contexts, is_believed, until: next_end(&self.shown, now) };
+            *judged = ChainVerdict { by: contexts, is_believed, until: next_end(&self.shown, now) };
         }
         judged.is_believed
     }
@@ -76,7 +76,7 @@ mod tests {
     #[test]
     fn a_chain_counts_until_one_of_it_ends() {
         let mut chain = chain(sound);
-        let days = |judged: &Judged| (judged.until - seconds() as i64) / 86_400;
+        let days = |judged: &ChainVerdict| (judged.until - seconds() as i64) / 86_400;
         assert!((19..=20).contains(&days(chain.judged.get_mut().unwrap())));
         // One certificate between it and its root has expired since then.
         let shown = std::mem::take(&mut chain.shown);

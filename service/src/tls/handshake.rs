@@ -25,13 +25,13 @@ static TOLD: RateLimit = RateLimit::every(Duration::from_secs(60));
 pub type Stream = TlsStream<Socket>;
 
 /// A connection on its way from the handshake's thread to the one that serves it.
-pub struct Shaken {
+pub struct TlsConnection {
     stream: Stream,
     /// The contexts that verified it.
     contexts: Arc<Contexts>,
 }
 
-impl Shaken {
+impl TlsConnection {
     /// Attaches the connection to the calling runtime.
     pub fn arrive(mut self) -> Result<Stream> {
         self.stream.get_mut().0.arrive()?;
@@ -57,7 +57,7 @@ impl Tls {
         stream: std::net::TcpStream,
         protocol: Protocol,
         is_full: impl Fn() -> bool,
-    ) -> Option<Shaken> {
+    ) -> Option<TlsConnection> {
         let peer = stream.peer_addr().map_or_else(|_| "?".to_string(), |peer| peer.to_string());
         let (outcome, shaken) = match in_time(self.shake(stream, protocol), is_full).await {
             Some(Ok(shaken)) => ("done", Some(shaken)),
@@ -74,12 +74,12 @@ impl Tls {
         shaken
     }
 
-    async fn shake(&self, stream: std::net::TcpStream, protocol: Protocol) -> Result<Shaken> {
+    async fn shake(&self, stream: std::net::TcpStream, protocol: Protocol) -> Result<TlsConnection> {
         let contexts = self.contexts.now();
         let stream = Socket::Here(TcpStream::from_std(stream)?);
         let mut stream = TlsAcceptor::from(contexts.config(protocol)).accept(stream).await?;
         stream.get_mut().0.leave()?;
-        Ok(Shaken { stream, contexts })
+        Ok(TlsConnection { stream, contexts })
     }
 }
 

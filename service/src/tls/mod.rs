@@ -1,7 +1,7 @@
 //! TLS 1.2 and 1.3 at the addresses of senders, and between instances (`peers`), with files that are reloaded when they
 //! change.
 //!
-//! `identity` owns the `Tls` of the senders' addresses; `intake/connections` asks it for handshakes. A certificate
+//! `identity` owns the `Tls` of the senders' addresses; `ingest/connections` asks it for handshakes. A certificate
 //! counts only as long as it is trusted and has not expired, also after the handshake (`chain`).
 //!
 //! - `pair`: our certificate and its key; `expiry`: the metric of its expiry.
@@ -20,9 +20,9 @@ mod senders;
 mod socket;
 
 pub use chain::ClientChain;
-pub use handshake::{Shaken, Stream};
+pub use handshake::{Stream, TlsConnection};
 
-use crate::intake::Threads;
+use crate::ingest::Threads;
 use crate::metrics::Metrics;
 use crate::reloaded::{Reader, Reading, Reloaded};
 use anyhow::Context;

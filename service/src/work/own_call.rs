@@ -2,7 +2,7 @@
 //!
 //! If another thread made them, each post would have to wake two threads, which takes more processor time than the post
 //! itself. So a serving thread leaves its runtime, makes the call for all tasks that asked, and returns. While a call
-//! takes long, `intake/threads` has another thread run the runtime.
+//! takes long, `ingest/threads` has another thread run the runtime.
 
 use std::cell::RefCell;
 use std::sync::Arc;

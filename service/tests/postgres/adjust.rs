@@ -7,9 +7,9 @@ use crate::points::{Random, HOUR};
 use crate::server::{sum, Server};
 use crate::taken;
 use totxegun::otlp::series::{forwarded, SeriesKey};
-use totxegun::sinks::periods::{Adjustment, Deed, Told, Which};
-use totxegun::sinks::sql::totals::SeriesTotal;
-use totxegun::sinks::Sink;
+use totxegun::sink::periods::{Adjustment, PeriodAction, PeriodOutcome, Which};
+use totxegun::sink::sql::totals::SeriesTotal;
+use totxegun::sink::Sink;
 
 pub fn by_hand(series: Which, hour: u64, value: i64, reason: &str) -> Adjustment {
     let (hour, reason) = (period(hour, 1), reason.to_string());
@@ -44,16 +44,16 @@ pub async fn adjust(
     };
     let counted = Counted { adjustments: adjustment.value, ..Counted::default() };
     model.add(name, hour, now, &counted);
-    let dry = Deed::Adjust(Adjustment { is_dry: true, ..adjustment.clone() });
+    let dry = PeriodAction::Adjust(Adjustment { is_dry: true, ..adjustment.clone() });
     let told = done(sink, dry).await;
     assert!(told.starts_with("nothing is done"), "{told}");
     for _ in 0..1 + random.below(2) {
-        done(sink, Deed::Adjust(adjustment.clone())).await;
+        done(sink, PeriodAction::Adjust(adjustment.clone())).await;
     }
     // The same late data with another reason is no other adjustment.
     let again = Adjustment { reason: "again".into(), ..adjustment };
     if is_late {
-        let told = done(sink, Deed::Adjust(again)).await;
+        let told = done(sink, PeriodAction::Adjust(again)).await;
         assert!(told.contains("is booked already, by alice"), "{told}");
     }
 }
@@ -70,14 +70,15 @@ async fn a_series_is_adjusted_by_its_identity() {
         let other = SeriesKey(key.0.replace("\"a\"", "\"b\"").into());
         taken(&*sink, 1, request).await;
         let identified = |key: &SeriesKey| Which::Identified(Box::new(SeriesTotal::of_none(key).unwrap()));
-        let by_identity =
-            |key: &SeriesKey, reason: &str| Deed::Adjust(by_hand(identified(key), hour - 3, -2, reason));
+        let by_identity = |key: &SeriesKey, reason: &str| {
+            PeriodAction::Adjust(by_hand(identified(key), hour - 3, -2, reason))
+        };
         not_done(&*sink, by_identity(&other, "x"), "the sink has nothing of a series b yet").await;
         let told = done(&*sink, by_identity(&key, "x")).await;
         assert!(told.starts_with("series 1 has -2 in "), "{told}");
         done(&*sink, by_identity(&key, "y")).await;
         let by_number = by_hand(Which::Number(1), hour - 3, -2, "x");
-        let told = done(&*sink, Deed::Adjust(by_number)).await;
+        let told = done(&*sink, PeriodAction::Adjust(by_number)).await;
         assert!(told.contains("is there already"), "{told}");
         let query =
             "select HOUR(hour)/H, points, total, adjustments, total_adjusted from t.by_hour order by 1";
@@ -95,9 +96,9 @@ async fn nothing_is_adjusted_where_the_horizon_is_gone() {
         let hour = now() - 30;
         taken(&*sink, 1, sum("a", hour * HOUR, hour * HOUR + 1, 5)).await;
         database.ask("delete from t.horizon");
-        let told = sink.settle("alice", &Deed::Adjust(by_hand(Which::Number(1), hour, -2, "x"))).await;
+        let told = sink.apply("alice", &PeriodAction::Adjust(by_hand(Which::Number(1), hour, -2, "x"))).await;
         let named = "the table `horizon` has no row";
-        assert!(matches!(&told, Told::Later(why) if why.contains(named)), "{told:?}");
+        assert!(matches!(&told, PeriodOutcome::Later(why) if why.contains(named)), "{told:?}");
         assert_eq!(database.ask("select count(*) from t.adjustments"), "0");
     }
 }

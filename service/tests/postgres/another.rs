@@ -3,7 +3,7 @@
 use super::server::{sum, Server};
 use super::{again, open, taken};
 use std::sync::{Arc, Mutex};
-use totxegun::sinks::{self, Memory, Retention};
+use totxegun::sink::{self, Memory, Retention};
 
 /// Remembers the first sink, and admits no other.
 #[derive(Default)]
@@ -27,7 +27,7 @@ async fn a_database_is_known_by_its_id_once_it_is_reached() {
     let first = Arc::new(First::default());
     let open = |database: &str| {
         let address = server.by_socket(database).parse().unwrap();
-        sinks::open(&address, Retention::default(), first.clone()).map_err(|error| error.to_string())
+        sink::open(&address, Retention::default(), first.clone()).map_err(|error| error.to_string())
     };
     server.ask("create database one");
     let one = open("one").ok().unwrap();
@@ -61,7 +61,7 @@ async fn nothing_is_deleted_in_another_database() {
     let open_ours = |database: &str| {
         let keep =
             Retention { intervals: Some(std::time::Duration::from_secs(86_400)), ..Retention::default() };
-        sinks::open(&server.by_socket(database).parse().unwrap(), keep, first.clone()).unwrap()
+        sink::open(&server.by_socket(database).parse().unwrap(), keep, first.clone()).unwrap()
     };
     server.ask("create database ours; create database theirs");
     drop(open_ours("ours"));

@@ -3,8 +3,8 @@
 use crate::server::{histogram, sum, sum_named, Server};
 use crate::{open, taken};
 use tokio::task::block_in_place;
-use totxegun::sinks::sql::reading::{hours, totals};
-use totxegun::sinks::Address;
+use totxegun::sink::sql::reading::{hours, totals};
+use totxegun::sink::Address;
 
 /// Replaces the view: each series has its total in hour 5, and 1 in the hour before.
 const VIEW: &str = "drop view if exists totxegun.by_hour;

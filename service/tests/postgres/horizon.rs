@@ -5,7 +5,7 @@ use crate::points::HOUR;
 use crate::server::{sum, sums, Server};
 use crate::{open, open_with, taken};
 use std::time::Duration;
-use totxegun::sinks::Retention;
+use totxegun::sink::Retention;
 
 const DAY: u64 = 24 * HOUR;
 const TWO_DAYS: Option<Duration> = Some(Duration::from_secs(2 * 86_400));

@@ -4,7 +4,7 @@ use crate::model::both;
 use crate::points::{body, lines, value, Point, Random, Value, HOUR};
 use crate::server::{sum, Server};
 use crate::{open, refused, request, taken};
-use totxegun::sinks::Fate;
+use totxegun::sink::DeliveryOutcome;
 
 /// 2024-02-29, a leap day, at 20:00; and the end of that month.
 const FIRST: u64 = 1_709_236_800_000_000_000;
@@ -130,10 +130,10 @@ async fn what_begins_before_its_series_ends_is_left() {
                 let next = start + 1 + random.below(4) * (HOUR / 24);
                 let fate = sink.deliver(&request(number, sum(&format!("a{base}"), start, next, 1))).await;
                 match fate {
-                    Fate::Taken if taken == 0 || start >= end => {
+                    DeliveryOutcome::Taken if taken == 0 || start >= end => {
                         (end, taken) = (next, taken + 1);
                     }
-                    Fate::Refused { reason } if start < end => {
+                    DeliveryOutcome::Refused { reason } if start < end => {
                         assert!(reason.contains(&format!("has points until {end}")), "{reason}")
                     }
                     other => panic!("({start}, {next}] behind {end}: {other:?}"),
@@ -163,11 +163,13 @@ async fn services_that_share_series_write_one_hour() {
                 };
                 let part = [point("a"), point("h")];
                 let mut request = request(round, body(&part));
-                request.slot = service as u16;
+                request.shard = service as u16;
                 // Another service may have sent later points first.
                 match sink.deliver(&request).await {
-                    Fate::Taken => points.extend(part),
-                    Fate::Refused { reason } => assert!(reason.contains("is not added"), "{reason}"),
+                    DeliveryOutcome::Taken => points.extend(part),
+                    DeliveryOutcome::Refused { reason } => {
+                        assert!(reason.contains("is not added"), "{reason}")
+                    }
                     other => panic!("{other:?}"),
                 }
             }

@@ -4,9 +4,9 @@ use crate::points::HOUR;
 use crate::server::{sum, sums, Server};
 use crate::{open, open_with, refused, taken};
 use std::time::Duration;
-use totxegun::sinks::sql::export::What;
-use totxegun::sinks::sql::reading;
-use totxegun::sinks::Retention;
+use totxegun::sink::sql::export::What;
+use totxegun::sink::sql::reading;
+use totxegun::sink::Retention;
 
 const DAY: u64 = 24 * HOUR;
 

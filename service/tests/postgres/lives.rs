@@ -5,23 +5,23 @@ use super::model::{both, Database};
 use super::rewind::rewind;
 use super::server::{sum, sums, Server};
 use super::{open, refused, request, taken};
-use totxegun::sinks::sql::export::What;
-use totxegun::sinks::sql::reading::read;
-use totxegun::sinks::{Fate, Forwarded, Sink};
+use totxegun::sink::sql::export::What;
+use totxegun::sink::sql::reading::read;
+use totxegun::sink::{DeliveryOutcome, Forwarded, Sink};
 
 fn of(epoch: &str, number: u64, body: String) -> Forwarded {
-    Forwarded { slot: 0, epoch: epoch.into(), number, body: body.into_bytes() }
+    Forwarded { shard: 0, epoch: epoch.into(), number, body: body.into_bytes() }
 }
 
 async fn taken_of(sink: &dyn Sink, epoch: &str, number: u64, body: String) {
-    assert_eq!(sink.deliver(&of(epoch, number, body)).await, Fate::Taken, "{epoch} {number}");
+    assert_eq!(sink.deliver(&of(epoch, number, body)).await, DeliveryOutcome::Taken, "{epoch} {number}");
 }
 
 async fn left_of(sink: &dyn Sink, epoch: &str, number: u64, body: String, until: u64) {
     let request = of(epoch, number, body);
     let fate = sink.deliver(&request).await;
     match &fate {
-        Fate::Refused { reason } => {
+        DeliveryOutcome::Refused { reason } => {
             let part = format!("is not added, since its series has points until {until}");
             assert!(reason.contains(&part), "{reason}");
         }
@@ -31,13 +31,17 @@ async fn left_of(sink: &dyn Sink, epoch: &str, number: u64, body: String, until:
     assert_eq!(sink.deliver(&request).await, fate);
 }
 
-async fn in_order(sink: &dyn Sink, slot: u16, number: u64, body: String) {
-    let request = Forwarded { slot, ..request(number, body) };
-    assert_eq!(sink.deliver_of(&request, None).await, Fate::Taken, "{slot} {number}");
+async fn in_order(sink: &dyn Sink, shard: u16, number: u64, body: String) {
+    let request = Forwarded { shard, ..request(number, body) };
+    assert_eq!(sink.deliver_of(&request, None).await, DeliveryOutcome::Taken, "{shard} {number}");
 }
 
 async fn in_order_of(sink: &dyn Sink, epoch: &str, number: u64, body: String) {
-    assert_eq!(sink.deliver_of(&of(epoch, number, body), None).await, Fate::Taken, "{epoch} {number}");
+    assert_eq!(
+        sink.deliver_of(&of(epoch, number, body), None).await,
+        DeliveryOutcome::Taken,
+        "{epoch} {number}"
+    );
 }
 
 fn total(database: &Database) -> String {
@@ -79,7 +83,9 @@ async fn a_copy_that_goes_on_under_the_same_keys_adds_nothing_twice() {
         taken(&*sink, 7, sum("a", 350, 400, 32)).await;
         // Sent in order after a later number was taken. Only a folder that was restored does that.
         match sink.deliver_of(&of("e", 6, sum("a", 300, 310, 64)), None).await {
-            Fate::Refused { reason } => assert!(reason.contains("has points until 400"), "{reason}"),
+            DeliveryOutcome::Refused { reason } => {
+                assert!(reason.contains("has points until 400"), "{reason}")
+            }
             other => panic!("{other:?}"),
         }
         assert_eq!(total(&database), "3|35");
@@ -134,9 +140,9 @@ async fn a_rewind_is_a_boundary_for_its_series_alone() {
     }
 }
 
-/// The numbers of two slots have nothing to do with each other.
+/// The numbers of two shards have nothing to do with each other.
 #[tokio::test(flavor = "multi_thread")]
-async fn a_rewind_of_another_slot_takes_no_boundary_back() {
+async fn a_rewind_of_another_shard_takes_no_boundary_back() {
     let server = Server::start();
     for database in both(&server) {
         let sink = open(&database.address());
@@ -200,7 +206,7 @@ async fn what_is_late_is_known_under_the_locks() {
     in_order(&*other, 0, 3, sum("a", 300, 400, 4)).await;
     drop(held);
     server.ask("select count(pg_terminate_backend(pid)) from pg_stat_activity where query like '%pg_sleep(60)' and pid <> pg_backend_pid()");
-    assert_eq!(letter.await.unwrap(), Fate::Taken);
+    assert_eq!(letter.await.unwrap(), DeliveryOutcome::Taken);
     assert_eq!(server.ask("select points, total from totxegun.totals where name = 'a'"), "3|7");
 }
 

@@ -7,10 +7,10 @@ use crate::rewind::key;
 use crate::server::{histogram, sum, Server};
 use crate::{open, open_with, refused, taken};
 use std::time::Duration;
-use totxegun::sinks::periods::{Deed, Period};
-use totxegun::sinks::sql::reading::begun_before;
-use totxegun::sinks::sql::BegunBefore;
-use totxegun::sinks::{Address, Retention};
+use totxegun::sink::periods::{Period, PeriodAction};
+use totxegun::sink::sql::reading::begun_before;
+use totxegun::sink::sql::BegunBefore;
+use totxegun::sink::{Address, Retention};
 
 fn hour(text: &str) -> u64 {
     text.parse::<Period>().unwrap().from as u64
@@ -67,7 +67,7 @@ async fn what_began_before_its_period_is_known_by_value_series_and_time() {
         let berlin = november.in_zone(&"Europe/Berlin".parse().unwrap()).unwrap();
         assert_eq!(found(&address, &berlin).await, wanted);
         // One that comes late counts in this hour, and began before it.
-        done(&*sink, Deed::Close(of("2026-10"))).await;
+        done(&*sink, PeriodAction::Close(of("2026-10"))).await;
         taken(&*sink, 7, sum("b", first + HOUR / 60, first + HOUR / 60 + 1, 2)).await;
         taken(&*sink, 8, sum("c", cut_off - 9 * HOUR, cut_off, 9)).await;
         let counted = database.ask("select hour, value from t.long_intervals order by hour desc limit 1");

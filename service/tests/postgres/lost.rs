@@ -40,17 +40,17 @@ async fn a_schema_that_is_renamed_or_dropped_is_told_of() {
     assert_eq!(told(), [""; 0]);
     server.ask("alter schema totxegun rename to before");
     let again = sink.deliver(&super::request(2, sum("a", 200, 300, 5))).await;
-    if again != totxegun::sinks::Fate::Taken {
+    if again != totxegun::sink::DeliveryOutcome::Taken {
         taken(&*sink, 2, sum("a", 200, 300, 5)).await;
     }
     let [renamed] = told().try_into().expect("one warning");
-    let is_lost = |told: &str| told.contains("the schema totxegun is lost: a fresh one is made");
-    assert!(is_lost(&renamed) && renamed.contains("is not there, and before has its tables"), "{renamed}");
+    let is_fenced = |told: &str| told.contains("the schema totxegun is lost: a fresh one is made");
+    assert!(is_fenced(&renamed) && renamed.contains("is not there, and before has its tables"), "{renamed}");
     server.ask("drop schema before cascade; drop schema totxegun cascade");
     let again = sink.deliver(&super::request(3, sum("a", 300, 400, 5))).await;
-    if again != totxegun::sinks::Fate::Taken {
+    if again != totxegun::sink::DeliveryOutcome::Taken {
         taken(&*sink, 3, sum("a", 300, 400, 5)).await;
     }
     let [dropped] = told().try_into().expect("one warning");
-    assert!(is_lost(&dropped) && dropped.contains("how=\"is gone\""), "{dropped}");
+    assert!(is_fenced(&dropped) && dropped.contains("how=\"is gone\""), "{dropped}");
 }

@@ -26,10 +26,10 @@ mod zones;
 use model::both;
 use server::{histogram, sum, sum_named, Server};
 use std::time::Duration;
-use totxegun::sinks::{self, Fate, Forwarded, Retention, Sink};
+use totxegun::sink::{self, DeliveryOutcome, Forwarded, Retention, Sink};
 
 fn request(number: u64, body: String) -> Forwarded {
-    Forwarded { slot: 0, epoch: "e".into(), number, body: body.into_bytes() }
+    Forwarded { shard: 0, epoch: "e".into(), number, body: body.into_bytes() }
 }
 
 fn open(address: &str) -> std::sync::Arc<dyn Sink> {
@@ -37,23 +37,23 @@ fn open(address: &str) -> std::sync::Arc<dyn Sink> {
 }
 
 fn open_with(address: &str, retention: Retention) -> std::sync::Arc<dyn Sink> {
-    sinks::open(&address.parse().expect(address), retention, std::sync::Arc::new(())).expect(address)
+    sink::open(&address.parse().expect(address), retention, std::sync::Arc::new(())).expect(address)
 }
 
 async fn taken(sink: &dyn Sink, number: u64, body: String) {
-    assert_eq!(sink.deliver(&request(number, body)).await, Fate::Taken, "{number}");
+    assert_eq!(sink.deliver(&request(number, body)).await, DeliveryOutcome::Taken, "{number}");
 }
 
 async fn refused(sink: &dyn Sink, number: u64, body: String, part: &str) {
     match sink.deliver(&request(number, body)).await {
-        Fate::Refused { reason } => assert!(reason.contains(part), "{reason}"),
+        DeliveryOutcome::Refused { reason } => assert!(reason.contains(part), "{reason}"),
         other => panic!("{other:?}"),
     }
 }
 
 async fn again(sink: &dyn Sink, number: u64, body: String, part: &str) {
     match sink.deliver(&request(number, body)).await {
-        Fate::Again { reason, .. } | Fate::Away { reason } => {
+        DeliveryOutcome::Again { reason, .. } | DeliveryOutcome::Away { reason } => {
             assert!(reason.contains(part), "{part} in {reason}")
         }
         other => panic!("{other:?}"),
@@ -73,7 +73,7 @@ async fn what_is_taken() {
         let one = request(number, sum("b", number, number + 1, 1));
         let two = one.clone();
         let both = tokio::join!(sink.deliver(&one), other.deliver(&two));
-        assert_eq!(both, (Fate::Taken, Fate::Taken), "two services with one key");
+        assert_eq!(both, (DeliveryOutcome::Taken, DeliveryOutcome::Taken), "two services with one key");
     }
     for (number, (start, end)) in (25..).zip([(100, 200), (150, 160), (50, 101), (1, 1000)]) {
         for _ in 0..2 {
@@ -130,7 +130,7 @@ async fn of_a_request_the_points_that_begin_too_early_alone_are_left() {
         let left = server::sums(&[("a", 150, 160, 9)]);
         for sink in [&sink, &open(&address)] {
             match sink.deliver(&request(2, all.clone())).await {
-                Fate::TakenPartly { rejected: 1, reason, left: Some(found) } => {
+                DeliveryOutcome::TakenPartly { rejected: 1, reason, left: Some(found) } => {
                     assert!(reason.contains("(150, 160]"), "{reason}");
                     let of = |body: &[u8]| serde_json::from_slice::<serde_json::Value>(body).expect("JSON");
                     assert_eq!(of(&found), of(left.as_bytes()));
@@ -203,7 +203,7 @@ async fn by_tls() {
     std::env::set_var("SSL_CERT_FILE", server.folder.path().join("root.pem"));
     again(&*open(&address("localhost")), 2, sum("a", 2, 3, 1), "NotValidForName").await;
     std::env::remove_var("SSL_CERT_FILE");
-    let refused = address("127.0.0.1").parse::<sinks::Address>().unwrap_err();
+    let refused = address("127.0.0.1").parse::<sink::Address>().unwrap_err();
     assert!(refused.to_string().contains("name of a host"), "{refused}");
     assert_eq!(server.ask("select points from totxegun.totals"), "2");
 }
@@ -230,7 +230,7 @@ async fn what_is_told() {
     again(&*open(&by_password("right", "d1")), 2, body(), "read-only").await;
     let refuses = |database: &str, part: &str| {
         let address = server.by_socket(database).parse().expect("an address");
-        let error = sinks::open(&address, Retention::default(), std::sync::Arc::new(()))
+        let error = sink::open(&address, Retention::default(), std::sync::Arc::new(()))
             .err()
             .expect("it is refused")
             .to_string();
@@ -262,7 +262,7 @@ async fn a_limit_of_the_server_is_waited_for() {
         create trigger wraparound before insert on totxegun.requests execute function totxegun.limit()",
     );
     match sink.deliver(&request(2, sum("a", 2, 3, 2))).await {
-        Fate::Failed { reason, .. } => {
+        DeliveryOutcome::Failed { reason, .. } => {
             assert!(
                 reason.contains("a limit of the server") && reason.contains("not accepting commands"),
                 "{reason}"

@@ -4,7 +4,7 @@ use crate::points::{Point, Value};
 use crate::server::Server;
 use std::collections::{BTreeMap, BTreeSet};
 use std::process::Command;
-use totxegun::sinks::periods::{hour_shown, Period};
+use totxegun::sink::periods::{hour_shown, Period};
 
 /// How many places for intervals an hour has.
 pub const PLACES: u64 = 6;

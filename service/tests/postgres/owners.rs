@@ -8,7 +8,7 @@ use super::{open, request, taken};
 use std::collections::HashMap;
 use std::sync::Arc;
 use totxegun::otlp::series::Digest;
-use totxegun::sinks::{Fate, KnowsOwners};
+use totxegun::sink::{DeliveryOutcome, KnowsOwners};
 
 struct Names(HashMap<Digest, &'static str>);
 
@@ -24,14 +24,14 @@ async fn each_series_has_its_sender() {
     for database in both(&server) {
         let sink = open(&database.address());
         let senders = || database.ask("select name, sender from t.series order by 1");
-        // A dead letter, while nobody delivers its slot here.
+        // A dead letter, while nobody delivers its shard here.
         taken(&*sink, 1, sum("early", 100, 200, 1)).await;
         assert_eq!(senders(), "early|");
         let names = [("a", "ann"), ("c", "cy"), ("early", "eve"), ("h", "-")];
         let names = Arc::new(Names(names.map(|(series, name)| (key(series).digest(), name)).into()));
         sink.owners().expect("a database has them").put(0, &names);
         let both = request(2, sums(&[("a", 100, 200, 1), ("b", 100, 200, 1)]));
-        assert_eq!(sink.deliver_of(&both, None).await, Fate::Taken);
+        assert_eq!(sink.deliver_of(&both, None).await, DeliveryOutcome::Taken);
         let all = [request(3, sum("c", 100, 200, 1)), request(4, sum("early", 200, 300, 1))];
         assert!(sink.deliver_together(&all, None).await);
         assert_eq!(senders(), "a|ann\nb|\nc|cy\nearly|eve");
@@ -39,7 +39,7 @@ async fn each_series_has_its_sender() {
         let others = Arc::new(Names([(key("a").digest(), "other"), (key("b").digest(), "bob")].into()));
         sink.owners().expect("a database has them").put(0, &others);
         let again = request(5, sums(&[("a", 200, 300, 1), ("b", 200, 300, 1)]));
-        assert_eq!(sink.deliver_of(&again, None).await, Fate::Taken);
+        assert_eq!(sink.deliver_of(&again, None).await, DeliveryOutcome::Taken);
         assert_eq!(senders(), "a|ann\nb|bob\nc|cy\nearly|eve");
     }
 }
@@ -70,8 +70,8 @@ async fn senders_are_written_down_behind_new_series() {
     until(&server, waiting, "2").await;
     server.ask("set lock_timeout = '1s'; update totxegun.series set sender = sender where name = 'a'");
     server.ask(&format!("select pg_terminate_backend(pid) {sleeping}"));
-    assert_eq!(makes.await.expect("it ends"), Fate::Taken);
-    assert_eq!(waits.await.expect("it ends"), Fate::Taken);
+    assert_eq!(makes.await.expect("it ends"), DeliveryOutcome::Taken);
+    assert_eq!(waits.await.expect("it ends"), DeliveryOutcome::Taken);
     let senders = "select name, attributes->>'k', sender from totxegun.series order by 1, 2";
     assert_eq!(server.ask(senders), "a|v|ann\nm|v|mia\nm|x|");
 }

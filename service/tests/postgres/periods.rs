@@ -9,8 +9,8 @@ use crate::{open, open_with, refused, request, taken};
 use std::collections::BTreeSet;
 use std::sync::Arc;
 use std::time::Duration;
-use totxegun::sinks::periods::{hour_shown, Deed, Period, Told, Which};
-use totxegun::sinks::{Fate, Retention, Sink};
+use totxegun::sink::periods::{hour_shown, Period, PeriodAction, PeriodOutcome, Which};
+use totxegun::sink::{DeliveryOutcome, Retention, Sink};
 
 pub fn now() -> u64 {
     let since = std::time::SystemTime::now().duration_since(std::time::UNIX_EPOCH);
@@ -23,16 +23,16 @@ pub fn period(from: u64, hours: u64) -> Period {
     text.replace(' ', "T").parse().unwrap()
 }
 
-pub async fn done(sink: &dyn Sink, deed: Deed) -> String {
-    match sink.settle("alice", &deed).await {
-        Told::Done(told) => told,
+pub async fn done(sink: &dyn Sink, deed: PeriodAction) -> String {
+    match sink.apply("alice", &deed).await {
+        PeriodOutcome::Done(told) => told,
         other => panic!("{deed:?}: {other:?}"),
     }
 }
 
-pub async fn not_done(sink: &dyn Sink, deed: Deed, part: &str) {
-    match sink.settle("alice", &deed).await {
-        Told::Refused(why) => assert!(why.contains(part), "{why}"),
+pub async fn not_done(sink: &dyn Sink, deed: PeriodAction, part: &str) {
+    match sink.apply("alice", &deed).await {
+        PeriodOutcome::Refused(why) => assert!(why.contains(part), "{why}"),
         other => panic!("{deed:?}: {other:?}"),
     }
 }
@@ -80,7 +80,7 @@ async fn step(model: &mut Model, sink: &dyn Sink, database: &Database<'_>, rando
             let hours = [1, 24][random.below(2) as usize];
             let from = (now - 60 + random.below(60)) / hours * hours;
             if from + hours <= now {
-                done(sink, Deed::Close(period(from, hours))).await;
+                done(sink, PeriodAction::Close(period(from, hours))).await;
                 let is_in = model.closed.iter().any(|one| one.0 <= from && from + hours <= one.1);
                 if !is_in {
                     model.closed.insert((from, from + hours));
@@ -89,7 +89,7 @@ async fn step(model: &mut Model, sink: &dyn Sink, database: &Database<'_>, rando
         }
         15 => {
             if let Some((from, to)) = model.closed.iter().next().copied() {
-                done(sink, Deed::Open(period(from, to - from))).await;
+                done(sink, PeriodAction::Open(period(from, to - from))).await;
                 model.closed.remove(&(from, to));
             }
         }
@@ -120,7 +120,7 @@ async fn tried(database: &Database<'_>, seed: u64) -> bool {
         if count == 20 {
             // So that each seed has late points.
             let day = (now_ - 40) / 24 * 24;
-            done(&*sink, Deed::Close(period(day, 24))).await;
+            done(&*sink, PeriodAction::Close(period(day, 24))).await;
             model.closed.insert((day, day + 24));
         }
         step(&mut model, &*sink, database, &mut random, now_).await;
@@ -167,18 +167,18 @@ async fn what_no_standby_has_is_not_closed() {
     let waiting = "from pg_stat_activity where wait_event = 'SyncRep'";
     for (hour, cut) in [(100, "pg_terminate_backend"), (101, "pg_cancel_backend")] {
         standbys("set synchronous_standby_names = 'nobody'");
-        let deed = Deed::Close(period(hour, 1));
+        let deed = PeriodAction::Close(period(hour, 1));
         let (to, first) = (sink.clone(), deed.clone());
-        let closing = tokio::spawn(async move { to.settle("alice", &first).await });
+        let closing = tokio::spawn(async move { to.apply("alice", &first).await });
         while server.ask(&format!("select count(*) {waiting}")) == "0" {
             tokio::time::sleep(Duration::from_millis(20)).await;
         }
         server.ask(&format!("select {cut}(pid) {waiting}"));
         let told = closing.await.unwrap();
-        assert!(matches!(told, Told::Later(_)), "{cut}: {told:?}");
+        assert!(matches!(told, PeriodOutcome::Later(_)), "{cut}: {told:?}");
         let closed = format!("select count(*) from totxegun.closed_periods where from_hour = {hour}");
         assert_eq!(server.ask(&closed), "1", "it can be read");
-        let soon = tokio::time::timeout(Duration::from_secs(3), sink.settle("alice", &deed)).await;
+        let soon = tokio::time::timeout(Duration::from_secs(3), sink.apply("alice", &deed)).await;
         assert!(soon.is_err(), "{cut}: {soon:?}");
         standbys("reset synchronous_standby_names");
         let told = done(&*sink, deed).await;
@@ -193,16 +193,16 @@ async fn what_can_t_be_done_is_named_and_changes_nothing() {
         let sink = open(&database.address());
         let (now, old) = (now(), 100);
         taken(&*sink, 1, sum("a", old * HOUR, old * HOUR + 1, 5)).await;
-        not_done(&*sink, Deed::Close(period(now + 1, 1)), "has not ended").await;
-        let told = done(&*sink, Deed::Open(period(old, 1))).await;
+        not_done(&*sink, PeriodAction::Close(period(now + 1, 1)), "has not ended").await;
+        let told = done(&*sink, PeriodAction::Open(period(old, 1))).await;
         assert!(told.ends_with("was open"), "{told}");
         for _ in 0..2 {
-            let told = done(&*sink, Deed::Close(period(96, 24))).await;
+            let told = done(&*sink, PeriodAction::Close(period(96, 24))).await;
             assert!(told.contains("1970-01-05"), "{told}");
         }
-        not_done(&*sink, Deed::Open(period(old, 1)), "1970-01-05, closed by alice").await;
+        not_done(&*sink, PeriodAction::Open(period(old, 1)), "1970-01-05, closed by alice").await;
         let adjustment = |series, hour, value, reason: &str| {
-            Deed::Adjust(by_hand(Which::Number(series), hour, value, reason))
+            PeriodAction::Adjust(by_hand(Which::Number(series), hour, value, reason))
         };
         not_done(&*sink, adjustment(1, now + 1, 1, "x"), "has not begun").await;
         not_done(&*sink, adjustment(2, old, 1, "x"), "the sink has nothing of series 2 yet").await;
@@ -218,7 +218,12 @@ async fn what_can_t_be_done_is_named_and_changes_nothing() {
         );
     }
     let otlp = open("http://127.0.0.1:1/v1/metrics");
-    not_done(&*otlp, Deed::Close(period(1, 1)), "otlp http://127.0.0.1:1/v1/metrics keeps no periods").await;
+    not_done(
+        &*otlp,
+        PeriodAction::Close(period(1, 1)),
+        "otlp http://127.0.0.1:1/v1/metrics keeps no periods",
+    )
+    .await;
 }
 
 /// Otherwise an adjustment would be confirmed and be on no bill.
@@ -229,20 +234,20 @@ async fn an_hour_that_is_deleted_is_adjusted_only_while_it_is_closed() {
     let before = open(&address);
     let hour = now() - 72;
     taken(&*before, 1, sum("a", hour * HOUR, hour * HOUR + 9, 1)).await;
-    done(&*before, Deed::Close(period(hour, 1))).await;
+    done(&*before, PeriodAction::Close(period(hour, 1))).await;
     taken(&*before, 2, sum("a", hour * HOUR + 9, hour * HOUR + 19, 2)).await;
-    done(&*before, Deed::Open(period(hour, 1))).await;
+    done(&*before, PeriodAction::Open(period(hour, 1))).await;
     taken(&*before, 3, sum("b", now() * HOUR - 1, now() * HOUR, 0)).await;
     drop(before);
     let two_days = Some(Duration::from_secs(2 * 86_400));
     let sink = open_with(&address, Retention { hours: two_days, ..Retention::default() });
     let of_all = "select sum(total), sum(adjustments) from totxegun.by_hour";
     until(&server, of_all, "2|0").await;
-    let adjust = || Deed::Adjust(by_hand(Which::Number(1), hour, -1, "by hand"));
+    let adjust = || PeriodAction::Adjust(by_hand(Which::Number(1), hour, -1, "by hand"));
     not_done(&*sink, adjust(), "were deleted (--keep-hours)").await;
     assert_eq!(server.ask(of_all), "2|0");
     // A closed hour is adjusted in the hour in which it counts.
-    done(&*sink, Deed::Close(period(hour, 1))).await;
+    done(&*sink, PeriodAction::Close(period(hour, 1))).await;
     done(&*sink, adjust()).await;
     assert_eq!(server.ask(of_all), "2|-1");
 }
@@ -255,7 +260,7 @@ async fn what_came_late_is_no_reason_to_leave_out_what_comes() {
     let before = open(&address);
     let hour = now() - 72;
     taken(&*before, 1, sum("a", hour * HOUR, hour * HOUR + 9, 1)).await;
-    done(&*before, Deed::Close(period(hour, 1))).await;
+    done(&*before, PeriodAction::Close(period(hour, 1))).await;
     taken(&*before, 2, sum("a", hour * HOUR + 9, hour * HOUR + 19, 2)).await;
     drop(before);
     let two_days = Some(Duration::from_secs(2 * 86_400));
@@ -282,8 +287,8 @@ async fn a_close_comes_between_two_deliveries() {
                     let start = hour * HOUR + (count * 3 + service) * 1000;
                     let name = format!("n{service}{}", count % 7);
                     let mut one = request(count, sum(&name, start, start + 1000, 1));
-                    one.slot = service as u16;
-                    assert_eq!(sink.deliver(&one).await, Fate::Taken);
+                    one.shard = service as u16;
+                    assert_eq!(sink.deliver(&one).await, DeliveryOutcome::Taken);
                     count += 1;
                 }
                 count
@@ -292,7 +297,7 @@ async fn a_close_comes_between_two_deliveries() {
         .collect();
     let sink = open(&address);
     tokio::time::sleep(std::time::Duration::from_millis(700)).await;
-    done(&*sink, Deed::Close(period(hour, 1))).await;
+    done(&*sink, PeriodAction::Close(period(hour, 1))).await;
     let closed = of_hour("hours");
     tokio::time::sleep(std::time::Duration::from_millis(700)).await;
     stop.store(true, std::sync::atomic::Ordering::Relaxed);
@@ -322,30 +327,30 @@ async fn deeds_and_late_points_over_cut_connections() {
     let mut number = 0;
     for round in 0..12u64 {
         let deed = match round % 3 {
-            0 => Deed::Close(period(hour, 1)),
-            1 => Deed::Adjust(by_hand(Which::Number(1), hour, 1, &format!("{round}"))),
-            _ => Deed::Open(period(hour, 1)),
+            0 => PeriodAction::Close(period(hour, 1)),
+            1 => PeriodAction::Adjust(by_hand(Which::Number(1), hour, 1, &format!("{round}"))),
+            _ => PeriodAction::Open(period(hour, 1)),
         };
         let mut tries = 0;
         loop {
             tries += 1;
             if tries < 4 {
                 let wait = std::time::Duration::from_millis(3 * tries + round);
-                let (told, ()) = tokio::join!(sink.settle("alice", &deed), async {
+                let (told, ()) = tokio::join!(sink.apply("alice", &deed), async {
                     tokio::time::sleep(wait).await;
                     server.ask(cut);
                 });
-                if !matches!(told, Told::Done(_) | Told::Later(_)) {
+                if !matches!(told, PeriodOutcome::Done(_) | PeriodOutcome::Later(_)) {
                     panic!("{told:?}");
                 }
-            } else if matches!(sink.settle("alice", &deed).await, Told::Done(_)) {
+            } else if matches!(sink.apply("alice", &deed).await, PeriodOutcome::Done(_)) {
                 break;
             }
         }
         number += 1;
         let start = hour * HOUR + number * 10;
         let one = request(number, sum("a", start, start + 10, 100));
-        while sink.deliver(&one).await != Fate::Taken {}
+        while sink.deliver(&one).await != DeliveryOutcome::Taken {}
     }
     // Four adjustments of 1, and twelve intervals of 100, eight of which came while the hour was closed.
     let found = "select sum(total), sum(adjustments), sum(total_adjusted) from totxegun.";

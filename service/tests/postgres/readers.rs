@@ -6,9 +6,9 @@ use crate::server::{sum, Server};
 use crate::{open, taken};
 use std::time::Duration;
 use tokio::task::block_in_place;
-use totxegun::sinks::sql::export::What;
-use totxegun::sinks::sql::reading::{booked, hours, read, totals};
-use totxegun::sinks::{Address, Fate};
+use totxegun::sink::sql::export::What;
+use totxegun::sink::sql::reading::{booked, hours, read, totals};
+use totxegun::sink::{Address, DeliveryOutcome};
 
 #[tokio::test(flavor = "multi_thread")]
 async fn a_role_reads_all_and_writes_nothing() {
@@ -48,7 +48,7 @@ async fn without_a_right_to_make_roles_all_goes_on() {
     let Some(server) = Server::start() else { return };
     server.ask("create role lame login password 'p'; create database lame owner lame");
     let lame = open(&server.by_tcp("lame:p", "lame"));
-    assert_eq!(lame.deliver(&crate::request(1, sum("a", 1, 2, 1))).await, Fate::Taken);
+    assert_eq!(lame.deliver(&crate::request(1, sum("a", 1, 2, 1))).await, DeliveryOutcome::Taken);
     tokio::time::sleep(Duration::from_secs(3)).await;
     assert_eq!(server.ask("select count(*) from pg_roles where rolname = 'totxegun_read'"), "0");
     server.ask("create role totxegun_read nologin");

@@ -7,7 +7,7 @@ use super::{open, request, taken};
 use std::collections::HashMap;
 use std::sync::Arc;
 use totxegun::otlp::series::{Digest, SeriesKey};
-use totxegun::sinks::{Fate, KnowsOwners, RenameSender};
+use totxegun::sink::{DeliveryOutcome, KnowsOwners, RenameSender};
 
 struct All(HashMap<Digest, String>);
 
@@ -34,7 +34,7 @@ async fn a_renamed_sender_has_its_series_under_its_new_name() {
         let first = request(1, sums(&[("a", 100, 200, 1), ("b", 100, 200, 2), ("c", 100, 200, 4)]));
         let sink = open(&address);
         sink.owners().expect("a database has them").put(0, &owners);
-        assert_eq!(sink.deliver_of(&first, None).await, Fate::Taken);
+        assert_eq!(sink.deliver_of(&first, None).await, DeliveryOutcome::Taken);
         // Of one that is not there nothing is said.
         let rename = renamed(&["a", "b", "gone"], "shop-1");
         for _ in 0..2 {

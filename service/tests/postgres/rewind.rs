@@ -5,7 +5,7 @@ use super::model::both;
 use super::server::{histogram, sum, Server};
 use super::{open, refused, taken};
 use totxegun::otlp::series::SeriesKey;
-use totxegun::sinks::Rewind;
+use totxegun::sink::Rewind;
 
 const MINUTE: u64 = 60_000_000_000;
 const HOUR: u64 = 60 * MINUTE;

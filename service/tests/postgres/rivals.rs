@@ -4,7 +4,7 @@ use crate::server::{sum, sums, Server};
 use crate::{open, refused, request, taken};
 use std::collections::BTreeSet;
 use std::time::Duration;
-use totxegun::sinks::Fate;
+use totxegun::sink::DeliveryOutcome;
 
 const ROUNDS: u64 = 100;
 const SERVICES: u64 = 3;
@@ -43,13 +43,13 @@ async fn services_that_make_the_same_series_never_deadlock() {
             let mut taken = 0;
             for round in 0..ROUNDS {
                 let mut request = request(round, body(round, service));
-                request.slot = service as u16;
+                request.shard = service as u16;
                 let all = series(round, service).len() as u64;
                 // Another service may have sent later points first.
                 taken += match sink.deliver(&request).await {
-                    Fate::Taken => all,
-                    Fate::TakenPartly { rejected, .. } => all - rejected,
-                    Fate::Refused { reason } if reason.contains("is not added") => 0,
+                    DeliveryOutcome::Taken => all,
+                    DeliveryOutcome::TakenPartly { rejected, .. } => all - rejected,
+                    DeliveryOutcome::Refused { reason } if reason.contains("is not added") => 0,
                     other => panic!("{service} in round {round}: {other:?}"),
                 };
             }
@@ -115,8 +115,8 @@ async fn totals_are_locked_behind_new_series() {
     let of_two = tokio::spawn(async move { one.deliver(&request(3, of_two)).await });
     wait_until(&server, waiting, "2").await;
     server.ask(&format!("select pg_terminate_backend(pid) {sleeping}"));
-    assert_eq!(of_all.await.expect("it ends"), Fate::Taken);
-    assert_eq!(of_two.await.expect("it ends"), Fate::Taken);
+    assert_eq!(of_all.await.expect("it ends"), DeliveryOutcome::Taken);
+    assert_eq!(of_two.await.expect("it ends"), DeliveryOutcome::Taken);
     let counted = server.ask("select sum(points), sum(total) from totxegun.totals");
     assert_eq!(counted, "7|7");
 }

@@ -4,7 +4,7 @@ use crate::server::{own_processor_time, Server};
 use crate::{open, taken};
 use std::ops::Range;
 use std::time::Instant;
-use totxegun::sinks::Sink;
+use totxegun::sink::Sink;
 
 /// The series of each part, and how often they come again.
 const SERIES: u64 = 40_000;

@@ -3,7 +3,7 @@
 use super::model::{both, Database};
 use super::server::{sum, sums, Server};
 use super::{open, request, taken};
-use totxegun::sinks::Forwarded;
+use totxegun::sink::Forwarded;
 
 const HOUR: u64 = 3_600_000_000_000;
 
@@ -40,7 +40,7 @@ async fn all_of_them_are_taken_each_under_its_key() {
         // As after a lost answer: each by itself is answered as taken.
         assert!(!sink.deliver_together(&all, None).await);
         for one in &all {
-            assert_eq!(sink.deliver(one).await, totxegun::sinks::Fate::Taken);
+            assert_eq!(sink.deliver(one).await, totxegun::sink::DeliveryOutcome::Taken);
         }
         assert!(sink.deliver_together(&of_hours(42, 3), None).await);
         assert_eq!(database.ask("select sum(points) from t.totals"), "130");

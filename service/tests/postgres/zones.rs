@@ -7,10 +7,10 @@ use crate::points::HOUR;
 use crate::server::{histogram, sum, Server};
 use crate::{open, taken};
 use std::collections::BTreeMap;
-use totxegun::sinks::periods::{Deed, Period, Which};
-use totxegun::sinks::sql::export::What;
-use totxegun::sinks::sql::reading;
-use totxegun::sinks::Address;
+use totxegun::sink::periods::{Period, PeriodAction, Which};
+use totxegun::sink::sql::export::What;
+use totxegun::sink::sql::reading;
+use totxegun::sink::Address;
 
 /// Of 2026-09-01 00:00 UTC.
 const BEGIN: u64 = 496_728;
@@ -28,7 +28,7 @@ async fn exported(address: &str, period: &Period) -> Exported {
     let (address, period): (Address, _) = (address.parse().unwrap(), period.clone());
     let reading = move || {
         let mut all = Exported::new();
-        let mut each = |line: totxegun::sinks::sql::export::Line| {
+        let mut each = |line: totxegun::sink::sql::export::Line| {
             let buckets = line.buckets.map(|list| list.get().to_string());
             let sums = (line.total, line.adjustments, line.total_adjusted, line.points, line.count, buckets);
             assert!(all.insert(line.name.clone(), sums).is_none(), "{} twice", line.name);
@@ -70,7 +70,7 @@ async fn months_and_days_of_a_zone_are_the_sums_of_their_hours() {
         let hour = |text: &str| text.parse::<Period>().unwrap().from as u64;
         let adjusted = [("2026-10-31T22", -5), ("2026-10-31T23", 100)];
         for (of, value) in adjusted {
-            done(&*sink, Deed::Adjust(by_hand(Which::Number(a), hour(of), value, "by hand"))).await;
+            done(&*sink, PeriodAction::Adjust(by_hand(Which::Number(a), hour(of), value, "by hand"))).await;
         }
         for (text, zone, from, to) in [
             ("2026-10", "Europe/Berlin", "2026-09-30T22", "2026-10-31T23"),
@@ -109,9 +109,9 @@ async fn a_period_that_is_closed_says_in_which_zone() {
         let sink = open(&address);
         taken(&*sink, 1, sum("a", (BEGIN - 40) * HOUR, (BEGIN - 39) * HOUR, 7)).await;
         let new_york = local("2026-08", "America/New_York");
-        let told = done(&*sink, Deed::Close(new_york.clone())).await;
+        let told = done(&*sink, PeriodAction::Close(new_york.clone())).await;
         assert!(told.starts_with("2026-08 America/New_York is closed"), "{told}");
-        let told = done(&*sink, Deed::Close("2026-08-31".parse().unwrap())).await;
+        let told = done(&*sink, PeriodAction::Close("2026-08-31".parse().unwrap())).await;
         assert!(told.contains("was closed before: 2026-08 America/New_York, closed by alice at"), "{told}");
         let rows = database.ask("select period, to_hour - from_hour, to_hour from t.closed");
         assert_eq!(rows, format!("2026-08 America/New_York|744|{}", BEGIN + 4));
@@ -124,11 +124,11 @@ async fn a_period_that_is_closed_says_in_which_zone() {
         let utc: Period = "2026-08".parse().unwrap();
         not_done(
             &*sink,
-            Deed::Open(utc),
+            PeriodAction::Open(utc),
             "was not closed by itself: open what was, 2026-08 America/New_York",
         )
         .await;
-        done(&*sink, Deed::Open(new_york)).await;
+        done(&*sink, PeriodAction::Open(new_york)).await;
         assert_eq!(database.ask("select count(*) from t.closed"), "0");
     }
 }

@@ -32,7 +32,7 @@ fn a_start_that_fails_for_its_journal_leaves_the_sink_as_it_was() {
     service.kill();
     let version = || std::fs::read_to_string(place.data().join("version")).unwrap();
     let before = version();
-    for segment in std::fs::read_dir(place.data().join("slot-0/journal")).unwrap() {
+    for segment in std::fs::read_dir(place.data().join("shard-0/journal")).unwrap() {
         std::fs::remove_file(segment.unwrap().path()).unwrap();
     }
     assert_eq!(place.begin(&["--new-sink", "--sink", &place.sink()]).status_of_end(), Some(70));

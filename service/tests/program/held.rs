@@ -44,7 +44,7 @@ fn flush(service: &Service) {
 }
 
 fn held(service: &Service) -> (u64, u64, u64) {
-    let held = &service.status()["slots"][0]["parked"];
+    let held = &service.status()["shards"][0]["parked"];
     let of = |name: &str| held[name].as_u64().unwrap();
     (of("senders"), of("posts"), of("bytes"))
 }
@@ -104,7 +104,7 @@ fn posts_of_a_quarantined_sender_cost_a_checkpoint_nothing_and_come_out_whole() 
     let behind = written_and_memory(&service);
     assert!(behind.0 - before.0 < LITTLE, "{} bytes", behind.0 - before.0);
     assert!(behind.1 - before_all.1 < bytes / 2, "{} bytes", behind.1 - before_all.1);
-    let journal = &service.status()["slots"][0]["journal"];
+    let journal = &service.status()["shards"][0]["journal"];
     assert!(journal["bytes"].as_u64().unwrap() < LITTLE, "{journal}");
     let page = service.metrics();
     for line in [format!("totxegun_parked_posts {POSTS}"), format!("totxegun_parked_bytes {bytes}")] {
@@ -120,7 +120,7 @@ fn posts_of_a_quarantined_sender_cost_a_checkpoint_nothing_and_come_out_whole() 
     assert_eq!(service.order("/release/A").0, 200);
     service.drain();
     assert_eq!(held(&service), (0, 0, 0));
-    assert!(!place.data().join("slot-0/journal/A.held").exists());
+    assert!(!place.data().join("shard-0/journal/A.held").exists());
     service.has_no_fault();
     assert_eq!(service.end(), Some(0));
     let wanted = [("a".to_string(), POSTS as i64), ("b".to_string(), ROUNDS as i64)];

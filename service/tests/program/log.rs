@@ -152,7 +152,7 @@ fn told_in_json(place: &Place) -> (PathBuf, Vec<Value>) {
     let file = change_request(place).0;
     copy_folder(place);
     let service = place.serve_with(&["--sink", NO_SINK, "--log-json"]);
-    until("the delivery stops", || !service.status()["slots"][0]["stuck"].is_null());
+    until("the delivery stops", || !service.status()["shards"][0]["stuck"].is_null());
     assert_eq!(service.end(), Some(0));
     let log = place.log();
     let lines = log.lines().map(|line| serde_json::from_str(line).unwrap());
@@ -165,9 +165,9 @@ fn what_a_line_of_json_names_is_in_its_fields() {
     let place = Place::new();
     let (file, lines) = told_in_json(&place);
     let line = |part: &str| lines.iter().find(|line| line["msg"].as_str().unwrap().contains(part)).unwrap();
-    let begun = line("the slot is ready");
+    let begun = line("the shard is ready");
     assert_eq!(begun["level"], "INFO");
-    assert_eq!(begun["slot"], 0);
+    assert_eq!(begun["shard"], 0);
     assert_eq!(begun["series_count"], 1);
     assert_eq!(begun["posts"], 0);
     let copied = line(" was copied or restored");
@@ -176,7 +176,7 @@ fn what_a_line_of_json_names_is_in_its_fields() {
     assert!(copied["epoch"].is_string(), "{copied}");
     let stopped = line("delivery stops");
     assert_eq!(stopped["level"], "ERROR");
-    assert_eq!(stopped["folder"], place.data().join("slot-0/outbox").to_str().unwrap());
+    assert_eq!(stopped["folder"], place.data().join("shard-0/outbox").to_str().unwrap());
     let reason = stopped["reason"].as_str().unwrap();
     assert!(reason.contains(file.to_str().unwrap()), "{reason}");
 }

@@ -39,7 +39,7 @@ fn points_by_number_are_counted_once_over_kills() {
         assert_eq!(service.post_protobuf("A", b"\xff"), 400);
         service.has_no_fault();
         if run == 0 {
-            let bytes = service.status()["slots"][0]["journal"]["bytes"].as_u64().unwrap();
+            let bytes = service.status()["shards"][0]["journal"]["bytes"].as_u64().unwrap();
             // As text, each of the 150 points would take 170 bytes.
             assert!((1_500..4_000).contains(&bytes), "{bytes} bytes in the journal");
         }

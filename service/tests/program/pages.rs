@@ -57,7 +57,7 @@ fn a_page_changes_nothing_and_reads_nothing() {
             }
         }
     }
-    assert_eq!(service.status()["slots"][0]["quarantined"], serde_json::json!([]));
+    assert_eq!(service.status()["shards"][0]["quarantined"], serde_json::json!([]));
     assert_eq!(service.end(), Some(0));
 }
 

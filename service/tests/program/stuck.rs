@@ -20,7 +20,7 @@ fn end_of_request(bytes: &[u8]) -> Option<usize> {
 }
 
 fn file_of_request(place: &Place) -> (PathBuf, Vec<u8>, usize) {
-    let files = std::fs::read_dir(place.data().join("slot-0/outbox")).unwrap();
+    let files = std::fs::read_dir(place.data().join("shard-0/outbox")).unwrap();
     let mut found = files.filter_map(|file| {
         let path = file.unwrap().path();
         let bytes = std::fs::read(&path).unwrap();
@@ -48,14 +48,14 @@ fn a_changed_request_is_told_and_its_delivery_goes_on_once_it_is_put_back() {
     assert_eq!(service.end(), Some(0));
     let (path, sound) = change_request(&place);
     let service = place.serve_into_another();
-    until("it is told", || !service.status()["slots"][0]["stuck"].is_null());
+    until("it is told", || !service.status()["shards"][0]["stuck"].is_null());
     assert!(service.metrics().contains("totxegun_delivery_stuck 1"));
     let said = service.said(&["status"]);
     assert!(said.contains("the delivery stops: ") && said.contains(path.to_str().unwrap()), "{said}");
     assert_eq!(service.post("A", &points(&["a"], 110, 6)).unwrap().0, 200);
     std::fs::write(&path, &sound).unwrap();
     service.drain();
-    assert!(service.status()["slots"][0]["stuck"].is_null());
+    assert!(service.status()["shards"][0]["stuck"].is_null());
     assert!(service.metrics().contains("totxegun_delivery_stuck 0"));
     service.has_no_fault();
     assert_eq!(service.end(), Some(0));

@@ -189,7 +189,7 @@ impl Service {
 
     /// How many series the service knows.
     pub fn series(&self) -> u64 {
-        self.status()["slots"][0]["series"].as_u64().unwrap()
+        self.status()["shards"][0]["series"].as_u64().unwrap()
     }
 
     pub fn order(&self, path: &str) -> (u16, String) {
@@ -249,8 +249,8 @@ impl Service {
         until("a flush", || self.order("/flush").0 == 200);
         until("an empty outbox", || {
             let status = self.status();
-            let slots = status["slots"].as_array().unwrap();
-            slots.iter().all(|slot| slot["waiting"] == 0)
+            let shards = status["shards"].as_array().unwrap();
+            shards.iter().all(|shard| shard["waiting"] == 0)
         });
     }
 

@@ -9,8 +9,8 @@ use std::sync::atomic::{AtomicBool, AtomicU64, Ordering::SeqCst};
 use std::sync::Arc;
 use std::thread::{self, sleep};
 use std::time::{Duration, Instant};
-use totxegun::cluster::terms::Told;
-use totxegun::files::drive::Drive;
+use totxegun::cluster::terms::InstanceReport;
+use totxegun::storage::shard_store::ShardStore;
 use totxegun::store::postgres::{Copies, PostgresStore};
 
 const WAITS: &str = "pg_stat_activity where wait_event = 'SyncRep'";
@@ -102,7 +102,7 @@ fn what_a_sync_said_yes_to_is_there_whatever_befalls_the_servers() {
     let mut work = Work::take(&store, 0, 1);
     let working = thread::spawn(move || {
         while !ends.load(SeqCst) {
-            assert!(work.round(), "nobody took the slot");
+            assert!(work.round(), "nobody took the shard");
             work.check();
             count.store(work.syncs, SeqCst);
         }
@@ -169,7 +169,7 @@ fn nothing_is_answered_once_the_server_asks_for_no_standby_any_more() {
     let store = Arc::new(pair.store());
     let mut work = Work::take(&store, 0, 1);
     assert!(work.round());
-    wait(store.beat("a", "h:1", "h:1", Told::default(), 0)).unwrap();
+    wait(store.heartbeat("a", "h:1", "h:1", InstanceReport::default(), 0)).unwrap();
     pair.standby().kill();
     let working = thread::spawn(move || {
         assert!(work.round());
@@ -181,13 +181,17 @@ fn nothing_is_answered_once_the_server_asks_for_no_standby_any_more() {
     pair.primary().ask("select pg_reload_conf()");
     let few = |refused: String| refused.contains("synchronous_standby_names is empty");
     wait_until("a beat is no answer", || {
-        wait(store.beat("a", "h:1", "h:1", Told::default(), 0)).is_err_and(|doubt| few(doubt.to_string()))
+        wait(store.heartbeat("a", "h:1", "h:1", InstanceReport::default(), 0))
+            .is_err_and(|doubt| few(doubt.to_string()))
     });
     sleep(Duration::from_secs(1));
     assert!(!working.is_finished(), "a commit that is on one server was answered");
     assert!(wait(store.take(1, 0, "a")).is_err_and(|doubt| few(doubt.to_string())));
     let alone = open(&pair.primary().address(), Copies::One);
-    assert!(wait(alone.beat("b", "h:1", "h:1", Told::default(), 0)).is_ok(), "that one was told that it may");
+    assert!(
+        wait(alone.heartbeat("b", "h:1", "h:1", InstanceReport::default(), 0)).is_ok(),
+        "that one was told that it may"
+    );
     pair.standby().run();
     pair.primary().ask("alter system reset synchronous_standby_names");
     pair.primary().ask("select pg_reload_conf()");
@@ -217,11 +221,12 @@ fn a_beat_waits_for_a_standby_of_a_server_that_is_there() {
     let Some(server) = Server::start("") else { return };
     make(&server.address());
     let store = Arc::new(open(&server.address(), Copies::One));
-    assert!(wait(store.beat("a", "h:1", "h:1", Told::default(), 0)).is_ok());
+    assert!(wait(store.heartbeat("a", "h:1", "h:1", InstanceReport::default(), 0)).is_ok());
     server.ask("alter system set synchronous_standby_names = 'nobody'");
     server.ask("select pg_reload_conf()");
     let of = store.clone();
-    let beating = thread::spawn(move || wait(of.beat("a", "h:1", "h:1", Told::default(), 1)).is_ok());
+    let beating =
+        thread::spawn(move || wait(of.heartbeat("a", "h:1", "h:1", InstanceReport::default(), 1)).is_ok());
     sleep(Duration::from_secs(12));
     assert!(!beating.is_finished(), "it was broken off");
     server.ask("alter system reset synchronous_standby_names");
@@ -239,7 +244,7 @@ fn who_asks_how_many_copies_there_are_breaks_no_connection_of_those_that_wait_fo
     server.ask("alter system set synchronous_standby_names = 'nobody'");
     server.ask("select pg_reload_conf()");
     let opener = store.clone();
-    let opening = thread::spawn(move || opener.drive(0, term).is_ok());
+    let opening = thread::spawn(move || opener.shard_store(0, term).is_ok());
     let waits = format!("select count(*) from {WAITS}");
     wait_until("it waits for the standby", || server.ask(&waits) == "1");
     assert!(wait(store.copies()).is_err(), "it waits behind that");
@@ -257,8 +262,8 @@ fn what_a_server_shows_after_a_restart_is_not_believed_without_its_standby() {
     let Some(mut pair) = Pair::start() else { return };
     let store = Arc::new(pair.store());
     for round in 0..2 {
-        let slot = round as u16;
-        let mut first = Work::take(&store, slot, round);
+        let shard = round as u16;
+        let mut first = Work::take(&store, shard, round);
         assert!(first.round());
         pair.standby().kill();
         let working = thread::spawn(move || {
@@ -270,9 +275,9 @@ fn what_a_server_shows_after_a_restart_is_not_believed_without_its_standby() {
         pair.primary().kill();
         pair.primary().run();
         let taker = store.clone();
-        let taking = thread::spawn(move || take(&taker, slot));
+        let taking = thread::spawn(move || take(&taker, shard));
         sleep(Duration::from_secs(1));
-        assert!(!taking.is_finished(), "a slot was taken without a standby");
+        assert!(!taking.is_finished(), "a shard was taken without a standby");
         pair.standby().run();
         let (_, found) = taking.join().unwrap();
         let first = working.join().unwrap();
@@ -320,21 +325,21 @@ fn a_primary_on_the_wrong_side_answers_nobody_and_is_left() {
     let store = pair.store();
     let mut work = Work::take(&store, 0, 5);
     (0..3).for_each(|_| assert!(work.round()));
-    assert!(contents(&*work.drive) == work.now);
+    assert!(contents(&*work.shard_store) == work.now);
     pair.standby().promote();
     let third = pair.standby().standby();
     let begun = Instant::now();
     assert!(work.round());
     println!("it was left after {:.0} s", begun.elapsed().as_secs_f64());
     (0..20).for_each(|_| assert!(work.round()));
-    assert!(contents(&*work.drive) == work.now, "it was read where it was left behind");
+    assert!(contents(&*work.shard_store) == work.now, "it was read where it was left behind");
     pair.primary().kill();
     assert!(take(&store, 0).1 == work.synced);
     drop(third);
 }
 
 #[test]
-fn a_slot_waits_for_a_database_that_is_gone_and_no_longer_than_it_is_wanted() {
+fn a_shard_waits_for_a_database_that_is_gone_and_no_longer_than_it_is_wanted() {
     let Some(mut server) = Server::start("") else {
         return;
     };
@@ -343,43 +348,46 @@ fn a_slot_waits_for_a_database_that_is_gone_and_no_longer_than_it_is_wanted() {
     let mut work = Work::take(&store, 0, 1);
     assert!(work.round());
     server.kill();
-    let drive = work.drive.clone();
+    let shard_store = work.shard_store.clone();
     let working = thread::spawn(move || {
         assert!(work.round());
         work
     });
-    wait_until("it waits", || drive_waits(&drive));
-    assert!(wait(store.slots()).is_err() && wait(store.beat("a", "h", "h", Told::default(), 0)).is_err());
+    wait_until("it waits", || shard_store_waits(&shard_store));
+    assert!(
+        wait(store.shards()).is_err()
+            && wait(store.heartbeat("a", "h", "h", InstanceReport::default(), 0)).is_err()
+    );
     server.run();
     let mut work = working.join().unwrap();
-    assert_eq!(totxegun::files::drive::Drive::under_way(&*drive), Duration::ZERO);
+    assert_eq!(totxegun::storage::shard_store::ShardStore::under_way(&*shard_store), Duration::ZERO);
     server.kill();
-    let drive = work.drive.clone();
+    let shard_store = work.shard_store.clone();
     let ending = thread::spawn(move || assert!(!work.sync(), "it is lost"));
-    wait_until("it waits", || drive_waits(&drive));
-    drive.lose();
+    wait_until("it waits", || shard_store_waits(&shard_store));
+    shard_store.fence_off();
     ending.join().unwrap();
 }
 
 /// As while the process ends.
 #[test]
-fn a_slot_is_read_and_written_though_nobody_has_the_store_any_more() {
+fn a_shard_is_read_and_written_though_nobody_has_the_store_any_more() {
     let Some(server) = Server::start("") else { return };
     make(&server.address());
     let store = open(&server.address(), Copies::One);
-    let drive = take(&store, 0).0;
-    let file = drive.create(Path::new("journal/1")).unwrap();
+    let shard_store = take(&store, 0).0;
+    let file = shard_store.create(Path::new("journal/1")).unwrap();
     // The first piece is not in memory any more.
-    drive.write_at(file, &vec![7; 6 << 20], 0).unwrap();
-    drive.sync().unwrap();
+    shard_store.write_at(file, &vec![7; 6 << 20], 0).unwrap();
+    shard_store.sync().unwrap();
     drop(store);
     let mut first = [0];
-    assert_eq!(drive.read_at(file, &mut first, 0).unwrap(), 1);
+    assert_eq!(shard_store.read_at(file, &mut first, 0).unwrap(), 1);
     assert_eq!(first, [7]);
-    drive.write_at(file, &[8], 0).unwrap();
-    drive.sync().unwrap();
+    shard_store.write_at(file, &[8], 0).unwrap();
+    shard_store.sync().unwrap();
 }
 
-fn drive_waits(drive: &totxegun::store::postgres::PostgresDrive) -> bool {
-    totxegun::files::drive::Drive::under_way(drive) > Duration::from_millis(500)
+fn shard_store_waits(shard_store: &totxegun::store::postgres::PostgresShardStore) -> bool {
+    totxegun::storage::shard_store::ShardStore::under_way(shard_store) > Duration::from_millis(500)
 }

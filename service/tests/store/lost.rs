@@ -8,8 +8,9 @@ use super::{make, open};
 use std::io::ErrorKind;
 use std::path::Path;
 use std::sync::atomic::Ordering::SeqCst;
-use totxegun::files::drive::{self, Drive};
-use totxegun::files::{Fault, Recents, Runs};
+use totxegun::outbox::{Recents, Runs};
+use totxegun::storage::shard_store::{self, ShardStore};
+use totxegun::storage::Fault;
 use totxegun::store::postgres::{Copies, PostgresStore};
 
 fn made() -> Option<(Server, PostgresStore)> {
@@ -21,21 +22,21 @@ fn made() -> Option<(Server, PostgresStore)> {
 
 /// Why the next owner can't open the shard. Empty if it can.
 fn refusal(store: &PostgresStore) -> String {
-    let refused = drive::open(taken(store, 0) as _, "e").err();
-    assert!(!matches!(refused, Some(Fault::Lost(_))), "the slot is its own");
+    let refused = shard_store::open(taken(store, 0) as _, "e").err();
+    assert!(!matches!(refused, Some(Fault::Fenced(_))), "the shard is its own");
     refused.map(|fault| fault.to_string()).unwrap_or_default()
 }
 
 /// Commits requests that wait for the sink.
 fn commit(store: &PostgresStore, requests: usize) {
-    let (journal, outbox, _dead) = drive::open(taken(store, 0) as _, "e").unwrap();
+    let (journal, outbox, _dead) = shard_store::open(taken(store, 0) as _, "e").unwrap();
     let body = br#"{"resourceMetrics":[]}"#.to_vec();
-    outbox.commit_with(&vec![body; requests], journal.turn().0, Runs::new(), &Recents::default()).unwrap();
-    outbox.settle().unwrap();
+    outbox.commit_with(&vec![body; requests], journal.roll().0, Runs::new(), &Recents::default()).unwrap();
+    outbox.sync().unwrap();
 }
 
 #[test]
-fn a_piece_that_is_gone_is_named_and_the_slot_stays_its_owners() {
+fn a_piece_that_is_gone_is_named_and_the_shard_stays_its_owners() {
     let Some((server, store)) = made() else { return };
     commit(&store, 1);
     let owner = taken(&store, 0);
@@ -43,11 +44,11 @@ fn a_piece_that_is_gone_is_named_and_the_slot_stays_its_owners() {
     server.ask("delete from totxegun_store.piece");
     let gone = owner.read_at(file, &mut [0; 8], 0).unwrap_err();
     assert_eq!(gone.kind(), ErrorKind::InvalidData, "{gone}");
-    owner.sync().expect("the slot is its own");
+    owner.sync().expect("the shard is its own");
     let fault = owner.open_files("e").err().unwrap();
-    assert!(drive::is_lost(&owner.sync().unwrap_err()), "nothing of it is written any more");
+    assert!(shard_store::is_fenced(&owner.sync().unwrap_err()), "nothing of it is written any more");
     let text = fault.to_string();
-    let says = ["outbox/000000000001.seg", "slot 0 is not served", "restore that row"];
+    let says = ["outbox/000000000001.seg", "shard 0 is not served", "restore that row"];
     assert!(matches!(fault, Fault::Io { .. }) && says.iter().all(|part| text.contains(part)), "{text}");
 }
 
@@ -62,14 +63,14 @@ fn what_the_store_has_lost_is_not_counted_as_the_taking_of_another() {
     server.ask("delete from totxegun_store.piece");
     server.ask("select pg_terminate_backend(pid) from pg_stat_activity where application_name = 'totxegun'");
     owner.write_at(file, b"b", 1).unwrap();
-    assert!(drive::is_lost(&owner.sync().unwrap_err()), "it does not go on without what it had");
+    assert!(shard_store::is_fenced(&owner.sync().unwrap_err()), "it does not go on without what it had");
     let counts = store.counts();
     assert_eq!((counts.vanished.load(SeqCst), counts.fenced.load(SeqCst)), (1, 0));
 }
 
 /// Its next requests would have keys that were used, so the sink would take them for those that it has.
 #[test]
-fn a_slot_without_the_files_of_which_the_sink_has_requests_is_not_begun_anew() {
+fn a_shard_without_the_files_of_which_the_sink_has_requests_is_not_begun_anew() {
     let Some((server, store)) = made() else { return };
     commit(&store, 3);
     server.ask("insert into totxegun_store.delivered values (0, 1, 4)");
@@ -81,7 +82,7 @@ fn a_slot_without_the_files_of_which_the_sink_has_requests_is_not_begun_anew() {
     assert!(gone.contains("has no segments, although the sink has its requests up to number 4"), "{gone}");
     server.ask("delete from totxegun_store.delivered");
     let begun = refusal(&store);
-    assert!(begun.contains("has no segments, although the slot had files"), "{begun}");
+    assert!(begun.contains("has no segments, although the shard had files"), "{begun}");
     assert!(begun.contains("totxegun store restored"), "{begun}");
     assert_eq!(store.restored(&[]).unwrap(), [0]);
     assert_eq!(refusal(&store), "", "an operator has said that it begins with nothing");
@@ -90,14 +91,14 @@ fn a_slot_without_the_files_of_which_the_sink_has_requests_is_not_begun_anew() {
 
 /// Without its own rows the shard can't be read, and what is left of it is deleted.
 #[test]
-fn a_slot_begins_with_nothing_where_an_operator_says_so() {
+fn a_shard_begins_with_nothing_where_an_operator_says_so() {
     let Some((server, store)) = made() else { return };
     commit(&store, 3);
     server.ask(
         "delete from totxegun_store.piece where number = (select min(number) from totxegun_store.piece)",
     );
     assert!(refusal(&store).contains("was changed"), "its rows are not all there");
-    assert!(store.restored(&[64]).unwrap_err().to_string().contains("there is no slot 64"));
+    assert!(store.restored(&[64]).unwrap_err().to_string().contains("there is no shard 64"));
     assert_eq!(store.restored(&[0]).unwrap(), [0]);
     assert_eq!(refusal(&store), "");
     commit(&store, 1);

@@ -2,10 +2,10 @@
 
 use super::server::Server;
 use super::work::wait;
-use super::{make, open, opened, SLOTS};
+use super::{make, open, opened, SHARDS};
 use std::thread;
 use std::time::Duration;
-use totxegun::cluster::terms::Told;
+use totxegun::cluster::terms::InstanceReport;
 use totxegun::store::postgres::{address, Copies, PostgresStore, StoreFault};
 
 fn refused(text: &str, copies: Copies, reading: &str, part: &str) {
@@ -22,7 +22,7 @@ fn a_start_refuses_what_is_no_store_or_another_or_can_lose() {
     refused(&one, Copies::One, "a", "store init");
     refused("postgres://postgres@127.0.0.1:1/postgres", Copies::One, "a", "127.0.0.1:1");
     make(&one);
-    let again = PostgresStore::make(&address(&one).unwrap(), SLOTS);
+    let again = PostgresStore::make(&address(&one).unwrap(), SHARDS);
     assert!(matches!(again, Err(StoreFault::IsThere(_))));
     refused(&one, Copies::Two, "b", "no synchronous standby");
     drop(opened(&address(&one).unwrap(), Copies::One, "a").unwrap());
@@ -71,18 +71,18 @@ fn the_first_says_where_all_deliver_to_and_beats_say_what_is_refused() {
     assert_eq!(store.set_sink("", "one").unwrap(), "one");
     assert_eq!(store.set_sink("", "other").unwrap(), "one", "another was first");
     assert_eq!(store.set_sink("one", "other").unwrap(), "other");
-    let told = Told {
+    let told = InstanceReport {
         refused: [(3, "no \"memory\"".to_string())].into(),
         clock: Some(-7),
         reached: Some(["b".to_string()].into()),
     };
-    wait(store.beat("a", "h:1", "h:1", told.clone(), 0)).unwrap();
+    wait(store.heartbeat("a", "h:1", "h:1", told.clone(), 0)).unwrap();
     let (instances, clock) = wait(store.instances()).unwrap();
     assert_eq!(instances[0].told, told);
     assert!(clock.unwrap().abs() < 1_000_000, "its server has the clock of this machine: {clock:?}");
-    wait(store.beat("a", "h:1", "h:1", Told::default(), 0)).unwrap();
+    wait(store.heartbeat("a", "h:1", "h:1", InstanceReport::default(), 0)).unwrap();
     let again = &wait(store.instances()).unwrap().0[0];
-    assert_eq!((again.beat, &again.told), (2, &Told::default()));
+    assert_eq!((again.beat, &again.told), (2, &InstanceReport::default()));
 }
 
 /// The server was there when the start began. Without the repeat the start would fail.

@@ -10,21 +10,21 @@ mod proxy;
 mod server;
 mod sink;
 mod speed;
-#[path = "../../src/files/test_runs.rs"]
+#[path = "../../src/storage/test_runs.rs"]
 mod test_runs;
 mod together;
 mod work;
 
 use server::Server;
 use test_runs::runs;
-use totxegun::files::drive::Drive;
+use totxegun::storage::shard_store::ShardStore;
 use totxegun::store::postgres::{address, Copies, PostgresStore, Server as StoreServer, StoreFault};
 use work::{take, Work};
 
-const SLOTS: u16 = 64;
+const SHARDS: u16 = 64;
 /// Pieces of files that don't exist any more.
 const STRAYS: &str = "select count(*) from totxegun_store.piece
-    where (slot, file) not in (select slot, file from totxegun_store.file)";
+    where (shard, file) not in (select shard, file from totxegun_store.file)";
 
 fn open(text: &str, copies: Copies) -> PostgresStore {
     opened(&address(text).unwrap(), copies, "integer-unit=auto").unwrap()
@@ -38,7 +38,7 @@ fn opened(server: &StoreServer, copies: Copies, reading: &str) -> Result<Postgre
 }
 
 fn make(text: &str) {
-    PostgresStore::make(&address(text).unwrap(), SLOTS).unwrap();
+    PostgresStore::make(&address(text).unwrap(), SHARDS).unwrap();
 }
 
 #[test]
@@ -48,18 +48,18 @@ fn a_drive_is_as_a_map_has_it_and_the_next_owner_finds_what_was_synced() {
     let store = open(&server.address(), Copies::One);
     let (mut owners, mut syncs) = (0, 0);
     for seed in 0..runs(4, 12) {
-        let slot = (seed % 3) as u16;
-        let mut work = Work::take(&store, slot, seed);
+        let shard = (seed % 3) as u16;
+        let mut work = Work::take(&store, shard, seed);
         for _ in 0..12 {
             assert!(work.round());
             work.check();
         }
         assert_eq!(server.ask(STRAYS), "0");
         work.step();
-        let (next, found) = take(&store, slot);
+        let (next, found) = take(&store, shard);
         assert!(found == work.synced, "seed {seed}");
-        assert!(!work.sync(), "the slot is another's");
-        assert!(work.drive.create("journal/x".as_ref()).is_err());
+        assert!(!work.sync(), "the shard is another's");
+        assert!(work.shard_store.create("journal/x".as_ref()).is_err());
         (owners, syncs) = (owners + 1, syncs + work.syncs);
         drop(next);
     }

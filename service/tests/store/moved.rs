@@ -6,11 +6,11 @@ use super::{make, open, opened};
 use std::path::Path;
 use std::thread;
 use std::time::Duration;
-use totxegun::cluster::terms::Told;
-use totxegun::files::drive::{is_lost, Drive};
-use totxegun::files::{Durability, Folder};
+use totxegun::cluster::terms::InstanceReport;
+use totxegun::storage::shard_store::{is_fenced, ShardStore};
+use totxegun::storage::{Durability, Folder};
 use totxegun::store::moving::from_folder;
-use totxegun::store::postgres::{address, Copies, Standing};
+use totxegun::store::postgres::{address, Copies, StoreState};
 
 fn refused(text: &str, part: &str) {
     match opened(&address(text).unwrap(), Copies::One, "integer-unit=auto") {
@@ -19,12 +19,12 @@ fn refused(text: &str, part: &str) {
     }
 }
 
-fn standing(is_filling: bool) -> Standing {
-    Standing { is_filling, id: "0123456789abcdef".into(), folder: "/data".into() }
+fn standing(is_filling: bool) -> StoreState {
+    StoreState { is_filling, id: "0123456789abcdef".into(), folder: "/data".into() }
 }
 
 #[test]
-fn nobody_takes_a_slot_or_starts_while_a_store_is_filled_but_who_fills_it() {
+fn nobody_takes_a_shard_or_starts_while_a_store_is_filled_but_who_fills_it() {
     let Some(server) = Server::start("") else { return };
     make(&server.address());
     let store = open(&server.address(), Copies::One);
@@ -38,7 +38,7 @@ fn nobody_takes_a_slot_or_starts_while_a_store_is_filled_but_who_fills_it() {
     }
     assert_eq!(store.change(&before, &before).unwrap(), filling, "it is no more as it was seen");
     owner.create(Path::new("journal/1")).unwrap();
-    assert!(is_lost(&owner.sync().unwrap_err()), "who had a slot writes no more");
+    assert!(is_fenced(&owner.sync().unwrap_err()), "who had a shard writes no more");
     assert_eq!(wait(store.take(1, 1, "a")).unwrap(), None);
     refused(&server.address(), "folder /data is being moved into this store");
     assert!(store.take_to_move(1, "f00").is_err(), "another move");
@@ -58,11 +58,11 @@ fn what_an_instance_takes_just_before_a_store_is_filled_stays() {
     make(&server.address());
     let of_store = address(&server.address()).unwrap();
     let place = tempfile::tempdir().unwrap();
-    drop(Folder::open(place.path(), Durability::Disk).unwrap().slot().unwrap());
+    drop(Folder::open(place.path(), Durability::Disk).unwrap().shard().unwrap());
     let moved = || from_folder(place.path(), &of_store, Copies::One).map_err(|why| why.to_string());
     let store = open(&server.address(), Copies::One);
     // An instance that is gone: it takes a while to see that its heartbeats have stopped.
-    wait(store.beat("gone", "h:1", "h:1", Told::default(), 0)).unwrap();
+    wait(store.heartbeat("gone", "h:1", "h:1", InstanceReport::default(), 0)).unwrap();
     thread::scope(|scope| {
         let moving = scope.spawn(moved);
         thread::sleep(Duration::from_secs(1));
@@ -71,12 +71,12 @@ fn what_an_instance_takes_just_before_a_store_is_filled_stays() {
         let waits = "select count(*) from pg_stat_activity where query like 'update totxegun_store.cluster set filling%'
             and wait_event_type = 'Lock'";
         wait_until("it looked, and waits for the lock", || server.ask(waits) == "1");
-        let (drive, _) = take(&store, 0);
-        let file = drive.create(Path::new("journal/1")).unwrap();
-        drive.write_at(file, b"post", 0).unwrap();
-        drive.sync().expect("the post is answered");
+        let (shard_store, _) = take(&store, 0);
+        let file = shard_store.create(Path::new("journal/1")).unwrap();
+        shard_store.write_at(file, b"post", 0).unwrap();
+        shard_store.sync().expect("the post is answered");
         while !moving.is_finished() {
-            wait(store.beat("a", "h:1", "h:1", Told::default(), 0)).unwrap();
+            wait(store.heartbeat("a", "h:1", "h:1", InstanceReport::default(), 0)).unwrap();
             thread::sleep(Duration::from_millis(300));
         }
         let why = moving.join().unwrap().unwrap_err();
@@ -98,13 +98,13 @@ fn a_move_that_was_killed_before_its_decision_is_decided_by_the_same_call_and_by
     let place = tempfile::tempdir().unwrap();
     let (one, other) = (place.path().join("one"), place.path().join("other"));
     for path in [&one, &other] {
-        drop(Folder::open(path, Durability::Disk).unwrap().slot().unwrap());
+        drop(Folder::open(path, Durability::Disk).unwrap().shard().unwrap());
     }
     let moved = |path: &Path| from_folder(path, &of_store, Copies::One).map_err(|why| why.to_string());
     assert!(moved(&one).unwrap().is_some());
     let store = open(&server.address(), Copies::One);
     let counts = store.standing().unwrap();
-    let filling = Standing { is_filling: true, ..counts.clone() };
+    let filling = StoreState { is_filling: true, ..counts.clone() };
     store.change(&counts, &filling).unwrap(); // as before the kill
     let why = moved(&other).unwrap_err();
     assert!(why.contains(&format!("folder {} is being moved", one.display())), "{why}");
@@ -126,7 +126,7 @@ fn a_move_that_was_killed_before_its_decision_is_decided_by_the_same_call_and_by
     );
     // A move into this store was killed, and the folder went into another store.
     let third = Folder::open(&place.path().join("third"), Durability::Disk).unwrap();
-    let begun = Standing { is_filling: true, id: third.epoch(), ..counts.clone() };
+    let begun = StoreState { is_filling: true, id: third.epoch(), ..counts.clone() };
     assert_eq!(store.change(&counts, &begun).unwrap(), begun);
     third.set_moved("postgres://u@h:1/d").unwrap();
     drop(third);

@@ -9,8 +9,8 @@ use std::sync::atomic::Ordering::SeqCst;
 use std::sync::{Arc, Mutex};
 use std::thread;
 use std::time::{Duration, Instant};
-use totxegun::cluster::terms::Told;
-use totxegun::files::drive::{is_lost, Drive};
+use totxegun::cluster::terms::InstanceReport;
+use totxegun::storage::shard_store::{is_fenced, ShardStore};
 use totxegun::store::postgres::{Copies, PostgresStore};
 
 /// Works until the shard is lost or `most` rounds are done, and notes what was confirmed as durable.
@@ -27,7 +27,7 @@ fn works(mut work: Work, most: u64, said: Arc<Mutex<Contents>>) -> thread::JoinH
 }
 
 #[test]
-fn an_owner_that_is_stopped_in_any_step_writes_no_more_once_another_has_the_slot() {
+fn an_owner_that_is_stopped_in_any_step_writes_no_more_once_another_has_the_shard() {
     let Some(server) = Server::start("") else { return };
     let proxy = Proxy::start(server.port);
     make(&server.address());
@@ -35,14 +35,14 @@ fn an_owner_that_is_stopped_in_any_step_writes_no_more_once_another_has_the_slot
     let (mut lost, mut later) = (0, 0);
     let rounds = runs(13, 40);
     for round in 0..rounds {
-        let slot = (round % 8) as u16;
-        let first = Work::take(&through, slot, round);
+        let shard = (round % 8) as u16;
+        let first = Work::take(&through, shard, round);
         let said = Arc::new(Mutex::new(first.synced.clone()));
         proxy.stop_after(round % 13);
         let works = works(first, 9, said.clone());
         wait_until("it is stopped", || proxy.holds());
         let said_before = said.lock().unwrap().clone();
-        let mut second = Work::take(&direct, slot, round + 1000);
+        let mut second = Work::take(&direct, shard, round + 1000);
         let found = second.synced.clone();
         (0..3).for_each(|_| assert!(second.round()));
         proxy.go_on();
@@ -54,8 +54,8 @@ fn an_owner_that_is_stopped_in_any_step_writes_no_more_once_another_has_the_slot
         );
         lost += u32::from(first.begun.is_some());
         later += u32::from(first.synced != said_before);
-        let (_, now) = take(&direct, slot);
-        assert!(now == second.synced, "round {round}: who had lost the slot wrote to it");
+        let (_, now) = take(&direct, shard);
+        assert!(now == second.synced, "round {round}: who had lost the shard wrote to it");
     }
     println!("stopped in {rounds} rounds: {lost} lost, {later} had been done and were told later");
     assert_eq!(u64::from(lost), rounds);
@@ -74,8 +74,8 @@ fn what_comes_late_of_a_broken_connection_is_not_done() {
     let mut chance = Chance(7);
     let mut held = 0;
     for round in 0..runs(10, 40) {
-        let slot = (round % 8) as u16;
-        let mut work = Work::take(&store, slot, round);
+        let shard = (round % 8) as u16;
+        let mut work = Work::take(&store, shard, round);
         assert!(work.round());
         let before = server.ask(backends);
         proxy.stop_after(chance.below(3));
@@ -90,7 +90,7 @@ fn what_comes_late_of_a_broken_connection_is_not_done() {
         proxy.go_on();
         let left = format!("select count(*) from pg_stat_activity where pid in ({before})");
         wait_until("it is done", || server.ask(&left) == "0");
-        let (next, found) = take(&direct, slot);
+        let (next, found) = take(&direct, shard);
         assert!(found == work.synced, "round {round}: what came late was done");
         assert!(contents(&*next) == found);
         held += 1;
@@ -101,26 +101,29 @@ fn what_comes_late_of_a_broken_connection_is_not_done() {
 /// What keeps an earlier owner out is neither the next owner's files, which may be gone, nor that nobody had the shard
 /// in between.
 #[test]
-fn who_had_a_slot_writes_no_more_though_nothing_is_left_of_the_next_owner() {
+fn who_had_a_shard_writes_no_more_though_nothing_is_left_of_the_next_owner() {
     let Some(server) = Server::start("") else { return };
     make(&server.address());
     let store = open(&server.address(), Copies::One);
     for is_handed_over in [false, true] {
-        let slot = u16::from(is_handed_over);
-        let mut first = Work::take(&store, slot, 1);
+        let shard = u16::from(is_handed_over);
+        let mut first = Work::take(&store, shard, 1);
         (0..5).for_each(|_| assert!(first.round()));
-        let link = server.ask(&format!("select link from totxegun_store.slot where slot = {slot}"));
+        let connection_epoch =
+            server.ask(&format!("select connection_epoch from totxegun_store.shard where shard = {shard}"));
         if is_handed_over {
-            wait(store.release(slot, first.drive.term(), "next")).unwrap();
+            wait(store.release(shard, first.shard_store.term(), "next")).unwrap();
         }
-        let (next, found) = take(&store, slot);
+        let (next, found) = take(&store, shard);
         assert!(found == first.synced && !found.is_empty());
         found.keys().for_each(|name| next.remove(name).unwrap());
         next.sync().unwrap();
         // Two owners may have the same connection epoch.
-        server.ask(&format!("update totxegun_store.slot set link = {link} where slot = {slot}"));
+        server.ask(&format!(
+            "update totxegun_store.shard set connection_epoch = {connection_epoch} where shard = {shard}"
+        ));
         assert!(!first.round(), "handed over: {is_handed_over}");
-        assert!(take(&store, slot).1.is_empty());
+        assert!(take(&store, shard).1.is_empty());
     }
 }
 
@@ -132,10 +135,10 @@ fn what_the_next_owner_has_deleted_is_no_loss_for_the_one_before() {
     let proxy = Proxy::start(server.port);
     make(&server.address());
     let (store, direct) = (open(&proxy.address(), Copies::One), open(&server.address(), Copies::One));
-    let (drive, _) = take(&store, 0);
-    let file = drive.create(Path::new("journal/1")).unwrap();
-    drive.write_at(file, b"a", 0).unwrap();
-    drive.sync().unwrap();
+    let (shard_store, _) = take(&store, 0);
+    let file = shard_store.create(Path::new("journal/1")).unwrap();
+    shard_store.write_at(file, b"a", 0).unwrap();
+    shard_store.sync().unwrap();
     server.ask(
         "create function slow() returns trigger language plpgsql as $$ begin
             if new.place > 0 then perform pg_sleep(1); end if; return new; end $$",
@@ -144,9 +147,9 @@ fn what_the_next_owner_has_deleted_is_no_loss_for_the_one_before() {
         "create trigger slow before insert on totxegun_store.piece for each row execute function slow()",
     );
     // The retry has found that it still owns the shard, and then the connection goes silent.
-    proxy.silence_at("as last (slot");
-    drive.write_at(file, b"b", 1).unwrap();
-    let writing = thread::spawn(move || drive.sync());
+    proxy.silence_at("as last (shard");
+    shard_store.write_at(file, b"b", 1).unwrap();
+    let writing = thread::spawn(move || shard_store.sync());
     let sleeps = "from pg_stat_activity where wait_event = 'PgSleep'";
     wait_until("it is on its way", || server.ask(&format!("select count(*) {sleeps}")) == "1");
     server.ask(&format!("select pg_terminate_backend(pid) {sleeps}"));
@@ -155,7 +158,7 @@ fn what_the_next_owner_has_deleted_is_no_loss_for_the_one_before() {
     found.keys().for_each(|name| next.remove(name).unwrap());
     next.sync().unwrap();
     proxy.go_on();
-    assert!(is_lost(&writing.join().unwrap().expect_err("the slot is another's")));
+    assert!(is_fenced(&writing.join().unwrap().expect_err("the shard is another's")));
     let (vanished, fenced) = (&store.counts().vanished, &store.counts().fenced);
     assert_eq!((vanished.load(SeqCst), fenced.load(SeqCst)), (0, 1));
 }
@@ -166,11 +169,11 @@ fn a_long_sync_is_there_wholly_or_not_at_all() {
     let Some(server) = Server::start("") else { return };
     make(&server.address());
     let store = open(&server.address(), Copies::One);
-    let (drive, _) = take(&store, 0);
+    let (shard_store, _) = take(&store, 0);
     let (name, mut chance) = (Path::new("journal/1"), Chance(1));
-    let file = drive.create(name).unwrap();
-    drive.write_at(file, b"before", 0).unwrap();
-    drive.sync().unwrap();
+    let file = shard_store.create(name).unwrap();
+    shard_store.write_at(file, b"before", 0).unwrap();
+    shard_store.sync().unwrap();
     server.ask(
         "create function no_room() returns trigger language plpgsql as $$ begin
             if new.place > 16 << 20 then raise exception sqlstate '53100'; end if; return new; end $$",
@@ -179,16 +182,16 @@ fn a_long_sync_is_there_wholly_or_not_at_all() {
         "create trigger no_room before insert on totxegun_store.piece for each row execute function no_room()",
     );
     let long: Vec<u8> = (0..20 << 20).map(|_| chance.below(256) as u8).collect();
-    drive.write_at(file, &long, 6).unwrap();
-    let syncing = thread::spawn(move || drive.sync());
+    shard_store.write_at(file, &long, 6).unwrap();
+    let syncing = thread::spawn(move || shard_store.sync());
     wait_until("it is tried again", || store.counts().doubts.load(SeqCst) > 0);
     let (_, found) = take(&store, 0);
     assert_eq!(found[name].len(), 6, "a part of it is there");
-    assert!(syncing.join().unwrap().is_err(), "the slot is another's");
+    assert!(syncing.join().unwrap().is_err(), "the shard is another's");
 }
 
 #[test]
-fn one_of_those_that_take_a_slot_has_it() {
+fn one_of_those_that_take_a_shard_has_it() {
     let Some(server) = Server::start("") else { return };
     make(&server.address());
     let store = Arc::new(open(&server.address(), Copies::One));
@@ -203,60 +206,60 @@ fn one_of_those_that_take_a_slot_has_it() {
         let won: Vec<_> = taken.iter().filter(|(_, term)| term.is_some()).collect();
         assert_eq!(won.len(), 1, "{taken:?}");
         assert_eq!(won[0].1, Some(term + 1));
-        let slots = wait(store.slots()).unwrap();
-        assert_eq!((slots[5].term, &slots[5].owner[..]), (term + 1, won[0].0));
+        let shards = wait(store.shards()).unwrap();
+        assert_eq!((shards[5].term, &shards[5].owner[..]), (term + 1, won[0].0));
     }
 }
 
 #[test]
-fn beats_go_up_and_a_slot_is_given_away() {
+fn beats_go_up_and_a_shard_is_given_away() {
     let Some(server) = Server::start("") else { return };
     make(&server.address());
     let store = open(&server.address(), Copies::One);
     for _ in 0..3 {
-        wait(store.beat("a", "h1:1", "h1:1", Told::default(), 0)).unwrap();
+        wait(store.heartbeat("a", "h1:1", "h1:1", InstanceReport::default(), 0)).unwrap();
     }
-    wait(store.beat("b", "h2:1", "h2:1", Told::default(), 0)).unwrap();
+    wait(store.heartbeat("b", "h2:1", "h2:1", InstanceReport::default(), 0)).unwrap();
     let mut instances = wait(store.instances()).unwrap().0;
     instances.sort_by(|one, other| one.name.cmp(&other.name));
     let seen: Vec<_> = instances.iter().map(|one| (&one.name[..], &one.address[..], one.beat)).collect();
     assert_eq!(seen, [("a", "h1:1", 3), ("b", "h2:1", 1)]);
     wait(store.leave("b")).unwrap();
     assert_eq!(wait(store.instances()).unwrap().0.len(), 1);
-    wait(store.beat("c", "h3:1", "h3:1", Told::default(), 0)).unwrap();
-    assert!(!wait(store.forget("c", 0)).unwrap(), "it has beaten since");
-    assert!(wait(store.forget("c", 1)).unwrap() && !wait(store.forget("c", 1)).unwrap());
+    wait(store.heartbeat("c", "h3:1", "h3:1", InstanceReport::default(), 0)).unwrap();
+    assert!(!wait(store.remove_row("c", 0)).unwrap(), "it has beaten since");
+    assert!(wait(store.remove_row("c", 1)).unwrap() && !wait(store.remove_row("c", 1)).unwrap());
     assert_eq!(wait(store.instances()).unwrap().0.len(), 1);
-    wait(store.beat("c", "h3:1", "h3:1", Told::default(), 0)).unwrap();
+    wait(store.heartbeat("c", "h3:1", "h3:1", InstanceReport::default(), 0)).unwrap();
     assert_eq!(wait(store.instances()).unwrap().0.len(), 2, "it comes back");
     wait(store.leave("c")).unwrap();
     assert_eq!(wait(store.take(1, 0, "a")).unwrap(), Some(1));
     wait(store.release(1, 0, "a")).unwrap();
-    assert_eq!(wait(store.slots()).unwrap()[1].owner, "a", "of another term");
+    assert_eq!(wait(store.shards()).unwrap()[1].owner, "a", "of another term");
     wait(store.release(1, 1, "b")).unwrap();
-    assert_eq!(wait(store.slots()).unwrap()[1].owner, "a", "of another owner");
+    assert_eq!(wait(store.shards()).unwrap()[1].owner, "a", "of another owner");
     wait(store.release(1, 1, "a")).unwrap();
-    let slot = wait(store.slots()).unwrap().swap_remove(1);
-    assert_eq!((slot.term, &slot.owner[..]), (1, ""));
-    assert!(store.drive(1, 0).is_err(), "it has another term");
+    let shard = wait(store.shards()).unwrap().swap_remove(1);
+    assert_eq!((shard.term, &shard.owner[..]), (1, ""));
+    assert!(store.shard_store(1, 0).is_err(), "it has another term");
 }
 
 /// A store that was restored has lost the first take, and has then given the same term to another owner.
 #[test]
-fn of_two_owners_of_one_term_the_first_neither_opens_the_slot_nor_gives_it_away() {
+fn of_two_owners_of_one_term_the_first_neither_opens_the_shard_nor_gives_it_away() {
     let Some(server) = Server::start("") else { return };
     make(&server.address());
     let (first, second) = (open(&server.address(), Copies::One), open(&server.address(), Copies::One));
     assert_eq!(wait(first.take(3, 0, "a")).unwrap(), Some(1));
-    server.ask("update totxegun_store.slot set term = 0, owner = '', epoch = '' where slot = 3");
+    server.ask("update totxegun_store.shard set term = 0, owner = '', epoch = '' where shard = 3");
     assert_eq!(wait(second.take(3, 0, "b")).unwrap(), Some(1));
-    assert!(first.drive(3, 1).is_err(), "it would write under the other's epoch");
+    assert!(first.shard_store(3, 1).is_err(), "it would write under the other's epoch");
     wait(first.release(3, 1, "a")).unwrap();
-    assert_eq!(wait(second.slots()).unwrap()[3].owner, "b");
-    let drive = second.drive(3, 1).unwrap();
-    drive.create(Path::new("f")).unwrap();
-    drive.sync().unwrap();
-    assert!(second.drive(3, 1).is_ok() && first.drive(3, 1).is_err());
+    assert_eq!(wait(second.shards()).unwrap()[3].owner, "b");
+    let shard_store = second.shard_store(3, 1).unwrap();
+    shard_store.create(Path::new("f")).unwrap();
+    shard_store.sync().unwrap();
+    assert!(second.shard_store(3, 1).is_ok() && first.shard_store(3, 1).is_err());
 }
 
 /// An instance whose heartbeats wait longer counts as gone, and an operator's page is not shown meanwhile. A server that is not silent
@@ -269,8 +272,8 @@ fn a_question_to_a_silent_server_ends_soon_and_the_next_one_is_asked_anew() {
     let store = open(&proxy.address(), Copies::One);
     type Question = fn(&PostgresStore) -> bool;
     let questions: [Question; 4] = [
-        |store| wait(store.beat("a", "h:1", "h:1", Told::default(), 0)).is_ok(),
-        |store| wait(store.slots()).is_ok(),
+        |store| wait(store.heartbeat("a", "h:1", "h:1", InstanceReport::default(), 0)).is_ok(),
+        |store| wait(store.shards()).is_ok(),
         |store| wait(store.instances()).is_ok(),
         |store| wait(store.copies()).is_ok(),
     ];

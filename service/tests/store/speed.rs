@@ -11,7 +11,7 @@ use std::sync::atomic::{AtomicU64, Ordering::SeqCst};
 use std::sync::Mutex;
 use std::thread;
 use std::time::{Duration, Instant};
-use totxegun::files::drive::Drive;
+use totxegun::storage::shard_store::ShardStore;
 use totxegun::store::postgres::Copies;
 
 const LONG: Duration = Duration::from_secs(2);
@@ -77,12 +77,12 @@ fn syncs_a_second() {
                 *durable = end;
             }
         });
-        let (drive, _) = take(&store, number as u16);
-        let journal = drive.create(Path::new("journal/1")).unwrap();
+        let (shard_store, _) = take(&store, number as u16);
+        let journal = shard_store.create(Path::new("journal/1")).unwrap();
         let (before, commits) = (wal(), store.counts().commits.load(SeqCst));
         let in_store = run(64, size, |bytes, at| {
-            drive.write_at(journal, bytes, at).unwrap();
-            drive.sync().unwrap();
+            shard_store.write_at(journal, bytes, at).unwrap();
+            shard_store.sync().unwrap();
         });
         let posts = in_store.0 * LONG.as_secs_f64();
         let commits = store.counts().commits.load(SeqCst) - commits;

@@ -8,11 +8,11 @@ use std::path::Path;
 use std::sync::Arc;
 use std::thread::{self, JoinHandle};
 use std::time::{Duration, Instant};
-use totxegun::cluster::terms::Told;
-use totxegun::files::drive::{is_lost, Drive};
-use totxegun::store::postgres::{Copies, PostgresDrive, PostgresStore};
+use totxegun::cluster::terms::InstanceReport;
+use totxegun::storage::shard_store::{is_fenced, ShardStore};
+use totxegun::store::postgres::{Copies, PostgresShardStore, PostgresStore};
 
-const SLOTS: [u16; 4] = [0, 2, 4, 6];
+const SHARDS: [u16; 4] = [0, 2, 4, 6];
 
 /// A wait that is long for what goes from a shard's thread to the writer.
 const LONG: Duration = Duration::from_millis(500);
@@ -20,38 +20,38 @@ const LONG: Duration = Duration::from_millis(500);
 /// The owner of a shard with a file.
 #[derive(Clone)]
 struct Owner {
-    drive: Arc<PostgresDrive>,
+    shard_store: Arc<PostgresShardStore>,
     file: u64,
 }
 
 impl Owner {
-    fn of(store: &PostgresStore, slot: u16) -> Owner {
-        let (drive, _) = take(store, slot);
-        let file = drive.create(Path::new("journal/1")).unwrap();
-        drive.sync().unwrap();
-        let owner = Owner { drive, file };
+    fn of(store: &PostgresStore, shard: u16) -> Owner {
+        let (shard_store, _) = take(store, shard);
+        let file = shard_store.create(Path::new("journal/1")).unwrap();
+        shard_store.sync().unwrap();
+        let owner = Owner { shard_store, file };
         owner.write("a").unwrap();
         owner
     }
 
     fn write(&self, text: &str) -> std::io::Result<()> {
-        let end = self.drive.length(self.file)?;
-        self.drive.write_at(self.file, text.as_bytes(), end)?;
-        self.drive.sync().map(drop)
+        let end = self.shard_store.length(self.file)?;
+        self.shard_store.write_at(self.file, text.as_bytes(), end)?;
+        self.shard_store.sync().map(drop)
     }
 
     /// Writes on a thread of its own. When this returns, that thread waits for the store.
     fn writes(&self, text: &'static str) -> JoinHandle<std::io::Result<()>> {
         let owner = self.clone();
         let writing = thread::spawn(move || owner.write(text));
-        wait_until("it waits", || self.drive.under_way() > Duration::ZERO);
+        wait_until("it waits", || self.shard_store.under_way() > Duration::ZERO);
         writing
     }
 
     fn replace_file(&self) {
-        self.drive.remove(Path::new("journal/1")).unwrap();
-        self.drive.create(Path::new("journal/2")).unwrap();
-        self.drive.sync().unwrap();
+        self.shard_store.remove(Path::new("journal/1")).unwrap();
+        self.shard_store.create(Path::new("journal/2")).unwrap();
+        self.shard_store.sync().unwrap();
     }
 }
 
@@ -61,14 +61,14 @@ fn who_syncs_and_who_syncs_meanwhile_both_go_on() {
     let Some(server) = Server::start("") else { return };
     make(&server.address());
     let store = open(&server.address(), Copies::One);
-    let owners = SLOTS.map(|slot| Owner::of(&store, slot));
+    let owners = SHARDS.map(|shard| Owner::of(&store, shard));
     let until = Instant::now() + 4 * LONG;
     let works = |owner: &Owner, length: usize| {
         let owner = owner.clone();
         thread::spawn(move || {
             while Instant::now() < until {
-                owner.drive.write_at(owner.file, &vec![b'x'; length], 0).unwrap();
-                owner.drive.sync().unwrap();
+                owner.shard_store.write_at(owner.file, &vec![b'x'; length], 0).unwrap();
+                owner.shard_store.sync().unwrap();
             }
         })
     };
@@ -80,21 +80,21 @@ fn who_syncs_and_who_syncs_meanwhile_both_go_on() {
     // A shard that is lost while its write waits is not waited for.
     let syncs = owners[0].clone();
     let waiting = thread::spawn(move || syncs.write("y"));
-    owners[0].drive.lose();
+    owners[0].shard_store.fence_off();
     let _ = waiting.join().unwrap();
     owners[1].write("y").unwrap();
-    assert!(is_lost(&owners[0].write("z").unwrap_err()));
+    assert!(is_fenced(&owners[0].write("z").unwrap_err()));
 }
 
 /// Otherwise each of them would wait for the lock, as for a write that waits for its standby.
 #[test]
-fn a_slot_whose_row_is_locked_keeps_no_other_slot_waiting() {
+fn a_shard_whose_row_is_locked_keeps_no_other_shard_waiting() {
     let Some(server) = Server::start("") else { return };
     make(&server.address());
     let store = open(&server.address(), Copies::One);
-    let owners = SLOTS.map(|slot| Owner::of(&store, slot));
+    let owners = SHARDS.map(|shard| Owner::of(&store, shard));
     thread::scope(|scope| {
-        let lock = "select 1 from totxegun_store.slot where slot = 0 for update; select pg_sleep(5)";
+        let lock = "select 1 from totxegun_store.shard where shard = 0 for update; select pg_sleep(5)";
         scope.spawn(|| server.ask(lock));
         wait_until("the row is locked", || server.ask(&waiting("PgSleep")) == "1");
         let locked = owners[0].writes("b");
@@ -109,7 +109,7 @@ fn a_slot_whose_row_is_locked_keeps_no_other_slot_waiting() {
         assert_eq!(server.ask(&waiting("PgSleep")), "1", "the row was locked all the time");
         locked.join().unwrap().unwrap();
     });
-    assert_eq!(take(&store, SLOTS[0]).1[Path::new("journal/1")], b"ab");
+    assert_eq!(take(&store, SHARDS[0]).1[Path::new("journal/1")], b"ab");
 }
 
 /// Starts a long write, which takes the server five seconds.
@@ -125,8 +125,8 @@ fn slow_write(server: &Server, owner: &Owner) -> JoinHandle<()> {
     let long: Vec<u8> = (0..300_000).map(|_| chance.below(256) as u8).collect();
     let owner = owner.clone();
     let writing = thread::spawn(move || {
-        owner.drive.write_at(owner.file, &long, 1).unwrap();
-        owner.drive.sync().unwrap();
+        owner.shard_store.write_at(owner.file, &long, 1).unwrap();
+        owner.shard_store.sync().unwrap();
     });
     wait_until("the long one is on its way", || server.ask(&waiting("PgSleep")) == "1");
     writing
@@ -137,7 +137,7 @@ fn a_long_write_holds_up_no_short_ones() {
     let Some(server) = Server::start("") else { return };
     make(&server.address());
     let store = open(&server.address(), Copies::One);
-    let owners = SLOTS.map(|slot| Owner::of(&store, slot));
+    let owners = SHARDS.map(|shard| Owner::of(&store, shard));
     let writing = slow_write(&server, &owners[0]);
     let begun = Instant::now();
     owners[1..].iter().for_each(|owner| owner.write("b").unwrap());
@@ -148,11 +148,11 @@ fn a_long_write_holds_up_no_short_ones() {
 
 /// Deletions of files and retries are long writes too.
 #[test]
-fn a_long_write_holds_up_long_ones_of_few_other_slots() {
+fn a_long_write_holds_up_long_ones_of_few_other_shards() {
     let Some(server) = Server::start("") else { return };
     make(&server.address());
     let store = open(&server.address(), Copies::One);
-    let owners = [0, 1, 2, 3].map(|slot| Owner::of(&store, slot));
+    let owners = [0, 1, 2, 3].map(|shard| Owner::of(&store, shard));
     let writing = slow_write(&server, &owners[0]);
     let begun = Instant::now();
     thread::scope(|scope| owners[1..].iter().for_each(|owner| drop(scope.spawn(|| owner.replace_file()))));
@@ -172,12 +172,12 @@ fn who_waits_for_a_locked_row_makes_few_connections() {
     let owner = Owner::of(&store, 0);
     let taken = wait(store.take(1, 0, "a")).unwrap().unwrap();
     thread::scope(|scope| {
-        let lock = "select 1 from totxegun_store.slot where slot < 2 for update; select pg_sleep(4)";
+        let lock = "select 1 from totxegun_store.shard where shard < 2 for update; select pg_sleep(4)";
         scope.spawn(|| server.ask(lock));
         wait_until("the rows are locked", || server.ask(&waiting("PgSleep")) == "1");
         let before = proxy.connections();
         let writing = owner.writes("b");
-        let opening = scope.spawn(|| store.drive(1, taken).map(drop));
+        let opening = scope.spawn(|| store.shard_store(1, taken).map(drop));
         wait_until("the rows are free", || server.ask(&waiting("PgSleep")) == "0");
         let made = proxy.connections() - before;
         writing.join().unwrap().unwrap();
@@ -188,20 +188,20 @@ fn who_waits_for_a_locked_row_makes_few_connections() {
 
 /// The shard's row is locked, and a read waits for it.
 #[test]
-fn who_is_read_meanwhile_keeps_no_other_slot_waiting() {
+fn who_is_read_meanwhile_keeps_no_other_shard_waiting() {
     let Some(server) = Server::start("") else { return };
     make(&server.address());
     let store = open(&server.address(), Copies::One);
-    let [read, other] = [SLOTS[0], SLOTS[1]].map(|slot| Owner::of(&store, slot));
+    let [read, other] = [SHARDS[0], SHARDS[1]].map(|shard| Owner::of(&store, shard));
     // The first piece is neither in memory nor in the store any more, so the server that writes is asked for it.
-    read.drive.write_at(read.file, &vec![7; 6 << 20], 1).unwrap();
-    read.drive.sync().unwrap();
-    server.ask("delete from totxegun_store.piece where slot = 0 and place = 0");
+    read.shard_store.write_at(read.file, &vec![7; 6 << 20], 1).unwrap();
+    read.shard_store.sync().unwrap();
+    server.ask("delete from totxegun_store.piece where shard = 0 and place = 0");
     thread::scope(|scope| {
-        let lock = "select 1 from totxegun_store.slot where slot = 0 for update; select pg_sleep(5)";
+        let lock = "select 1 from totxegun_store.shard where shard = 0 for update; select pg_sleep(5)";
         scope.spawn(|| server.ask(lock));
         wait_until("the row is locked", || server.ask(&waiting("PgSleep")) == "1");
-        let reading = scope.spawn(|| read.drive.read_at(read.file, &mut [0], 0).unwrap_err());
+        let reading = scope.spawn(|| read.shard_store.read_at(read.file, &mut [0], 0).unwrap_err());
         thread::sleep(LONG);
         assert!(!reading.is_finished(), "it waits");
         let writing = read.writes("b");
@@ -219,13 +219,13 @@ fn waiting(event: &str) -> String {
 }
 
 #[test]
-fn writes_of_several_slots_are_one_transaction_and_each_is_fenced_by_itself() {
+fn writes_of_several_shards_are_one_transaction_and_each_is_fenced_by_itself() {
     let Some(server) = Server::start("") else { return };
     let proxy = Proxy::start(server.port);
     make(&server.address());
     let store = open(&proxy.address(), Copies::One);
     let direct = open(&server.address(), Copies::One);
-    let owners = SLOTS.map(|slot| Owner::of(&store, slot));
+    let owners = SHARDS.map(|shard| Owner::of(&store, shard));
     proxy.stop_after(0);
     let [text, texts @ ..] = ["b", "c", "d", "e"];
     let first = owners[0].writes(text);
@@ -233,36 +233,36 @@ fn writes_of_several_slots_are_one_transaction_and_each_is_fenced_by_itself() {
     let others = owners[1..].iter().zip(texts);
     let others: Vec<_> = others.map(|(owner, text)| owner.writes(text)).collect();
     thread::sleep(LONG);
-    let (_taker, found) = take(&direct, SLOTS[2]);
+    let (_taker, found) = take(&direct, SHARDS[2]);
     proxy.go_on();
     first.join().unwrap().unwrap();
     let [second, third, fourth] = others.try_into().unwrap();
     second.join().unwrap().unwrap();
     fourth.join().unwrap().unwrap();
-    assert!(is_lost(&third.join().unwrap().unwrap_err()));
+    assert!(is_fenced(&third.join().unwrap().unwrap_err()));
     assert_eq!(found[Path::new("journal/1")], b"a");
-    let last = "select count(distinct made) from (select distinct on (slot) xmin::text as made from totxegun_store.piece
-        where slot in (2, 6) order by slot, number desc) as last";
+    let last = "select count(distinct made) from (select distinct on (shard) xmin::text as made from totxegun_store.piece
+        where shard in (2, 6) order by shard, number desc) as last";
     assert_eq!(server.ask(last), "1", "one transaction for both");
-    for (slot, text) in [(SLOTS[0], b"ab"), (SLOTS[1], b"ac"), (SLOTS[3], b"ae")] {
-        assert_eq!(take(&direct, slot).1[Path::new("journal/1")], text, "slot {slot}");
+    for (shard, text) in [(SHARDS[0], b"ab"), (SHARDS[1], b"ac"), (SHARDS[3], b"ae")] {
+        assert_eq!(take(&direct, shard).1[Path::new("journal/1")], text, "shard {shard}");
     }
-    assert_eq!(take(&direct, SLOTS[2]).1, found);
+    assert_eq!(take(&direct, SHARDS[2]).1, found);
 }
 
 /// As after an opening that failed: an instance may take a shard again while a write of the earlier owner waits.
 #[test]
-fn of_two_owners_of_a_slot_in_one_transaction_the_later_one_alone_has_written() {
+fn of_two_owners_of_a_shard_in_one_transaction_the_later_one_alone_has_written() {
     let Some(server) = Server::start("") else { return };
     let proxy = Proxy::start(server.port);
     make(&server.address());
     let store = open(&proxy.address(), Copies::One);
     let other = Owner::of(&store, 5);
-    for (slot, is_earlier_first) in [(0, true), (1, false)] {
-        let earlier = Owner::of(&store, slot);
-        let drive = take(&store, slot).0;
-        let file = drive.open(Path::new("journal/1")).unwrap();
-        let later = Owner { drive, file };
+    for (shard, is_earlier_first) in [(0, true), (1, false)] {
+        let earlier = Owner::of(&store, shard);
+        let shard_store = take(&store, shard).0;
+        let file = shard_store.open(Path::new("journal/1")).unwrap();
+        let later = Owner { shard_store, file };
         proxy.stop_after(0);
         let first = other.writes("b");
         wait_until("the lane is busy", || proxy.holds());
@@ -276,10 +276,11 @@ fn of_two_owners_of_a_slot_in_one_transaction_the_later_one_alone_has_written() 
         let [one, two] = both.map(|writing| writing.join().unwrap());
         let (of_earlier, of_later) = if is_earlier_first { (one, two) } else { (two, one) };
         of_later.unwrap();
-        assert!(is_lost(&of_earlier.expect_err("the slot is another's")));
-        let written = format!("select count(*) from totxegun_store.piece where slot = {slot} and place = 1");
-        assert_eq!(server.ask(&written), "1", "who had lost the slot wrote to it");
-        assert_eq!(take(&store, slot).1[Path::new("journal/1")], b"ay");
+        assert!(is_fenced(&of_earlier.expect_err("the shard is another's")));
+        let written =
+            format!("select count(*) from totxegun_store.piece where shard = {shard} and place = 1");
+        assert_eq!(server.ask(&written), "1", "who had lost the shard wrote to it");
+        assert_eq!(take(&store, shard).1[Path::new("journal/1")], b"ay");
     }
 }
 
@@ -291,7 +292,7 @@ fn who_asks_by_a_silent_connection_leaves_it_once_another_one_breaks() {
     let proxy = Proxy::start(server.port);
     make(&server.address());
     let store = open(&proxy.address(), Copies::One);
-    let owners = [0, 1].map(|slot| Owner::of(&store, slot));
+    let owners = [0, 1].map(|shard| Owner::of(&store, shard));
     server.ask(
         "create function slow() returns trigger language plpgsql as $$ begin
             if new.place > 0 then perform pg_sleep(1); end if; return new; end $$",
@@ -305,7 +306,7 @@ fn who_asks_by_a_silent_connection_leaves_it_once_another_one_breaks() {
         server.ask("select pg_terminate_backend(pid) from pg_stat_activity where wait_event = 'PgSleep'");
         writing
     };
-    for question in ["set link = link + 1", "as last (slot"] {
+    for question in ["set connection_epoch = connection_epoch + 1", "as last (shard"] {
         // A new connection names the query too, so the connections of both are made before.
         for owner in &owners {
             owner.write("a").unwrap();
@@ -325,7 +326,7 @@ fn who_asks_by_a_silent_connection_leaves_it_once_another_one_breaks() {
     proxy.silence_at("totxegun_store.instance as i");
     let begun = Instant::now();
     thread::scope(|scope| {
-        let beat = scope.spawn(|| wait(store.beat("a", "h:1", "h:1", Told::default(), 0)));
+        let beat = scope.spawn(|| wait(store.heartbeat("a", "h:1", "h:1", InstanceReport::default(), 0)));
         wait_until("it is silent", || proxy.holds());
         breaks_in_a_write(&owners[1]).join().unwrap().unwrap();
         assert!(beat.join().unwrap().is_err(), "it is not known to be there");
@@ -333,24 +334,24 @@ fn who_asks_by_a_silent_connection_leaves_it_once_another_one_breaks() {
     let took = begun.elapsed();
     assert!(took < Duration::from_secs(12), "a beat took {took:?}");
     proxy.go_on();
-    assert!(wait(store.beat("a", "h:1", "h:1", Told::default(), 0)).is_ok());
+    assert!(wait(store.heartbeat("a", "h:1", "h:1", InstanceReport::default(), 0)).is_ok());
 }
 
 /// Each of the shards repeats its write, and changes its data before that is done.
 #[test]
-fn what_comes_late_of_a_transaction_of_several_slots_is_done_for_none() {
+fn what_comes_late_of_a_transaction_of_several_shards_is_done_for_none() {
     let Some(server) = Server::start("") else { return };
     let proxy = Proxy::start(server.port);
     make(&server.address());
     let store = open(&proxy.address(), Copies::One);
-    let owners = SLOTS.map(|slot| Owner::of(&store, slot));
+    let owners = SHARDS.map(|shard| Owner::of(&store, shard));
     for owner in &owners {
-        owner.drive.create(Path::new("journal/0")).unwrap();
-        owner.drive.sync().unwrap();
+        owner.shard_store.create(Path::new("journal/0")).unwrap();
+        owner.shard_store.sync().unwrap();
         owner.write("b").unwrap();
     }
     let together =
-        "select string_agg(pid::text, ',') from pg_stat_activity where query like '%new.slot = mine.slot%'
+        "select string_agg(pid::text, ',') from pg_stat_activity where query like '%new.shard = mine.shard%'
         and pid != pg_backend_pid()";
     let together = server.ask(together);
     proxy.stop_after(0);
@@ -372,8 +373,8 @@ fn what_comes_late_of_a_transaction_of_several_slots_is_done_for_none() {
     let left = format!("select count(*) from pg_stat_activity where pid in ({together})");
     wait_until("it is done", || server.ask(&left) == "0");
     assert_eq!(server.ask(STRAYS), "0", "what came late was done");
-    for slot in SLOTS {
-        let (next, found) = take(&store, slot);
+    for shard in SHARDS {
+        let (next, found) = take(&store, shard);
         assert_eq!(found.len(), 2);
         assert!(contents(&*next) == found);
     }

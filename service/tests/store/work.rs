@@ -3,8 +3,8 @@
 use std::collections::BTreeMap;
 use std::path::{Path, PathBuf};
 use std::sync::Arc;
-use totxegun::files::drive::{is_lost, Drive};
-use totxegun::store::postgres::{PostgresDrive, PostgresStore};
+use totxegun::storage::shard_store::{is_fenced, ShardStore};
+use totxegun::store::postgres::{PostgresShardStore, PostgresStore};
 
 pub type Contents = BTreeMap<PathBuf, Vec<u8>>;
 
@@ -19,7 +19,7 @@ impl Chance {
 
 /// An owner of a shard at work.
 pub struct Work {
-    pub drive: Arc<PostgresDrive>,
+    pub shard_store: Arc<PostgresShardStore>,
     pub now: Contents,
     /// The content at the beginning of the last confirmed sync, and at the beginning of one that is not confirmed yet.
     pub synced: Contents,
@@ -30,9 +30,9 @@ pub struct Work {
 
 impl Work {
     /// Work of the next owner, which starts with the content that it finds.
-    pub fn take(store: &PostgresStore, slot: u16, seed: u64) -> Work {
-        let (drive, found) = take(store, slot);
-        Work { drive, now: found.clone(), synced: found, begun: None, syncs: 0, chance: Chance(seed) }
+    pub fn take(store: &PostgresStore, shard: u16, seed: u64) -> Work {
+        let (shard_store, found) = take(store, shard);
+        Work { shard_store, now: found.clone(), synced: found, begun: None, syncs: 0, chance: Chance(seed) }
     }
 
     fn name(&mut self) -> PathBuf {
@@ -45,17 +45,17 @@ impl Work {
         let name = self.name();
         match self.chance.below(10) {
             0..=1 => {
-                let made = self.drive.create(&name);
+                let made = self.shard_store.create(&name);
                 assert!(made.is_ok() != self.now.contains_key(&name) || was_lost(made.err()));
                 self.now.entry(name).or_default();
             }
             2 => {
-                let removed = self.drive.remove(&name);
+                let removed = self.shard_store.remove(&name);
                 assert!(removed.is_ok() == self.now.remove(&name).is_some() || was_lost(removed.err()));
             }
             3 => {
                 let to = self.name();
-                let renamed = self.drive.rename(&name, &to);
+                let renamed = self.shard_store.rename(&name, &to);
                 let moved = self.now.remove(&name);
                 assert!(renamed.is_ok() == moved.is_some() || was_lost(renamed.err()));
                 moved.map(|bytes| self.now.insert(to, bytes));
@@ -81,7 +81,8 @@ impl Work {
             (0..length as u64).map(|place| ((place * step) >> 3) as u8 ^ first as u8).collect();
         there.resize(there.len().max(at + length), 0);
         there[at..at + length].copy_from_slice(&bytes);
-        let written = self.drive.open(name).and_then(|file| self.drive.write_at(file, &bytes, at as u64));
+        let written =
+            self.shard_store.open(name).and_then(|file| self.shard_store.write_at(file, &bytes, at as u64));
         assert!(written.is_ok() || was_lost(written.err()));
     }
 
@@ -89,14 +90,14 @@ impl Work {
     pub fn sync(&mut self) -> bool {
         let begun = self.now.clone();
         self.begun = Some(begun);
-        match self.drive.sync() {
+        match self.shard_store.sync() {
             Ok(_) => {
                 self.synced = self.begun.take().unwrap();
                 self.syncs += 1;
                 true
             }
             Err(error) => {
-                assert!(is_lost(&error), "{error}");
+                assert!(is_fenced(&error), "{error}");
                 false
             }
         }
@@ -112,15 +113,15 @@ impl Work {
     pub fn check(&mut self) {
         let name = self.name();
         let Some(there) = self.now.get(&name) else {
-            assert!(self.drive.open(&name).is_err());
+            assert!(self.shard_store.open(&name).is_err());
             return;
         };
-        let file = self.drive.open(&name).unwrap();
-        assert_eq!(self.drive.length(file).unwrap(), there.len() as u64);
+        let file = self.shard_store.open(&name).unwrap();
+        assert_eq!(self.shard_store.length(file).unwrap(), there.len() as u64);
         let at = self.chance.below(there.len() as u64 + 1);
         let length = self.chance.below(100_000) as usize;
         assert!(
-            read(&*self.drive, file, at, length)
+            read(&*self.shard_store, file, at, length)
                 == there[at as usize..][..length.min(there.len() - at as usize)]
         );
     }
@@ -132,14 +133,14 @@ impl Work {
 }
 
 fn was_lost(error: Option<std::io::Error>) -> bool {
-    error.is_some_and(|error| is_lost(&error))
+    error.is_some_and(|error| is_fenced(&error))
 }
 
-fn read(drive: &dyn Drive, file: u64, at: u64, length: usize) -> Vec<u8> {
+fn read(shard_store: &dyn ShardStore, file: u64, at: u64, length: usize) -> Vec<u8> {
     let mut bytes = vec![0; length];
     let mut done = 0;
     loop {
-        match drive.read_at(file, &mut bytes[done..], at + done as u64).unwrap() {
+        match shard_store.read_at(file, &mut bytes[done..], at + done as u64).unwrap() {
             0 => break,
             more => done += more,
         }
@@ -148,41 +149,41 @@ fn read(drive: &dyn Drive, file: u64, at: u64, length: usize) -> Vec<u8> {
     bytes
 }
 
-pub fn contents(drive: &dyn Drive) -> Contents {
+pub fn contents(shard_store: &dyn ShardStore) -> Contents {
     let mut all = Contents::new();
     for folder in ["journal", "outbox", "dead-letters"] {
-        for name in drive.list(Path::new(folder)).unwrap() {
+        for name in shard_store.list(Path::new(folder)).unwrap() {
             let name = Path::new(folder).join(name);
-            let file = drive.open(&name).unwrap();
-            let length = drive.length(file).unwrap();
-            all.insert(name, read(drive, file, 0, length as usize));
+            let file = shard_store.open(&name).unwrap();
+            let length = shard_store.length(file).unwrap();
+            all.insert(name, read(shard_store, file, 0, length as usize));
         }
     }
     all
 }
 
 /// Takes the shard as the next owner. Returns what it finds.
-pub fn take(store: &PostgresStore, slot: u16) -> (Arc<PostgresDrive>, Contents) {
-    let drive = taken(store, slot);
-    let found = contents(&*drive);
-    (drive, found)
+pub fn take(store: &PostgresStore, shard: u16) -> (Arc<PostgresShardStore>, Contents) {
+    let shard_store = taken(store, shard);
+    let found = contents(&*shard_store);
+    (shard_store, found)
 }
 
 /// Takes the shard as the next owner, which has read nothing yet.
-pub fn taken(store: &PostgresStore, slot: u16) -> Arc<PostgresDrive> {
+pub fn taken(store: &PostgresStore, shard: u16) -> Arc<PostgresShardStore> {
     loop {
-        let term = term_of(store, slot);
-        if let Ok(Some(term)) = wait(store.take(slot, term, "next")) {
-            return store.drive(slot, term).expect("nobody else takes it");
+        let term = term_of(store, shard);
+        if let Ok(Some(term)) = wait(store.take(shard, term, "next")) {
+            return store.shard_store(shard, term).expect("nobody else takes it");
         }
         std::thread::sleep(std::time::Duration::from_millis(50));
     }
 }
 
-fn term_of(store: &PostgresStore, slot: u16) -> u64 {
+fn term_of(store: &PostgresStore, shard: u16) -> u64 {
     loop {
-        if let Ok(slots) = wait(store.slots()) {
-            return slots.iter().find(|owned| owned.slot == slot).unwrap().term;
+        if let Ok(shards) = wait(store.shards()) {
+            return shards.iter().find(|owned| owned.shard == shard).unwrap().term;
         }
         std::thread::sleep(std::time::Duration::from_millis(50));
     }

@@ -6,7 +6,7 @@ use hyper::http::request::Builder;
 use std::fmt;
 use subtle::ConstantTimeEq;
 
-const SLOT: &str = "totxegun-slot";
+const SHARD: &str = "totxegun-shard";
 const TERM: &str = "totxegun-term";
 const SENDER: &str = "totxegun-sender";
 const SECRET: &str = "totxegun-secret";
@@ -44,7 +44,7 @@ impl fmt::Debug for Secret {
 
 #[derive(Clone, Debug, PartialEq, Eq)]
 pub(super) struct Head {
-    pub slot: u16,
+    pub shard: u16,
     pub term: u64,
     pub sender: String,
     pub encoding: Encoding,
@@ -58,7 +58,7 @@ impl Head {
         };
         secret
             .put(request)
-            .header(SLOT, self.slot)
+            .header(SHARD, self.shard)
             .header(TERM, self.term)
             .header(SENDER, self.sender.as_str())
             .header(CONTENT_TYPE, content_type)
@@ -73,7 +73,7 @@ impl Head {
             _ => return None,
         };
         Some(Head {
-            slot: text(SLOT)?.parse().ok()?,
+            shard: text(SHARD)?.parse().ok()?,
             term: text(TERM)?.parse().ok()?,
             sender: text(SENDER)?.into(),
             encoding,
@@ -90,7 +90,7 @@ mod tests {
     fn a_head_is_read_as_it_was_put_and_a_wrong_secret_is_none() {
         let secret = Secret::new("a secret").unwrap();
         let head = Head {
-            slot: 65535,
+            shard: 65535,
             term: u64::MAX,
             sender: "web-1.example".into(),
             encoding: Encoding::Protobuf,
@@ -104,7 +104,7 @@ mod tests {
         assert!(!secret.is_in(&HeaderMap::new()));
         assert!(Secret::new("").is_none() && Secret::new("two\nlines").is_none());
         assert_eq!(format!("{secret:?}"), "Secret(..)");
-        for name in [SLOT, TERM, SENDER, "content-type"] {
+        for name in [SHARD, TERM, SENDER, "content-type"] {
             let mut heads = request.headers().clone();
             heads.remove(name);
             assert_eq!(Head::read(&heads), None, "{name}");

@@ -8,10 +8,10 @@ use super::operators::{self, Answers};
 use super::peer::SHORT;
 use super::{on_the_way, owner_answer, Here, PATH};
 use crate::cluster::local_view::Cluster;
-use crate::cluster::owners::Whose;
+use crate::cluster::owners::ShardOwner;
 use crate::cluster::terms::Doing;
-use crate::intake::connections::Handler;
-use crate::intake::{Intake, Taker};
+use crate::ingest::connections::Handler;
+use crate::ingest::{Ingest, PostHandler};
 use crate::otlp::{Original, Outcome};
 use bytes::Bytes;
 use hyper::body::HttpBody;
@@ -27,7 +27,7 @@ use tokio::time::timeout;
 /// add less than 2^20 * (86 / 81 + 68 / 63), which is less than 2^20 * 35 / 16.
 const NAMES: usize = 35 << 16;
 /// A part is never longer than its request with these bytes.
-const MOST: usize = crate::intake::MOST + NAMES;
+const MOST: usize = crate::ingest::MOST + NAMES;
 /// How many long parts are in memory at once, whichever instances send them; each instance keeps to its share (`peer`).
 pub(super) const PARTS: usize = 64;
 /// The deadline for a body, in addition to the time for its transfer.
@@ -69,7 +69,7 @@ impl<H: Here> Internal<H> {
         }
         let head = Head::read(request.headers())
             .ok_or_else(|| owner_answer::refused(400, "a header is missing or malformed"))?;
-        if self.cluster.whose(head.slot) != (Whose::Here { term: head.term }) {
+        if self.cluster.whose(head.shard) != (ShardOwner::Here { term: head.term }) {
             return Err(owner_answer::not_mine());
         }
         if let Some(why) = self.cluster.unavailable() {
@@ -85,7 +85,7 @@ impl<H: Here> Internal<H> {
         let body = body.ok_or_else(|| owner_answer::refused(400, "the body is incomplete or too long"))?;
         let part = Original { encoding: head.encoding, body };
         // The shard checks itself whether it is still open here.
-        let outcome = self.here.post(head.slot, head.term, &head.sender, part).await;
+        let outcome = self.here.post(head.shard, head.term, &head.sender, part).await;
         Ok(outcome.map_or_else(owner_answer::not_mine, |outcome| owner_answer::answer(&outcome)))
     }
 }
@@ -96,16 +96,16 @@ impl<H: Here> Handler for Internal<H> {
     }
 }
 
-impl<T: Taker> Here for Intake<T> {
+impl<T: PostHandler> Here for Ingest<T> {
     /// A shard that is open here has the term that was checked before, or a later one of this instance.
     fn post<'a>(
         &'a self,
-        slot: u16,
+        shard: u16,
         _term: u64,
         sender: &'a str,
         part: Original,
     ) -> Doing<'a, Option<Outcome>> {
-        Box::pin(self.forwarded(slot, sender, part))
+        Box::pin(self.forwarded(shard, sender, part))
     }
 }
 

@@ -1,8 +1,8 @@
-//! Questions of operators to one instance about another, on their way between instances. Only `operate` knows what the
+//! Questions of operators to one instance about another, on their way between instances. Only `admin` knows what the
 //! bytes mean.
 
 use super::internal::{whole, Internal};
-use super::{owner_answer, Broken, Forward, Forwarded, Here, Unanswering};
+use super::{owner_answer, Broken, Forward, Forwarded, Here, UnresponsivePeer};
 use crate::cluster::terms::Doing;
 use crate::work::locked;
 use bytes::Bytes;
@@ -36,7 +36,7 @@ pub trait Asks: Send + Sync + 'static {
     fn forwarded(&self) -> Forwarded;
 
     /// The instances that answer no posts.
-    fn unanswering(&self) -> Vec<Unanswering>;
+    fn unanswering(&self) -> Vec<UnresponsivePeer>;
 }
 
 impl<H: Here> Asks for Forward<H> {
@@ -56,7 +56,7 @@ impl<H: Here> Asks for Forward<H> {
         *locked(&self.counts)
     }
 
-    fn unanswering(&self) -> Vec<Unanswering> {
+    fn unanswering(&self) -> Vec<UnresponsivePeer> {
         self.peers.unanswering()
     }
 }

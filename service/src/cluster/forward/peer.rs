@@ -37,7 +37,7 @@ pub(super) struct Peer {
     connections: Semaphore,
     kib: Semaphore,
     /// None if the last post was answered.
-    silent: Mutex<Option<Silent>>,
+    silent: Mutex<Option<UnansweredPosts>>,
     /// How many checks in a row have failed.
     failed: AtomicU32,
     /// False after several failed checks.
@@ -45,14 +45,14 @@ pub(super) struct Peer {
 }
 
 /// Posts in a row that got no answer.
-struct Silent {
+struct UnansweredPosts {
     /// When the first of them arrived.
     since: Instant,
     last: Instant,
     why: String,
 }
 
-impl Silent {
+impl UnansweredPosts {
     fn is_over(&self) -> bool {
         self.last.elapsed() > SHOWN
     }
@@ -64,7 +64,7 @@ impl Silent {
 
 /// An instance that answers no posts.
 #[derive(Clone, Debug, PartialEq, Eq)]
-pub struct Unanswering {
+pub struct UnresponsivePeer {
     pub address: String,
     pub time: Duration,
     pub why: String,
@@ -87,12 +87,12 @@ impl Peers {
     }
 
     /// The instances that have answered no post for long, and still get some.
-    pub fn unanswering(&self) -> Vec<Unanswering> {
+    pub fn unanswering(&self) -> Vec<UnresponsivePeer> {
         let unanswering = |peer: &Arc<Peer>| {
             let silent = locked(&peer.silent);
             let silent = silent.as_ref().filter(|silent| silent.is_long() && !silent.is_over())?;
             let (address, time) = (peer.address.clone(), silent.since.elapsed());
-            Some(Unanswering { address, time, why: silent.why.clone() })
+            Some(UnresponsivePeer { address, time, why: silent.why.clone() })
         };
         locked(&self.0).values().filter_map(unanswering).collect()
     }
@@ -141,7 +141,7 @@ impl Peer {
         let mut silent = locked(&self.silent);
         let before = silent.take().filter(|before| !before.is_over());
         let since = before.map_or(came, |before| before.since);
-        silent.insert(Silent { since, last: Instant::now(), why: why.into() }).is_long()
+        silent.insert(UnansweredPosts { since, last: Instant::now(), why: why.into() }).is_long()
     }
 }
 

@@ -6,11 +6,11 @@ mod room;
 mod tls;
 
 use super::*;
-use crate::core::Refused;
+use crate::book::Refused;
 use crate::otlp::{with_sender_attributes, Attributed, SenderNames};
 use crate::otlp::{Causes, Encoding, Off, OffClock, Reading, Rejection, Resources};
 use bytes::Bytes;
-use peers::{ends_after_one, posted, receiver, secret, slow_way, strange, there, Peer, Slots};
+use peers::{ends_after_one, posted, receiver, secret, slow_way, strange, there, Peer, Shards};
 use std::sync::atomic::Ordering::SeqCst;
 use tokio::net::TcpListener;
 use tokio::time::sleep;
@@ -22,7 +22,7 @@ async fn an_owners_answer_comes_back_as_it_said_it() {
     let unfit = Some("zw\u{f6}lf \"points\"\n".to_string());
     let causes: Causes = [(Reason::Gauge, 2), (Reason::WentDown, 1)].into_iter().collect();
     let parts = vec![(3, Rejection::from(Reason::Quarantined))];
-    let over_quota = Rejection { seconds: Some(17), ..Rejection::new(Reason::OverShare, "its share") };
+    let over_quota = Rejection { seconds: Some(17), ..Rejection::new(Reason::OverQuota, "its share") };
     let says = [
         Outcome::taken(0),
         Outcome::taken(7),
@@ -36,13 +36,13 @@ async fn an_owners_answer_comes_back_as_it_said_it() {
     let peer = Peer::here().await;
     let forward = receiver(peer.whose(), secret("of all"));
     for outcome in &says {
-        peer.slots.says.lock().unwrap().push_back(Some(outcome.clone()));
+        peer.shards.says.lock().unwrap().push_back(Some(outcome.clone()));
         assert_eq!(posted(&forward, "{}").await, *outcome);
     }
     let body = Bytes::from([0, 159, 255, 10].repeat(1 << 18));
     let part = Original { encoding: Encoding::Protobuf, body: body.clone() };
     assert_eq!(forward.post(3, "web-2", part).await, Outcome::taken(0));
-    let came = peer.slots.came.lock().unwrap().clone();
+    let came = peer.shards.came.lock().unwrap().clone();
     assert_eq!(came[0], (3, 5, "web-1".into(), Encoding::Json, Bytes::from_static(b"{}")));
     assert_eq!(came[says.len()], (3, 5, "web-2".into(), Encoding::Protobuf, body));
     assert_eq!(came.len(), says.len() + 1);
@@ -83,7 +83,7 @@ async fn a_long_part_is_waited_for_as_long_as_a_slow_way_takes() {
     let (began, part) = (Instant::now(), Original { encoding: Encoding::Json, body: body.clone() });
     assert_eq!(forward.post(3, "web-1", part).await, Outcome::taken(0));
     assert!(began.elapsed() > WITHIN, "{:?}", began.elapsed());
-    let came = peer.slots.came.lock().unwrap().clone();
+    let came = peer.shards.came.lock().unwrap().clone();
     assert!(came.len() == 1 && came[0].4 == body);
 }
 
@@ -91,14 +91,14 @@ async fn a_long_part_is_waited_for_as_long_as_a_slow_way_takes() {
 fn longest_json(resources: usize) -> Bytes {
     let all = vec![r#"{"a":0}"#; resources].join(",");
     let around = r#"{"resourceMetrics":[],"b":""}"#.len();
-    let rest = "x".repeat(crate::intake::MOST - around - all.len());
+    let rest = "x".repeat(crate::ingest::MOST - around - all.len());
     format!(r#"{{"resourceMetrics":[{all}],"b":"{rest}"}}"#).into()
 }
 
 #[tokio::test]
 async fn not_mine_is_asked_again_of_who_has_it_then() {
     let (old, new) = (Peer::here().await, Peer::here().await);
-    old.cluster.knows(&[(3, Whose::Here { term: 6 })]); // another term
+    old.cluster.knows(&[(3, ShardOwner::Here { term: 6 })]); // another term
     let forward = receiver(old.whose(), secret("of all"));
     let moves = async {
         sleep(Duration::from_millis(250)).await;
@@ -106,28 +106,28 @@ async fn not_mine_is_asked_again_of_who_has_it_then() {
     };
     let (outcome, ()) = tokio::join!(posted(&forward, "{}"), moves);
     assert_eq!(outcome, Outcome::taken(0));
-    assert_eq!((old.slots.count(), new.slots.count()), (0, 1));
+    assert_eq!((old.shards.count(), new.shards.count()), (0, 1));
     assert!(forward.forwarded().not_mine > 0);
     // The shard was lost after the instance had checked its owner.
-    new.slots.says.lock().unwrap().push_back(None);
+    new.shards.says.lock().unwrap().push_back(None);
     assert_eq!(posted(&forward, "{}").await, Outcome::taken(0));
     // The shard moves here.
-    let here = Arc::new(Slots::default());
+    let here = Arc::new(Shards::default());
     forward.serve(here.clone());
-    forward.cluster.knows(&[(3, Whose::Here { term: 8 })]);
+    forward.cluster.knows(&[(3, ShardOwner::Here { term: 8 })]);
     assert_eq!(posted(&forward, "{}").await, Outcome::taken(0));
     assert_eq!(here.came.lock().unwrap()[0].1, 8);
 }
 
 #[tokio::test]
-async fn a_slot_without_an_owner_is_waited_for_three_seconds() {
-    let old = Peer::with(Slots::default(), Whose::Nobody).await;
-    for whose in [Whose::Nobody, old.whose()] {
+async fn a_shard_without_an_owner_is_waited_for_three_seconds() {
+    let old = Peer::with(Shards::default(), ShardOwner::Nobody).await;
+    for whose in [ShardOwner::Nobody, old.whose()] {
         let (forward, began) = (receiver(whose, secret("of all")), Instant::now());
         assert_eq!(posted(&forward, "{}").await, Reason::OwnerChanges.into());
         assert!((LOOKED_FOR..LOOKED_FOR * 3).contains(&began.elapsed()));
     }
-    assert_eq!(old.slots.count(), 0);
+    assert_eq!(old.shards.count(), 0);
 }
 
 #[tokio::test]
@@ -141,13 +141,13 @@ async fn who_has_another_secret_or_none_is_asked_nothing() {
         async { asking.await.unwrap().status().as_u16() }
     };
     let uri = format!("http://{}{PATH}", peer.address);
-    let head = Head { slot: 3, term: 5, sender: "web-1".into(), encoding: Encoding::Json };
+    let head = Head { shard: 3, term: 5, sender: "web-1".into(), encoding: Encoding::Json };
     assert_eq!(ask(Request::post(&uri), "").await, 401);
     assert_eq!(ask(head.put(Request::get(&uri), &secret("of all")), "").await, 404);
     assert_eq!(ask(head.put(Request::post(format!("{uri}s")), &secret("of all")), "").await, 404);
     let without = Request::post(&uri).header("totxegun-secret", "of all");
     assert_eq!(ask(without, "").await, 400);
-    assert_eq!(peer.slots.count(), 0);
+    assert_eq!(peer.shards.count(), 0);
 }
 
 #[tokio::test]
@@ -197,7 +197,7 @@ async fn who_stalls_is_left_after_ten_seconds_and_said_and_holds_up_no_other() {
     let ((stalls, count), peer) = (strange(b"", true).await, Peer::here().await);
     let forward = receiver(there(&stalls), secret("of all"));
     forward.cluster.knows(&[(3, there(&stalls)), (4, peer.whose())]);
-    peer.cluster.knows(&[(4, Whose::Here { term: 5 })]);
+    peer.cluster.knows(&[(4, ShardOwner::Here { term: 5 })]);
     let began = Instant::now();
     let many: Vec<_> = (0..2 * peer::POSTS)
         .map(|_| {
@@ -223,10 +223,10 @@ async fn who_stalls_is_left_after_ten_seconds_and_said_and_holds_up_no_other() {
 }
 
 #[tokio::test]
-async fn who_stalls_is_left_once_another_has_the_slot_but_not_before_it_may_have_handed_over() {
+async fn who_stalls_is_left_once_another_has_the_shard_but_not_before_it_may_have_handed_over() {
     let ((stalls, count), peer) = (strange(b"", true).await, Peer::here().await);
     let forward = receiver(there(&stalls), secret("of all"));
-    let moves = |places: Whose| {
+    let moves = |places: ShardOwner| {
         let cluster = forward.cluster.clone();
         async move {
             sleep(Duration::from_millis(100)).await;
@@ -237,21 +237,21 @@ async fn who_stalls_is_left_once_another_has_the_slot_but_not_before_it_may_have
     let (outcome, ()) = tokio::join!(posted(&forward, "{}"), moves(peer.whose()));
     assert_eq!(outcome, Reason::OwnerSilent.into());
     assert!((AFTER_MOVE..WITHIN / 2).contains(&began.elapsed()));
-    assert_eq!((count.load(SeqCst), peer.slots.count()), (1, 0), "it may have been taken");
+    assert_eq!((count.load(SeqCst), peer.shards.count()), (1, 0), "it may have been taken");
     assert_eq!(posted(&forward, "{}").await, Outcome::taken(0));
     // The owner hands over, and answers what is in flight.
-    let slots = Slots::slow(AFTER_MOVE / 2);
-    let slow = Peer::with(slots, Whose::Here { term: 5 }).await;
+    let shards = Shards::slow(AFTER_MOVE / 2);
+    let slow = Peer::with(shards, ShardOwner::Here { term: 5 }).await;
     forward.cluster.knows(&[(3, slow.whose())]);
     let (outcome, ()) = tokio::join!(posted(&forward, "{}"), moves(peer.whose()));
     assert_eq!(outcome, Outcome::taken(0));
-    assert_eq!((slow.slots.count(), peer.slots.count()), (1, 1));
+    assert_eq!((slow.shards.count(), peer.shards.count()), (1, 1));
 }
 
 #[tokio::test]
 async fn so_many_posts_are_on_their_way_to_one_and_each_comes_once() {
-    let slots = Slots::slow(Duration::from_millis(20));
-    let peer = Peer::with(slots, Whose::Here { term: 5 }).await;
+    let shards = Shards::slow(Duration::from_millis(20));
+    let peer = Peer::with(shards, ShardOwner::Here { term: 5 }).await;
     let forward = receiver(peer.whose(), secret("of all"));
     let many: Vec<_> = (0..300)
         .map(|number| {
@@ -262,23 +262,23 @@ async fn so_many_posts_are_on_their_way_to_one_and_each_comes_once() {
     for one in many {
         assert_eq!(one.await.unwrap(), Outcome::taken(0));
     }
-    let mut came: Vec<Bytes> = peer.slots.came.lock().unwrap().iter().map(|came| came.4.clone()).collect();
+    let mut came: Vec<Bytes> = peer.shards.came.lock().unwrap().iter().map(|came| came.4.clone()).collect();
     came.sort();
     came.dedup();
-    assert_eq!((came.len(), peer.slots.count()), (300, 300));
-    assert!(peer.slots.most_at_once.load(SeqCst) <= peer::POSTS);
+    assert_eq!((came.len(), peer.shards.count()), (300, 300));
+    assert!(peer.shards.most_at_once.load(SeqCst) <= peer::POSTS);
     assert!(peer.connections.load(SeqCst) <= peer::POSTS);
 }
 
 /// An instance that answers `not mine` is asked only a few times, even while other shards move.
 #[tokio::test(flavor = "multi_thread", worker_threads = 2)]
 async fn not_mine_is_asked_again_a_bounded_number_of_times() {
-    let old = Peer::with(Slots::default(), Whose::Nobody).await;
+    let old = Peer::with(Shards::default(), ShardOwner::Nobody).await;
     let forward = receiver(old.whose(), secret("of all"));
     let (cluster, whose) = (forward.cluster.clone(), old.whose());
     let moves = tokio::spawn(async move {
         for term in 0.. {
-            cluster.knows(&[(3, whose.clone()), (4, Whose::Here { term })]);
+            cluster.knows(&[(3, whose.clone()), (4, ShardOwner::Here { term })]);
             sleep(Duration::from_millis(2)).await;
         }
     });
@@ -302,8 +302,8 @@ async fn not_mine_is_asked_again_a_bounded_number_of_times() {
     let cluster = forward.cluster.clone();
     let moves = tokio::spawn(async move {
         for term in 6.. {
-            if let Whose::There { name, address, .. } = whose.clone() {
-                cluster.knows(&[(3, Whose::There { name, address, term })]);
+            if let ShardOwner::There { name, address, .. } = whose.clone() {
+                cluster.knows(&[(3, ShardOwner::There { name, address, term })]);
             }
             sleep(Duration::from_millis(2)).await;
         }
@@ -316,23 +316,23 @@ async fn not_mine_is_asked_again_a_bounded_number_of_times() {
 /// Otherwise each post would look for an owner for three seconds.
 #[tokio::test]
 async fn without_beats_a_post_is_turned_away_at_the_door() {
-    let forward = Forward::<Slots>::new(Cluster::new("receiver", None), secret("of all"), None);
-    let slots = |forward: Arc<Forward<Slots>>| {
+    let forward = Forward::<Shards>::new(Cluster::new("receiver", None), secret("of all"), None);
+    let shards = |forward: Arc<Forward<Shards>>| {
         let resources = Resources::new(8, Arc::default());
-        crate::slot::Slots::<crate::slot::Slot>::several(resources, Some(forward))
+        crate::shard::Shards::<crate::shard::Shard>::several(resources, Some(forward))
     };
     let forward = Arc::new(forward);
     let metrics = Arc::new(crate::metrics::Metrics::new().unwrap());
-    let budget = crate::intake::Budget::new(8 << 20);
-    let slots = slots(forward.clone());
-    let intake = crate::intake::Intake::of(slots, Arc::new(()), Arc::default(), budget, metrics);
+    let budget = crate::ingest::Budget::new(8 << 20);
+    let shards = shards(forward.clone());
+    let ingest = crate::ingest::Ingest::of(shards, Arc::new(()), Arc::default(), budget, metrics);
     let post = || {
-        let head = crate::intake::head::Head {
+        let head = crate::ingest::head::Head {
             sender: "web-1".into(),
             encoding: Encoding::Json,
-            packing: crate::intake::head::Packing::Plain,
+            packing: crate::ingest::head::Packing::Plain,
         };
-        intake.put(head, Bytes::from_static(b"{\"resourceMetrics\":[]}"), intake.budget.hold())
+        ingest.put(head, Bytes::from_static(b"{\"resourceMetrics\":[]}"), ingest.budget.hold())
     };
     let began = Instant::now();
     assert_eq!(post().await, Reason::StoreSilent.into());
@@ -345,19 +345,19 @@ async fn without_beats_a_post_is_turned_away_at_the_door() {
 #[tokio::test]
 async fn while_the_store_is_silent_a_post_is_turned_away_at_once() {
     let peer = Peer::here().await;
-    for whose in [Whose::Nobody, Whose::Here { term: 5 }, peer.whose()] {
+    for whose in [ShardOwner::Nobody, ShardOwner::Here { term: 5 }, peer.whose()] {
         let forward = receiver(whose, secret("of all"));
         forward.cluster.is_silent_for(Duration::from_secs(10));
         let began = Instant::now();
         assert_eq!(posted(&forward, "{}").await, Reason::StoreSilent.into());
         assert!(began.elapsed() < LOOKED_FOR / 3);
     }
-    assert_eq!(peer.slots.count(), 0);
+    assert_eq!(peer.shards.count(), 0);
     // A post from another instance is refused too.
     peer.cluster.is_silent_for(Duration::from_secs(10));
     let forward = receiver(peer.whose(), secret("of all"));
     assert_eq!(posted(&forward, "{}").await, Reason::StoreSilent.into());
-    assert_eq!(peer.slots.count(), 0);
+    assert_eq!(peer.shards.count(), 0);
 }
 
 #[tokio::test]

@@ -1,7 +1,7 @@
 //! The HTTP clients for other instances.
 
 use super::{peer, CONNECT, IDLE};
-use crate::sinks::roots::client_config;
+use crate::sink::roots::client_config;
 use crate::tls::{Contexts, Tls};
 use crate::work::locked;
 use hyper::client::HttpConnector;

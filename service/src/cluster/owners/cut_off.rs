@@ -25,7 +25,7 @@ pub(super) struct CutOff {
 pub(super) type Reached<'a> = BTreeMap<&'a str, Option<&'a BTreeSet<String>>>;
 
 /// Those that more than half of all don't reach; or half, and the one with the first name neither, of those that say whom they reach:
-/// one that does not may be at fault itself. At least one is left, so that one has the slots.
+/// one that does not may be at fault itself. At least one is left, so that one has the shards.
 fn cut_off<'a>(all: &Reached<'a>) -> BTreeSet<&'a str> {
     let says = all.iter().find(|(_, reached)| reached.is_some());
     let Some((first, of_first)) = says.or(all.first_key_value()) else { return BTreeSet::new() };

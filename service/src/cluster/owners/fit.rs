@@ -3,7 +3,7 @@
 
 use super::cut_off::Reached;
 use super::Owners;
-use crate::cluster::terms::{Stay, Told};
+use crate::cluster::terms::{Eligibility, InstanceReport};
 use std::collections::BTreeSet;
 
 impl Owners {
@@ -24,7 +24,7 @@ impl Owners {
     /// Whether it may own no shards because of its clock: another instance that stays has a right clock. A single
     /// instance goes on.
     pub fn leaves_for_clock(&self) -> bool {
-        let is_right = |told: &Told| told.clock.is_some_and(|clock| self.clock.is_right(clock));
+        let is_right = |told: &InstanceReport| told.clock.is_some_and(|clock| self.clock.is_right(clock));
         self.clock_off().is_some() && self.others.staying().any(|(_, told)| is_right(told))
     }
 
@@ -57,19 +57,19 @@ impl Owners {
 
     /// Whether it may own shards.
     pub(super) fn is_place_of_any(&self) -> bool {
-        self.stay() == Stay::Here && !self.is_cut_off()
+        self.stay() == Eligibility::Here && !self.is_cut_off()
     }
 
     /// What the others are told about that; they find by themselves which instances are cut off.
-    pub(super) fn stay(&self) -> Stay {
+    pub(super) fn stay(&self) -> Eligibility {
         match self.ends || self.leaves_for_clock() {
-            true => Stay::Leaves,
-            false => Stay::Here,
+            true => Eligibility::Leaves,
+            false => Eligibility::Here,
         }
     }
 
     pub(super) fn note_reached(&mut self) {
-        let (is_here, own) = (self.stay() == Stay::Here, self.cut_off.reached().cloned());
+        let (is_here, own) = (self.stay() == Eligibility::Here, self.cut_off.reached().cloned());
         let mut all: Reached = self.others.reached().collect();
         if is_here {
             all.insert(&self.me, own.as_ref());

@@ -2,7 +2,7 @@
 
 use super::{AFTER_SILENCE, FORGOTTEN, GONE};
 use crate::cluster::status::OtherInstance;
-use crate::cluster::terms::{Instance, Seen, Told};
+use crate::cluster::terms::{Instance, InstanceReport, Seen};
 use std::collections::{BTreeMap, BTreeSet};
 
 /// How many heartbeats must lie between two silences after which the others get more time.
@@ -13,7 +13,7 @@ const LATELY: u32 = GONE / 2;
 #[derive(Default)]
 struct Other {
     beat: Option<u64>,
-    told: Told,
+    told: InstanceReport,
     /// `address` is the last one that it had: while it leaves it has none, but may still own shards.
     shown: OtherInstance,
 }
@@ -57,7 +57,7 @@ impl Others {
     /// Takes what was read after a heartbeat.
     pub fn note(&mut self, seen: &Seen) {
         // An owner without a row sends no heartbeats, whoever deleted the row.
-        let owners = seen.slots.iter().map(|row| (row.owner.as_str(), None));
+        let owners = seen.shards.iter().map(|row| (row.owner.as_str(), None));
         let mut there: BTreeMap<&str, Option<&Instance>> = owners.collect();
         there.extend(seen.instances.iter().map(|one| (one.name.as_str(), Some(one))));
         there.retain(|name, _| !name.is_empty() && *name != self.me);
@@ -95,7 +95,7 @@ impl Others {
     }
 
     /// The instances that may own shards, and what they told last.
-    pub fn staying(&self) -> impl Iterator<Item = (&str, &Told)> {
+    pub fn staying(&self) -> impl Iterator<Item = (&str, &InstanceReport)> {
         let stays = |other: &Other| !other.shown.is_gone && !other.shown.leaves;
         let others = self.by_name.iter().filter(move |(_, other)| stays(other));
         others.map(|(name, other)| (name.as_str(), &other.told))

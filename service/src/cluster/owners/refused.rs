@@ -26,35 +26,35 @@ pub(super) struct Refusals(BTreeMap<u16, One>);
 /// What operators are told.
 #[derive(Clone, Debug, PartialEq, Eq)]
 pub struct Refusal {
-    pub slot: u16,
+    pub shard: u16,
     pub instance: String,
     pub reason: String,
 }
 
 impl Refusals {
-    pub fn failed(&mut self, slot: u16, reason: &str) {
-        let tries = self.0.get(&slot).map_or(1, |one| one.tries + 1);
+    pub fn failed(&mut self, shard: u16, reason: &str) {
+        let tries = self.0.get(&shard).map_or(1, |one| one.tries + 1);
         let one = One {
             reason: reason.into(),
             tries,
             waits: (AGAIN << (tries - 1).min(8)).min(MOST),
             is_refused: true,
         };
-        self.0.insert(slot, one);
+        self.0.insert(shard, one);
     }
 
     /// The shard is open, but may still fail while its book recovers.
-    pub fn opened(&mut self, slot: u16) {
-        if let Some(one) = self.0.get_mut(&slot) {
+    pub fn opened(&mut self, shard: u16) {
+        if let Some(one) = self.0.get_mut(&shard) {
             one.is_tried();
         }
     }
 
     /// Counts a heartbeat, and allows another try of shards that no other instance may open.
-    pub fn beat(&mut self, may_another: impl Fn(u16) -> bool) {
-        for (slot, one) in &mut self.0 {
+    pub fn heartbeat(&mut self, may_another: impl Fn(u16) -> bool) {
+        for (shard, one) in &mut self.0 {
             one.waits = one.waits.saturating_sub(1);
-            if one.is_refused && one.waits == 0 && !may_another(*slot) {
+            if one.is_refused && one.waits == 0 && !may_another(*shard) {
                 one.is_tried();
             }
         }
@@ -64,7 +64,7 @@ impl Refusals {
     /// The shards that are refused now, with the reasons.
     pub fn told(&self) -> Refused {
         let refused = self.0.iter().filter(|(_, one)| one.is_refused);
-        refused.map(|(slot, one)| (*slot, one.reason.clone())).collect()
+        refused.map(|(shard, one)| (*shard, one.reason.clone())).collect()
     }
 }
 

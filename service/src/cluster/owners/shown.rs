@@ -1,7 +1,7 @@
 //! What the status shows of instances and shards.
 
-use super::{Owners, Refusal, Whose};
-use crate::cluster::status::{OtherInstance, OwnedSlot};
+use super::{Owners, Refusal, ShardOwner};
+use crate::cluster::status::{OtherInstance, OwnedShard};
 use crate::cluster::terms::Refused;
 
 impl Owners {
@@ -28,8 +28,8 @@ impl Owners {
     /// The shards that live instances can't open.
     pub fn all_refused(&self) -> Vec<Refusal> {
         let of_one = |(instance, refused): (&String, &Refused)| {
-            let refusals = refused.iter().map(|(slot, reason)| Refusal {
-                slot: *slot,
+            let refusals = refused.iter().map(|(shard, reason)| Refusal {
+                shard: *shard,
                 instance: instance.clone(),
                 reason: reason.clone(),
             });
@@ -39,17 +39,17 @@ impl Owners {
     }
 
     /// All shards of the store, ascending.
-    pub fn slots(&self) -> Vec<OwnedSlot> {
-        let slots = self.rows.iter().map(|row| OwnedSlot {
-            slot: row.slot,
+    pub fn shards(&self) -> Vec<OwnedShard> {
+        let shards = self.rows.iter().map(|row| OwnedShard {
+            shard: row.shard,
             term: row.term,
             owner: row.owner.clone(),
             is_served: match self.whose_is(row) {
-                Whose::Here { .. } => true,
-                Whose::There { name, .. } => !self.others.is_gone(&name),
-                Whose::Nobody => false,
+                ShardOwner::Here { .. } => true,
+                ShardOwner::There { name, .. } => !self.others.is_gone(&name),
+                ShardOwner::Nobody => false,
             },
         });
-        slots.collect()
+        shards.collect()
     }
 }

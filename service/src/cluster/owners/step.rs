@@ -3,14 +3,14 @@
 /// A step for a shard.
 #[derive(Clone, Copy, Debug, PartialEq, Eq)]
 pub struct Step {
-    pub act: Act,
-    pub slot: u16,
+    pub act: ShardAction,
+    pub shard: u16,
     /// The term under which we own it, or which was seen.
     pub term: u64,
 }
 
 #[derive(Clone, Copy, Debug, PartialEq, Eq)]
-pub enum Act {
+pub enum ShardAction {
     /// Take the shard if it still has this term, and open it.
     Take,
     /// It belongs to another instance: close it and release it.
@@ -23,7 +23,7 @@ pub enum Act {
 
 /// The instance that serves a shard.
 #[derive(Clone, Debug, PartialEq, Eq)]
-pub enum Whose {
+pub enum ShardOwner {
     Here {
         term: u64,
     },

@@ -4,11 +4,11 @@ mod namesake;
 mod world;
 
 use super::*;
-use crate::files::test_runs::runs;
+use crate::storage::test_runs::runs;
 use world::World;
 
 #[test]
-fn over_random_schedules_two_never_own_a_slot_and_each_has_its_place_in_the_end() {
+fn over_random_schedules_two_never_own_a_shard_and_each_has_its_place_in_the_end() {
     for seed in 1..=runs(15, 50) {
         let mut world = World::of(seed, &["a", "b", "c"]);
         world.is_rough = true;
@@ -24,12 +24,12 @@ fn over_random_schedules_two_never_own_a_slot_and_each_has_its_place_in_the_end(
         assert!(world.is_settled(), "seed {seed}: {:?}", world.store.rows);
         let before = (world.takes, world.hand_overs);
         world.rounds(100);
-        assert_eq!((world.takes, world.hand_overs), before, "seed {seed}: slots move without a reason");
+        assert_eq!((world.takes, world.hand_overs), before, "seed {seed}: shards move without a reason");
     }
 }
 
 #[test]
-fn a_store_that_stands_still_moves_no_slot() {
+fn a_store_that_stands_still_moves_no_shard() {
     for seed in 1..10 {
         let mut world = World::of(seed, &["a", "b", "c"]);
         world.rounds(300);
@@ -48,7 +48,7 @@ fn a_store_that_stands_still_moves_no_slot() {
 }
 
 #[test]
-fn who_is_gone_loses_its_slots_after_six_beats_and_gets_them_back_one_by_one() {
+fn who_is_gone_loses_its_shards_after_six_beats_and_gets_them_back_one_by_one() {
     let mut world = World::of(7, &["a", "b"]);
     world.rounds(200);
     let of_a = world.store.rows.iter().filter(|row| row.owner == "a").count();
@@ -62,7 +62,7 @@ fn who_is_gone_loses_its_slots_after_six_beats_and_gets_them_back_one_by_one() {
     for _ in 0..200 {
         world.round();
         let free = world.store.rows.iter().filter(|row| row.owner.is_empty()).count();
-        assert!(free <= 1, "{free} slots are on their way at once");
+        assert!(free <= 1, "{free} shards are on their way at once");
     }
     assert!(world.is_settled());
     assert_eq!(world.hand_overs - before, of_a);
@@ -96,7 +96,7 @@ fn who_does_not_come_back_is_forgotten_and_its_return_is_as_that_of_another() {
     // As if no instance could open it.
     world.store.rows[3].owner = "a".into();
     world.rounds(20);
-    assert!(is_there(&world), "a slot has its name");
+    assert!(is_there(&world), "a shard has its name");
     world.store.rows[3].owner.clear();
     world.rounds(2);
     assert!(!is_there(&world) && world.nodes[1].owners.others().is_empty());
@@ -124,7 +124,7 @@ fn who_comes_back_in_time_is_not_forgotten() {
 }
 
 #[test]
-fn who_comes_gets_slots_one_by_one_and_not_before_it_has_beaten_for_a_while() {
+fn who_comes_gets_shards_one_by_one_and_not_before_it_has_beaten_for_a_while() {
     let mut world = World::of(3, &["a"]);
     world.rounds(20);
     world.join("b");
@@ -148,7 +148,7 @@ fn who_leaves_hands_all_over_and_takes_nothing() {
     world.rounds(200);
     world.nodes[2].owners.leave();
     world.rounds(3);
-    assert!(world.nodes[2].owners.is_rid_of_all());
+    assert!(world.nodes[2].owners.has_drained());
     world.nodes.pop();
     world.store.instances.remove("c");
     world.rounds(5);
@@ -197,7 +197,7 @@ fn who_has_a_wrong_clock_hands_all_over_and_takes_nothing_until_it_is_right() {
 
 /// Otherwise its shards would be unreachable for as long as it reaches the store.
 #[test]
-fn whom_most_do_not_reach_hands_all_over_and_gets_slots_again_once_they_do() {
+fn whom_most_do_not_reach_hands_all_over_and_gets_shards_again_once_they_do() {
     let mut world = World::of(31, &["a", "b", "c"]);
     world.rounds(200);
     world.cut(&["b"], &["a", "c"]);
@@ -237,7 +237,7 @@ fn of_those_that_reach_nobody_one_alone_has_all() {
 
 /// Moving their shards would not help; posts can go through the third instance.
 #[test]
-fn two_that_do_not_reach_each_other_keep_their_slots_and_say_so() {
+fn two_that_do_not_reach_each_other_keep_their_shards_and_say_so() {
     let mut world = World::of(43, &["a", "b", "c"]);
     world.rounds(200);
     let before = (world.takes, world.hand_overs);
@@ -265,46 +265,46 @@ fn while_nobody_reaches_all_owners_each_stays_ready() {
 
 /// As where a store was set back.
 #[test]
-fn a_slot_that_another_has_under_the_same_term_is_dropped() {
+fn a_shard_that_another_has_under_the_same_term_is_dropped() {
     let mut world = World::of(13, &["a"]);
     world.rounds(20);
     let term = world.store.rows[3].term;
     world.store.rows[3].owner = "z".into();
-    let steps = world.nodes[0].owners.beat(world.store.beat("a", here(), 0, &mut 1));
-    assert_eq!(steps, [Step { act: Act::Drop, slot: 3, term }]);
+    let steps = world.nodes[0].owners.heartbeat(world.store.heartbeat("a", here(), 0, &mut 1));
+    assert_eq!(steps, [Step { act: ShardAction::Drop, shard: 3, term }]);
 }
 
 #[test]
-fn a_slot_that_was_lost_is_dropped_once() {
+fn a_shard_that_was_lost_is_dropped_once() {
     let mut world = World::of(13, &["a"]);
     world.rounds(20);
     world.store.rows[3].term += 1;
     world.store.rows[3].owner = "z".into();
     let node = &mut world.nodes[0];
     let term = world.store.rows[3].term - 1;
-    let steps = node.owners.beat(world.store.beat("a", here(), 0, &mut 1));
-    assert_eq!(steps, [Step { act: Act::Drop, slot: 3, term }]);
-    assert_eq!(node.owners.whose()[&3], Whose::Nobody);
+    let steps = node.owners.heartbeat(world.store.heartbeat("a", here(), 0, &mut 1));
+    assert_eq!(steps, [Step { act: ShardAction::Drop, shard: 3, term }]);
+    assert_eq!(node.owners.whose()[&3], ShardOwner::Nobody);
     assert!(!node.owners.lost(3, term));
-    assert_eq!(node.owners.beat(world.store.beat("a", here(), 0, &mut 1)), []);
+    assert_eq!(node.owners.heartbeat(world.store.heartbeat("a", here(), 0, &mut 1)), []);
     // `z` has no row, so it sends no heartbeats.
     world.rounds(GONE as usize + 2);
     assert_eq!(world.store.rows[3].owner, "a");
 }
 
-fn here() -> (Stay, Told) {
-    (Stay::Here, Told::default())
+fn here() -> (Eligibility, InstanceReport) {
+    (Eligibility::Here, InstanceReport::default())
 }
 
 #[test]
 fn what_its_place_can_not_open_goes_to_another_and_stays_there() {
     let mut world = World::of(17, &["a", "b", "c"]);
-    world.broken = (0..4).map(|slot| (slot, "a".into())).collect();
+    world.broken = (0..4).map(|shard| (shard, "a".into())).collect();
     world.broken.extend([(5, "a".into()), (5, "b".into())]);
     world.rounds(100);
     assert!(world.is_settled(), "{:?}", world.store.rows);
-    let row = |world: &World, slot: usize| world.store.rows[slot].clone();
-    assert!((0..4).all(|slot| row(&world, slot).owner != "a") && row(&world, 5).owner == "c");
+    let row = |world: &World, shard: usize| world.store.rows[shard].clone();
+    assert!((0..4).all(|shard| row(&world, shard).owner != "a") && row(&world, 5).owner == "c");
     let before = (world.takes, world.hand_overs);
     world.rounds(600);
     assert_eq!((world.takes, world.hand_overs), before, "it is thrown to and fro");
@@ -315,7 +315,7 @@ fn what_its_place_can_not_open_goes_to_another_and_stays_there() {
     assert_eq!(row(&world, 5).owner, "");
     let refused = world.nodes[0].owners.all_refused();
     let of_five: Vec<&str> =
-        refused.iter().filter(|one| one.slot == 5).map(|one| one.instance.as_str()).collect();
+        refused.iter().filter(|one| one.shard == 5).map(|one| one.instance.as_str()).collect();
     assert_eq!(of_five, ["a", "b"]);
     world.broken.remove(&(5, "b".into()));
     world.rounds(300);
@@ -348,12 +348,12 @@ fn what_fails_once_it_is_open_is_let_go_with_its_reason() {
     let mut world = World::of(23, &["a", "b"]);
     world.rounds(200);
     let row = world.store.rows.iter().find(|row| row.owner == "a").unwrap().clone();
-    assert!(world.nodes[0].owners.failed(row.slot, row.term, "no memory"));
-    assert_eq!(world.nodes[0].owners.whose()[&row.slot], Whose::Nobody);
+    assert!(world.nodes[0].owners.failed(row.shard, row.term, "no memory"));
+    assert_eq!(world.nodes[0].owners.whose()[&row.shard], ShardOwner::Nobody);
     world.rounds(4);
-    assert_eq!(world.store.rows[usize::from(row.slot)].owner, "b");
+    assert_eq!(world.store.rows[usize::from(row.shard)].owner, "b");
     let refused = world.nodes[1].owners.all_refused();
-    let refused: Vec<_> = refused.iter().map(|one| (one.slot, &*one.instance, &*one.reason)).collect();
-    assert_eq!(refused, [(row.slot, "a", "no memory")]);
-    assert!(!world.nodes[0].owners.failed(row.slot, row.term, "late") || refused.len() == 1);
+    let refused: Vec<_> = refused.iter().map(|one| (one.shard, &*one.instance, &*one.reason)).collect();
+    assert_eq!(refused, [(row.shard, "a", "no memory")]);
+    assert!(!world.nodes[0].owners.failed(row.shard, row.term, "late") || refused.len() == 1);
 }

@@ -3,8 +3,10 @@
 
 use super::Ended;
 use crate::command::show;
-use crate::files::{Body, Durability, Folder, Journal, OfRun, Outbox, Points, Replayed};
+use crate::journal::{Body, Journal, OfRun, Points, Replayed};
 use crate::otlp::series::{only, Kind, SeriesKey};
+use crate::outbox::Outbox;
+use crate::storage::{Durability, Folder};
 use serde::Serialize;
 use serde_json::value::RawValue;
 use std::collections::HashMap;
@@ -64,7 +66,7 @@ struct Series(HashMap<u64, Option<(Box<RawValue>, Kind)>>);
 /// Prints the posts of a folder.
 pub(super) fn print(copy: &Path) -> Result<(), Ended> {
     let folder = Folder::open(copy, Durability::Process)?;
-    let (journal, outbox) = folder.slot()?;
+    let (journal, outbox) = folder.shard()?;
     put_lines(&journal, &outbox, show)
 }
 

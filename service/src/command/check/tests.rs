@@ -1,7 +1,7 @@
 //! Tests what `totxegun check` refuses, and what it leaves behind.
 
 use super::*;
-use crate::files::{Body, Names, Points, Post};
+use crate::journal::{Body, Names, Points, Post};
 use anyhow::Result;
 use bytes::Bytes;
 use std::os::unix::fs::{MetadataExt, PermissionsExt};
@@ -50,11 +50,11 @@ fn checked(data: &Path) -> Result<Vec<u8>, Ended> {
 /// Makes a folder with a group of two requests, as a killed service leaves it.
 fn killed(data: &Path) -> Result<()> {
     let folder = Folder::open(data, Durability::Disk).unwrap();
-    let (journal, outbox) = folder.slot()?;
-    let (next, _) = journal.turn();
+    let (journal, outbox) = folder.shard()?;
+    let (next, _) = journal.roll();
     let request = br#"{"resourceMetrics":[]}"#.to_vec();
     outbox.commit(&[request.clone(), request], next)?;
-    let segment = data.join("slot-0/outbox/000000000001.seg");
+    let segment = data.join("shard-0/outbox/000000000001.seg");
     let killed = std::fs::read(&segment)?;
     drop(outbox);
     std::fs::write(&segment, killed)?; // as `kill -9` leaves it
@@ -99,7 +99,7 @@ fn a_folder_that_can_only_be_read_is_checked() -> Result<()> {
     may(data.path(), 0o555, 0o444);
     let text = said();
     assert!(text.contains("requests for the sink  2,") && text.contains("none"), "{text}");
-    let segment = data.path().join("slot-0/outbox/000000000001.seg");
+    let segment = data.path().join("shard-0/outbox/000000000001.seg");
     std::fs::set_permissions(&segment, std::fs::Permissions::from_mode(0o000))?;
     let text = said();
     assert!(text.contains(&format!("{} can't be read: Permission denied", segment.display())), "{text}");
@@ -120,9 +120,9 @@ fn a_lock_that_is_gone_or_a_version_alone_are_as_a_start_takes_them() -> Result<
     let text = String::from_utf8(checked(data.path()).unwrap())?;
     assert!(text.contains("new ones from a start on"), "{text}");
     assert!(!data.path().join("lock").exists(), "nothing is changed");
-    std::fs::rename(data.path().join("slot-0"), data.path().join("aside"))?;
+    std::fs::rename(data.path().join("shard-0"), data.path().join("aside"))?;
     let checked = checked(data.path()).unwrap_err().to_string();
-    let started = Folder::open(data.path(), Durability::Disk).unwrap().slot();
+    let started = Folder::open(data.path(), Durability::Disk).unwrap().shard();
     assert_eq!(checked, started.err().unwrap().to_string());
     Ok(())
 }
@@ -131,7 +131,7 @@ fn a_lock_that_is_gone_or_a_version_alone_are_as_a_start_takes_them() -> Result<
 fn a_request_that_was_changed_is_a_fault_and_the_rest_is_told() -> Result<()> {
     let data = tempdir()?;
     killed(data.path())?;
-    let path = data.path().join("slot-0/outbox/000000000001.seg");
+    let path = data.path().join("shard-0/outbox/000000000001.seg");
     let mut bytes = std::fs::read(&path)?;
     let item = bytes.windows(9).position(|part| part == [18, 2, 0, 0, 0, 0, 0, 0, 0]);
     bytes[item.unwrap() + 12] ^= 1;
@@ -140,7 +140,7 @@ fn a_request_that_was_changed_is_a_fault_and_the_rest_is_told() -> Result<()> {
     assert!(matches!(error, Ended::Changed(_)));
     let text = error.to_string();
     assert!(text.contains(path.to_str().unwrap()) && text.contains("request 2"), "{text}");
-    let outbox = Folder::open(data.path(), Durability::Disk).unwrap().slot()?.1;
+    let outbox = Folder::open(data.path(), Durability::Disk).unwrap().shard()?.1;
     assert_eq!(outbox.waiting().0, 2, "a start goes on");
     Ok(())
 }
@@ -149,7 +149,7 @@ fn a_request_that_was_changed_is_a_fault_and_the_rest_is_told() -> Result<()> {
 fn units_that_decide_nothing_are_told() -> Result<()> {
     let data = tempdir()?;
     killed(data.path())?;
-    let outbox = Folder::open(data.path(), Durability::Disk).unwrap().slot()?.1;
+    let outbox = Folder::open(data.path(), Durability::Disk).unwrap().shard()?.1;
     outbox.put_beside(&[("a\nb".to_string(), "ms".to_string())])?;
     drop(outbox);
     let text = String::from_utf8(checked(data.path()).unwrap())?;
@@ -171,12 +171,12 @@ fn a_folder_in_use_is_not_read() -> Result<()> {
 #[test]
 fn a_copy_has_what_a_start_reads_and_goes_away() -> Result<()> {
     let (data, temporary) = (tempdir()?, tempdir()?);
-    std::fs::create_dir_all(data.path().join("slot-0/journal"))?;
-    std::fs::write(data.path().join("slot-0/journal/1"), "a")?;
+    std::fs::create_dir_all(data.path().join("shard-0/journal"))?;
+    std::fs::write(data.path().join("shard-0/journal/1"), "a")?;
     std::fs::write(data.path().join("metrics.db"), "not copied")?;
     let copy = Copy::made(temporary.path())?;
     copy.fill(data.path(), temporary.path())?;
-    assert_eq!(std::fs::read(copy.0.join("slot-0/journal/1"))?, b"a");
+    assert_eq!(std::fs::read(copy.0.join("shard-0/journal/1"))?, b"a");
     assert!(!copy.0.join("metrics.db").exists());
     drop(copy);
     assert_eq!(std::fs::read_dir(temporary.path())?.count(), 0);
@@ -223,7 +223,7 @@ impl Names for Two {
 fn posts_are_told_by_the_names_of_their_series_and_with_their_values() -> Result<()> {
     let data = tempdir()?;
     let folder = Folder::open(data.path(), Durability::Process).unwrap();
-    let (journal, outbox) = folder.slot()?;
+    let (journal, outbox) = folder.shard()?;
     let mut points = Points::default();
     points.push(0, 10, 20, [-7i64 as u64]);
     points.push(1, 30, 40, [3, 1, 12, 1, 2]);

@@ -1,5 +1,5 @@
 use super::*;
-use crate::core::Refused;
+use crate::book::Refused;
 use crate::otlp::{Encoding, Off, OffClock, RejectedPoint};
 use bytes::Bytes;
 use std::time::Duration;
@@ -9,7 +9,7 @@ fn refused(refused: Refused) -> Outcome {
 }
 
 fn later(seconds: u64) -> Outcome {
-    Rejection { seconds: Some(seconds), ..Rejection::from(Reason::OverShare) }.into()
+    Rejection { seconds: Some(seconds), ..Rejection::from(Reason::OverQuota) }.into()
 }
 
 /// A resource with so many points, of which the first is no point of the profile.
@@ -126,7 +126,7 @@ fn reasons_are_named_together() {
     );
 }
 
-/// By its place among the points of the profile, as where one slot has all.
+/// By its place among the points of the profile, as where one shard has all.
 #[test]
 fn a_refusal_names_the_point_s_place_in_the_request() {
     let sizes = [4, 1, 3, 6]; // of these 3, 0, 2 and 5 are of the profile
@@ -145,7 +145,7 @@ fn a_refusal_names_the_point_s_place_in_the_request() {
     assert_eq!(said(&parts), (400, 0, "other writer: point 6: `m` {} is another's".into()));
     let beyond = [part(late(9), &[at(0)]), part(other, &[at(1)])];
     assert_eq!(said(&beyond).2, "duplicate or late: point 9, frontier 5", "it is left as it is");
-    // What was too long for its slot's memory is not read here either.
+    // What was too long for its shard's memory is not read here either.
     let too_long = Reason::BodyTooLong.into();
     let behind = [part(late(1), &[at(1), at(2)]), part(too_long, &[at(0)])];
     assert_eq!(said(&behind).2, "duplicate or late: point 1, frontier 5", "nor is this one placed behind it");

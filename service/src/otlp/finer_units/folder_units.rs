@@ -3,9 +3,11 @@
 
 use super::units::{Named, Unit};
 use super::FinerUnits;
-use crate::files::{Body, Fault, Journal, Outbox, UnitOfMetric};
+use crate::journal::{Body, Journal};
 use crate::otlp::json::{Document, Value};
 use crate::otlp::series::{metrics, visit, Around, Profile, SeriesKey};
+use crate::outbox::{Outbox, UnitOfMetric};
+use crate::storage::Fault;
 use crate::work::in_order;
 use bytes::Bytes;
 
@@ -32,10 +34,10 @@ impl FinerUnits {
         let Some(units) = &self.units else {
             return Ok(());
         };
-        let unkept = units.unkept();
-        outbox.put_beside(&named(&unkept[0]))?;
-        outbox.leave_beside(&named(&unkept[1]))?;
-        units.kept(&unkept);
+        let unsaved = units.unsaved();
+        outbox.put_beside(&named(&unsaved[0]))?;
+        outbox.leave_beside(&named(&unsaved[1]))?;
+        units.kept(&unsaved);
         Ok(())
     }
 

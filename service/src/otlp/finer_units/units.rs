@@ -14,8 +14,8 @@
 //! a metric that was taken in its own unit are foreign by name, also 5.0: rounded they could count as nothing, and in another
 //! unit it would have two totals.
 //!
-//! Of several slots each decides by what it has itself, so that a post means the same wherever its slot is: else a repeat
-//! would be of another series, and count twice. Where a slot knows nothing of a name yet, it takes what others here have.
+//! Of several shards each decides by what it has itself, so that a post means the same wherever its shard is: else a repeat
+//! would be of another series, and count twice. Where a shard knows nothing of a name yet, it takes what others here have.
 //!
 //! What a post decides, or puts beside another, is **pending** until it was taken, and gone where it was refused: others that are
 //! under way meanwhile are read by it, and hold it too. What is beside nothing any more then decides, as behind a start; what the
@@ -50,7 +50,7 @@ pub type Named = (Box<str>, Unit);
 /// A set of known units, a bit each.
 type Set = u32;
 
-/// The last number that a slot's got.
+/// The last number that a shard's got.
 static LAST: AtomicU64 = AtomicU64::new(0);
 
 /// By the place of a unit those that it may be taken in.
@@ -67,12 +67,12 @@ static RULES: LazyLock<Vec<Vec<Option<Rule>>>> = LazyLock::new(|| {
 /// In which known units there are series, by the name of their metric.
 #[derive(Default)]
 pub struct Units {
-    /// Of each that is opened another; 0 of those that all slots share.
+    /// Of each that is opened another; 0 of those that all shards share.
     pub(super) number: u64,
     names: RwLock<Names>,
     /// The outbox may have something else of a name.
     has_unkept: AtomicBool,
-    /// What is known here of a name that this slot does not know yet.
+    /// What is known here of a name that this shard does not know yet.
     of_all: Option<Arc<Units>>,
 }
 
@@ -82,7 +82,7 @@ struct Names {
     /// Of memory.
     taken: usize,
     /// Names of which the outbox may have something else; none where there is no outbox.
-    unkept: Option<BTreeSet<Box<str>>>,
+    unsaved: Option<BTreeSet<Box<str>>>,
     /// Those that are pending, and how many posts hold each.
     pending: BTreeMap<Named, usize>,
 }
@@ -106,7 +106,7 @@ impl Known {
     }
 
     /// Those of which a start would believe something else, since the outbox has it.
-    fn unkept(self) -> Set {
+    fn unsaved(self) -> Set {
         let beside = self.beside | self.pending_beside;
         beside & !self.kept | (self.deciding | self.pending) & !beside & self.kept
     }
@@ -161,8 +161,8 @@ fn all() -> impl Iterator<Item = (&'static str, u64)> {
 }
 
 impl Units {
-    /// Of one of several slots, which knows nothing yet.
-    pub fn of_slot(of_all: Arc<Units>) -> Units {
+    /// Of one of several shards, which knows nothing yet.
+    pub fn of_shard(of_all: Arc<Units>) -> Units {
         Units { number: 1 + LAST.fetch_add(1, Relaxed), of_all: Some(of_all), ..Units::default() }
     }
 
@@ -257,7 +257,7 @@ impl Units {
                 known.beside |= bit(unit);
             }
         }
-        names.unkept = Some(BTreeSet::new());
+        names.unsaved = Some(BTreeSet::new());
     }
 
     /// Behind them, which were noted as if all of them decided: those that are beside nothing any more, and are as others from
@@ -283,11 +283,11 @@ impl Units {
     }
 
     /// What the outbox has to have as beside others, and what no more.
-    pub fn unkept(&self) -> [Vec<Named>; 2] {
+    pub fn unsaved(&self) -> [Vec<Named>; 2] {
         let (names, mut both) = (self.read(), [Vec::new(), Vec::new()]);
-        for metric in names.unkept.iter().flatten() {
+        for metric in names.unsaved.iter().flatten() {
             let known = names.of(metric);
-            for unit in units_of(known.unkept()) {
+            for unit in units_of(known.unsaved()) {
                 both[usize::from(known.kept & bit(unit) != 0)].push((metric.clone(), unit));
             }
         }
@@ -303,14 +303,14 @@ impl Units {
             }
         }
         // Others may have come meanwhile.
-        let told = names.unkept.as_mut().map(std::mem::take).unwrap_or_default();
+        let told = names.unsaved.as_mut().map(std::mem::take).unwrap_or_default();
         told.iter().for_each(|metric| self.note_change(&mut names, metric));
     }
 
     /// Behind a change of what is known of a name, with the lock: who finds it changed finds this too.
     fn note_change(&self, names: &mut Names, metric: &str) {
         names.note_change(metric);
-        self.has_unkept.store(names.unkept.iter().any(|unkept| !unkept.is_empty()), SeqCst);
+        self.has_unkept.store(names.unsaved.iter().any(|unsaved| !unsaved.is_empty()), SeqCst);
     }
 }
 
@@ -326,9 +326,9 @@ impl Names {
     /// What nothing is known of goes, but where the outbox is being told of it.
     fn note_change(&mut self, metric: &str) {
         let known = self.of(metric);
-        let is_told = self.unkept.as_mut().is_some_and(|unkept| {
-            let is_new = known.unkept() != 0 && unkept.insert(metric.into());
-            is_new || unkept.contains(metric)
+        let is_told = self.unsaved.as_mut().is_some_and(|unsaved| {
+            let is_new = known.unsaved() != 0 && unsaved.insert(metric.into());
+            is_new || unsaved.contains(metric)
         });
         if known == Known::default() && !is_told && self.units.remove(metric).is_some() {
             self.taken -= metric.len() + ENTRY;

@@ -1,7 +1,7 @@
 //! Bytes that have a number each. Those of a level have most in common, and there are many: so each is kept as what it has beside
 //! one that is kept whole.
 
-use crate::files::shared_ends;
+use crate::storage::shared_ends;
 use hashbrown::raw::RawTable;
 
 /// Who asks has the hash, by a key that nobody who posts knows.

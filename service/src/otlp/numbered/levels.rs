@@ -11,7 +11,7 @@ use std::sync::Arc;
 /// The place of a level.
 pub type Level = u32;
 
-/// The level of resources, where all slots are read alike; each that is not has another.
+/// The level of resources, where all shards are read alike; each that is not has another.
 pub const TOP: Level = 0;
 /// The level of series' keys, by which points of a text are known.
 pub const KEYS: Level = 1;

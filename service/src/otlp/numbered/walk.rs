@@ -5,7 +5,7 @@ use super::fields::{adds_up, eights, is_recorded, is_span, number, pass_extremes
 use super::identity::Learner;
 use super::levels::{Level, Levels, CUMULATIVE};
 use super::Numbered;
-use crate::files::Points;
+use crate::journal::Points;
 use crate::otlp::finer_units::{InFiner, RoundedPoint, Scale};
 use crate::otlp::from_protobuf::is_exemplar;
 use crate::otlp::output::LONGEST_LIST;

@@ -1,27 +1,27 @@
 //! Requests drawn at random, however they are written, and what of them goes where.
 
 use super::*;
-use crate::files::test_runs::runs;
 use crate::otlp::messages::*;
 use crate::otlp::tests::posted;
 use crate::otlp::tests::{Random, Spelling};
 use crate::otlp::wire::field;
+use crate::storage::test_runs::runs;
 use prost::Message;
 use std::collections::BTreeMap;
 
-const SLOTS: u16 = 7;
+const SHARDS: u16 = 7;
 
 fn resources(dropped: &[&str]) -> Resources {
     let reading =
         Reading { dropped: dropped.iter().map(ToString::to_string).collect(), ..Reading::default() };
-    Resources::new(SLOTS, Arc::new(reading))
+    Resources::new(SHARDS, Arc::new(reading))
 }
 
 /// The parts of a request, whole ones too.
 fn parts_of(resources: &Resources, encoding: Encoding, body: &Bytes) -> Vec<(u16, Bytes)> {
     match resources.split(encoding, body) {
-        Split::Whole(slot) => vec![(slot, body.clone())],
-        Split::Parts(parts) => parts.into_iter().map(|part| (part.slot, part.body)).collect(),
+        Split::Whole(shard) => vec![(shard, body.clone())],
+        Split::Parts(parts) => parts.into_iter().map(|part| (part.shard, part.body)).collect(),
     }
 }
 
@@ -85,7 +85,7 @@ fn spellings(request: &ExportMetricsServiceRequest) -> Vec<Bytes> {
 
 /// Else the same series would be counted in two places, each of which takes what the other has.
 #[test]
-fn all_points_of_a_series_have_one_slot() {
+fn all_points_of_a_series_have_one_shard() {
     let (resources, mut random) = (resources(&[]), Random(0x5ee7));
     let (mut split, mut series) = (0, 0);
     let requests = runs(100, 500) as usize;
@@ -107,10 +107,10 @@ fn all_points_of_a_series_have_one_slot() {
         for (encoding, body) in bodies {
             let parts = parts_of(&resources, encoding, &body);
             let mut found = (BTreeMap::new(), 0);
-            for (slot, part) in &parts {
+            for (shard, part) in &parts {
                 let (series, foreign) = read(&resources, encoding, part);
                 for key in series.keys() {
-                    assert_eq!(slot_of_series(key, SLOTS), Some(*slot), "{key:?} of {body:02x?}");
+                    assert_eq!(shard_of_series(key, SHARDS), Some(*shard), "{key:?} of {body:02x?}");
                 }
                 found.0.extend(series);
                 found.1 += foreign;
@@ -138,30 +138,30 @@ fn what_is_dropped_of_a_resource_has_no_say() {
             scope_metrics: Vec::new(),
         }],
     };
-    let slots = |resources: &Resources| {
-        let mut slots: Vec<u16> = Vec::new();
+    let shards = |resources: &Resources| {
+        let mut shards: Vec<u16> = Vec::new();
         for pod in 0..40 {
             let request = with(&pod.to_string());
-            slots.push(parts_of(resources, Encoding::Protobuf, &request.encode_to_vec().into())[0].0);
-            slots.push(parts_of(resources, Encoding::Json, &spellings(&request)[0])[0].0);
+            shards.push(parts_of(resources, Encoding::Protobuf, &request.encode_to_vec().into())[0].0);
+            shards.push(parts_of(resources, Encoding::Json, &spellings(&request)[0])[0].0);
         }
-        slots.sort_unstable();
-        slots.dedup();
-        slots.len()
+        shards.sort_unstable();
+        shards.dedup();
+        shards.len()
     };
-    assert_eq!(slots(&resources(&["pod"])), 1);
-    assert_eq!(slots(&resources(&[])), usize::from(SLOTS));
+    assert_eq!(shards(&resources(&["pod"])), 1);
+    assert_eq!(shards(&resources(&[])), usize::from(SHARDS));
 }
 
-/// Slot 0 refuses it, or finds its points foreign.
+/// Shard 0 refuses it, or finds its points foreign.
 #[test]
-fn what_can_t_be_read_is_slot_0_s() {
+fn what_can_t_be_read_is_shard_0_s() {
     let resources = resources(&[]);
     let sound = field(1, &field(1, &field(1, b"\x0a\x01a\x12\x03\x0a\x01x")));
-    let Split::Whole(slot) = resources.split(Encoding::Protobuf, &sound.clone().into()) else {
+    let Split::Whole(shard) = resources.split(Encoding::Protobuf, &sound.clone().into()) else {
         panic!("it has one resource");
     };
-    assert_ne!(slot, UNREAD);
+    assert_ne!(shard, UNREAD);
     for unread in [
         field(1, &field(1, b"\x0a\x05a")),
         field(1, &[&field(1, b"")[..], b"\x0a\x05a"].concat()),
@@ -174,8 +174,8 @@ fn what_can_t_be_read_is_slot_0_s() {
             panic!("{unread:02x?}");
         };
         let found: Vec<_> =
-            parts.iter().map(|part| (part.slot, &part.body[..], &part.resources[..])).collect();
-        assert_eq!(found, [(slot, &sound[..], &[0][..]), (UNREAD, &unread, &[1])]);
+            parts.iter().map(|part| (part.shard, &part.body[..], &part.resources[..])).collect();
+        assert_eq!(found, [(shard, &sound[..], &[0][..]), (UNREAD, &unread, &[1])]);
     }
     for whole in [&b"\x08\x01"[..], b"\x0a\x05a", b"\x0a"] {
         let body = Bytes::from([&sound[..], whole].concat());
@@ -183,7 +183,7 @@ fn what_can_t_be_read_is_slot_0_s() {
     }
     let sound = r#"{"resource":{"attributes":[{"key":"a","value":{"stringValue":"x"}}]}}"#;
     let list = |elements: &str| Bytes::from(format!(r#"{{"resourceMetrics":[{elements}]}}"#));
-    assert_eq!(resources.split(Encoding::Json, &list(sound)), Split::Whole(slot));
+    assert_eq!(resources.split(Encoding::Json, &list(sound)), Split::Whole(shard));
     for unread in [
         r#"{"resource":5}"#,
         r#"{"resource":{},"resource":{}}"#,
@@ -192,7 +192,7 @@ fn what_can_t_be_read_is_slot_0_s() {
     ] {
         let body = list(&format!("{sound} ,\n{unread}"));
         let parts = parts_of(&resources, Encoding::Json, &body);
-        assert_eq!(parts, [(slot, list(sound)), (UNREAD, list(unread))]);
+        assert_eq!(parts, [(shard, list(sound)), (UNREAD, list(unread))]);
     }
     for whole in [
         "",
@@ -209,7 +209,7 @@ fn what_can_t_be_read_is_slot_0_s() {
 
 #[test]
 fn resources_that_come_and_go_take_no_memory_for_ever() {
-    let known = SlotCache::default();
+    let known = ShardCache::default();
     for number in 0..10_000u32 {
         let resource = [&number.to_le_bytes()[..], &[0; 8 << 10]].concat();
         assert_eq!(known.of(&resource, || 3), 3);

@@ -1,8 +1,8 @@
 //! Which points the book takes, and of which series they are.
 
-mod zeros;
+mod seed_points;
 
-pub(crate) use zeros::{KINDS, VALUES};
+pub(crate) use seed_points::{KINDS, VALUES};
 
 use super::*;
 use crate::otlp::messages::{Data, ExportMetricsServiceRequest, Number};

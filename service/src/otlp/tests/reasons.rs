@@ -1,9 +1,9 @@
 //! Each refusal has its own reason, whose text it begins with.
 
 use super::*;
-use crate::core;
-use crate::identity::Stranger;
-use crate::intake::refusal::{Full, Refusal};
+use crate::book;
+use crate::identity::SenderRefusal;
+use crate::ingest::refusal::{Full, Refusal};
 use std::collections::BTreeSet;
 
 #[test]
@@ -34,22 +34,22 @@ fn each_label_is_in_the_document_of_formats() {
 fn of_book() -> Vec<Outcome> {
     let (point, frontier) = (5, 7);
     let all = [
-        core::Refused::Quarantined,
-        core::Refused::Full,
-        core::Refused::OtherWriter { point },
-        core::Refused::OutOfOrder { point, frontier },
-        core::Refused::TooManySeries,
-        core::Refused::TooLarge,
-        core::Refused::NoMemory,
-        core::Refused::NotJson,
-        core::Refused::WrongShape,
-        core::Refused::TooManyHours { parts: 2000, most: 1000 },
-        core::Refused::LongSeries,
+        book::Refused::Quarantined,
+        book::Refused::Full,
+        book::Refused::OtherWriter { point },
+        book::Refused::OutOfOrder { point, frontier },
+        book::Refused::TooManySeries,
+        book::Refused::TooLarge,
+        book::Refused::NoMemory,
+        book::Refused::NotJson,
+        book::Refused::WrongShape,
+        book::Refused::TooManyHours { parts: 2000, most: 1000 },
+        book::Refused::LongSeries,
     ];
     all.into_iter().map(Outcome::from).collect()
 }
 
-fn of_intake() -> Vec<Outcome> {
+fn of_ingest() -> Vec<Outcome> {
     let not_text = crate::otlp::json::Document::parse(b"\xff").err().unwrap();
     let all = [
         Refusal::NoSuchPath,
@@ -74,10 +74,10 @@ fn of_intake() -> Vec<Outcome> {
         Refusal::Unavailable(Reason::StoreSilent),
         Refused::NotJson(not_text).into(),
         Refused::NoSender("its resource has no service.name".into()).into(),
-        Stranger::NoToken.into(),
-        Stranger::WrongToken.into(),
-        Stranger::NotBelieved.into(),
-        Stranger::Nameless.into(),
+        SenderRefusal::NoToken.into(),
+        SenderRefusal::WrongToken.into(),
+        SenderRefusal::NotBelieved.into(),
+        SenderRefusal::Nameless.into(),
     ];
     all.iter().map(Outcome::from).collect()
 }
@@ -85,14 +85,14 @@ fn of_intake() -> Vec<Outcome> {
 /// Else the page would say of a text what another one means.
 #[test]
 fn each_refusal_begins_with_the_text_of_its_reason() {
-    for outcome in of_book().into_iter().chain(of_intake()) {
+    for outcome in of_book().into_iter().chain(of_ingest()) {
         let (reason, text) = (outcome.reason().unwrap(), outcome.refusal().unwrap());
         assert!(text.starts_with(reason.text()), "{reason:?}: {text}");
     }
     let of = |outcomes: Vec<Outcome>| outcomes.iter().filter_map(Outcome::reason).collect::<Vec<_>>();
     assert_eq!(of(of_book()).iter().collect::<BTreeSet<_>>().len(), of_book().len());
-    let other = Stranger::OtherName { name: "full".into(), other: "shop-2".into() };
-    let as_token = Stranger::TokenAsName { name: "full".into() };
+    let other = SenderRefusal::OtherName { name: "full".into(), other: "shop-2".into() };
+    let as_token = SenderRefusal::TokenAsName { name: "full".into() };
     assert_eq!([other, as_token].map(|stranger| stranger.reason()), [Reason::OtherName; 2]);
 }
 

@@ -26,8 +26,8 @@ fn a_place_is_told_among_the_points_of_the_profile() {
     // The first point of the request is off the clock.
     let among_all = |place| place + 1;
     for point in [0, 1] {
-        let refused = draft.refused(crate::core::Refused::OtherWriter { point }, among_all);
-        assert_eq!(refused, crate::core::Refused::OtherWriter { point: point + 1 });
+        let refused = draft.refused(crate::book::Refused::OtherWriter { point }, among_all);
+        assert_eq!(refused, crate::book::Refused::OtherWriter { point: point + 1 });
     }
 }
 
@@ -127,14 +127,14 @@ fn takes_memory_for_runs_of_long_series() {
     let (names, runs) = (Names::new().unwrap(), Runs::default());
     let numbers: Vec<u64> =
         (0..LONG).map(|number| names.learn(long_request(number).into()).unwrap()).collect();
-    let length = series::only(&files::Names::text(&*names, numbers[0])).unwrap().0.len();
+    let length = series::only(&journal::Names::text(&*names, numbers[0])).unwrap().0.len();
     assert!(length > 42_000, "{length}");
     let mut points = Points::default();
     numbers.iter().for_each(|number| points.push(*number, 10, 20, [5]));
     let cumulative: Vec<u32> = (0..LONG as u32).collect();
-    let before = crate::core::allocated();
+    let before = crate::book::allocated();
     runs.draft(Posted { points: &points, cumulative: &cumulative, names: &names }, |_| 0).keep();
-    let taken = crate::core::allocated() - before;
+    let taken = crate::book::allocated() - before;
     assert_eq!(runs.count() as u64, LONG);
     assert!(taken < LONG as usize * MOST_OF_A_RUN, "{taken} bytes");
     println!("{taken} bytes");

@@ -2,9 +2,10 @@
 
 use super::content::Content;
 use super::MoveFault;
-use crate::files::{Body, Fault, Names, Points, Post, Replayed};
+use crate::journal::{Body, Names, Points, Post, Replayed};
 use crate::otlp::series::{only, posted};
-use crate::otlp::{slot_of_series, Encoding, Reading, Resources, Split};
+use crate::otlp::{shard_of_series, Encoding, Reading, Resources, Split};
+use crate::storage::Fault;
 use bytes::Bytes;
 use std::collections::{BTreeSet, HashMap};
 use std::sync::Arc;
@@ -35,23 +36,23 @@ impl Names for Named {
 }
 
 impl Named {
-    fn note(&mut self, number: u64, text: Bytes, slots: u16) {
-        let slot = only(&text).and_then(|key| slot_of_series(&key, slots)).unwrap_or(0);
-        let before = self.texts.insert(number, (text.clone(), slot));
+    fn note(&mut self, number: u64, text: Bytes, shards: u16) {
+        let shard = only(&text).and_then(|key| shard_of_series(&key, shards)).unwrap_or(0);
+        let before = self.texts.insert(number, (text.clone(), shard));
         self.generation += u64::from(before.is_some_and(|(before, _)| before != text));
     }
 
-    fn slot(&self, number: u64) -> u16 {
-        self.texts.get(&number).map_or(0, |(_, slot)| *slot)
+    fn shard(&self, number: u64) -> u16 {
+        self.texts.get(&number).map_or(0, |(_, shard)| *shard)
     }
 }
 
 impl Posts {
     /// For this many shards.
-    pub fn new(slots: u16) -> Posts {
+    pub fn new(shards: u16) -> Posts {
         Posts {
             // The journal's posts already have what the service's settings add to a resource.
-            resources: Resources::new(slots, Arc::new(Reading::default())),
+            resources: Resources::new(shards, Arc::new(Reading::default())),
             named: Named { generation: 1, ..Named::default() },
             count: 0,
         }
@@ -67,23 +68,23 @@ impl Posts {
         from.journal.posts(from.outbox.journal(), u64::MAX, |read| {
             self.count += 1;
             let parts = self.parts(read);
-            ended = parts.iter().try_for_each(|(slot, post)| each(*slot, post, &self.named));
+            ended = parts.iter().try_for_each(|(shard, post)| each(*shard, post, &self.named));
             ended.is_ok()
         })?;
         Ok(ended?)
     }
 
     fn parts(&mut self, read: Replayed) -> Vec<(u16, Post)> {
-        let slots = self.resources.slots();
+        let shards = self.resources.shards();
         for (number, text) in read.named {
-            self.named.note(number, text, slots);
+            self.named.note(number, text, shards);
         }
         match &read.post.body {
-            _ if slots == 1 => vec![(0, read.post)],
+            _ if shards == 1 => vec![(0, read.post)],
             Body::Text(body) => match self.resources.split(Encoding::Json, body) {
-                Split::Whole(slot) => vec![(slot, read.post)],
+                Split::Whole(shard) => vec![(shard, read.post)],
                 Split::Parts(parts) => {
-                    let part = |part: crate::otlp::Part| (part.slot, of_text(&read.post, part.body));
+                    let part = |part: crate::otlp::Part| (part.shard, of_text(&read.post, part.body));
                     parts.into_iter().map(part).collect()
                 }
             },
@@ -92,19 +93,19 @@ impl Posts {
     }
 
     fn of_points(&self, post: &Post, points: &Points) -> Vec<(u16, Post)> {
-        let slots: BTreeSet<u16> = points.numbers().map(|number| self.named.slot(number)).collect();
+        let shards: BTreeSet<u16> = points.numbers().map(|number| self.named.shard(number)).collect();
         // Rejected points are counted in one part only.
         let mut foreign = post.foreign;
-        let part = |slot| {
-            let points = points.of_numbers(|number| self.named.slot(number) == slot);
+        let part = |shard| {
+            let points = points.of_numbers(|number| self.named.shard(number) == shard);
             let part = Post {
                 sender: post.sender.clone(),
                 foreign: std::mem::take(&mut foreign),
                 body: Body::Points(points),
             };
-            (slot, part)
+            (shard, part)
         };
-        slots.into_iter().map(part).collect()
+        shards.into_iter().map(part).collect()
     }
 }
 

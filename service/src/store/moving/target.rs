@@ -1,9 +1,12 @@
 //! A shard of the store that is being filled.
 
 use super::MoveFault;
-use crate::files::drive::Drive;
-use crate::files::{Dead, Fault, Journal, Names, Outbox, Post};
-use crate::store::postgres::{PostgresDrive, PostgresStore};
+use crate::dead_letters::DeadLetters;
+use crate::journal::{Journal, Names, Post};
+use crate::outbox::Outbox;
+use crate::storage::shard_store::ShardStore;
+use crate::storage::Fault;
+use crate::store::postgres::{PostgresShardStore, PostgresStore};
 use std::path::Path;
 use std::sync::Arc;
 
@@ -15,18 +18,18 @@ pub struct To {
     pub term: u64,
     journal: Journal,
     pub outbox: Outbox,
-    dead: Dead,
+    dead: DeadLetters,
     /// Bytes that may not be durable yet.
     written: u64,
 }
 
 impl To {
     /// Takes a shard and deletes what an earlier try left in it.
-    pub fn slot(store: &PostgresStore, number: u16, id: &str) -> Result<To, MoveFault> {
+    pub fn shard(store: &PostgresStore, number: u16, id: &str) -> Result<To, MoveFault> {
         let term = store.take_to_move(number, id)?;
-        let drive = store.drive(number, term).map_err(Fault::from)?;
-        wipe(&drive)?;
-        let (journal, outbox, dead) = drive.open_files(&store.cluster.epoch)?;
+        let shard_store = store.shard_store(number, term).map_err(Fault::from)?;
+        wipe(&shard_store)?;
+        let (journal, outbox, dead) = shard_store.open_files(&store.cluster.epoch)?;
         Ok(To { number, term, journal, outbox, dead, written: 0 })
     }
 
@@ -34,13 +37,13 @@ impl To {
         self.journal.append(post, names);
         self.written += post.body.bytes();
         match self.written > PIECE {
-            true => self.settle(),
+            true => self.sync(),
             false => Ok(()),
         }
     }
 
     /// Copies the dead letters and returns how many there are.
-    pub fn take_letters(&self, from: &Dead) -> Result<u64, Fault> {
+    pub fn take_letters(&self, from: &DeadLetters) -> Result<u64, Fault> {
         let mut letters = 0;
         from.each(|key, bytes| {
             letters += 1;
@@ -50,10 +53,10 @@ impl To {
     }
 
     /// Makes everything written so far durable.
-    pub fn settle(&mut self) -> Result<(), Fault> {
+    pub fn sync(&mut self) -> Result<(), Fault> {
         self.written = 0;
-        self.journal.settle(self.journal.now());
-        self.outbox.settle()
+        self.journal.sync_up_to(self.journal.now());
+        self.outbox.sync()
     }
 }
 
@@ -65,7 +68,7 @@ pub fn go_on(to: &Outbox, from: &Outbox) -> Result<u64, Fault> {
         to.go_on_with(waits)?;
         if written as u64 > PIECE {
             written = 0;
-            to.settle()?;
+            to.sync()?;
         }
         Ok(())
     })?;
@@ -73,15 +76,15 @@ pub fn go_on(to: &Outbox, from: &Outbox) -> Result<u64, Fault> {
 }
 
 /// Deletes all files of a shard.
-fn wipe(drive: &Arc<PostgresDrive>) -> Result<(), MoveFault> {
+fn wipe(shard_store: &Arc<PostgresShardStore>) -> Result<(), MoveFault> {
     let wiped = ["journal", "outbox", "dead-letters"].into_iter().try_for_each(|folder| {
         let folder = Path::new(folder);
-        let mut names = drive.list(folder)?.into_iter();
-        names.try_for_each(|name| drive.remove(&folder.join(name)))
+        let mut names = shard_store.list(folder)?.into_iter();
+        names.try_for_each(|name| shard_store.remove(&folder.join(name)))
     });
-    let wiped = wiped.and_then(|()| drive.sync()).map(drop);
+    let wiped = wiped.and_then(|()| shard_store.sync()).map(drop);
     wiped.map_err(|source| {
-        let path = format!("slot {}", drive.slot()).into();
+        let path = format!("shard {}", shard_store.shard()).into();
         Fault::Io { path, source }.into()
     })
 }

@@ -3,8 +3,8 @@
 
 use super::copies::Copies;
 use super::counts::Counts;
-use super::doubt::{Backoff, Doubt};
-use super::session::{within, Owned, Session, SlotRow};
+use super::session::{within, Owned, Session, ShardRow};
+use super::unknown_outcome::{Backoff, UnknownOutcome};
 use crate::log::RateLimit;
 use crate::postgres::{self, Driver, Server};
 use std::future::Future;
@@ -81,8 +81,8 @@ impl Connections {
     async fn watched<T>(
         &self,
         number: u64,
-        asking: impl Future<Output = Result<T, Doubt>>,
-    ) -> Result<T, Doubt> {
+        asking: impl Future<Output = Result<T, UnknownOutcome>>,
+    ) -> Result<T, UnknownOutcome> {
         let mut suspect = self.suspect.subscribe();
         let is_suspect = async {
             while *suspect.borrow_and_update() < number {
@@ -94,12 +94,12 @@ impl Connections {
         tokio::select! {
             biased;
             answer = asking => answer,
-            () = is_suspect => Err(Doubt::NotConnected("another connection to this server broke".into())),
+            () = is_suspect => Err(UnknownOutcome::NotConnected("another connection to this server broke".into())),
         }
     }
 
     /// Notes a failure of this connection: the others to its server become suspect.
-    fn note(&self, number: u64, doubt: &Doubt) {
+    fn note(&self, number: u64, doubt: &UnknownOutcome) {
         if doubt.is_of_server() {
             self.suspect.send_if_modified(|suspect| {
                 // If it was suspect already, its failure says nothing about connections made since.
@@ -112,7 +112,7 @@ impl Connections {
         }
     }
 
-    pub fn tell(&self, whose: &str, doubt: &Doubt) {
+    pub fn tell(&self, whose: &str, doubt: &UnknownOutcome) {
         self.counts.doubts.fetch_add(1, Relaxed);
         if IN_DOUBT.is_due() {
             let reason = doubt.to_string();
@@ -121,7 +121,7 @@ impl Connections {
     }
 
     /// Repeats a call until its outcome is known; the call must be repeatable.
-    pub async fn until_known<T, F: Future<Output = Result<T, Doubt>>>(
+    pub async fn until_known<T, F: Future<Output = Result<T, UnknownOutcome>>>(
         &self,
         whose: &str,
         ask: impl Fn() -> F,
@@ -142,7 +142,7 @@ impl Connection {
         Connection { all: all.clone(), session: Mutex::new(None) }
     }
 
-    pub async fn session(&self) -> Result<Arc<Session>, Doubt> {
+    pub async fn session(&self) -> Result<Arc<Session>, UnknownOutcome> {
         let mut place = self.session.lock().await;
         let is_sound = |session: &&Arc<Session>| {
             !session.client.is_closed() && session.number > *self.all.suspect.borrow()
@@ -165,8 +165,8 @@ impl Connection {
     pub async fn heard<T>(
         &self,
         session: &Arc<Session>,
-        asking: impl Future<Output = Result<T, Doubt>>,
-    ) -> Result<T, Doubt> {
+        asking: impl Future<Output = Result<T, UnknownOutcome>>,
+    ) -> Result<T, UnknownOutcome> {
         let answer = self.all.watched(session.number, asking).await;
         if let Err(doubt) = &answer {
             self.all.note(session.number, doubt);
@@ -175,16 +175,21 @@ impl Connection {
         answer
     }
 
-    pub async fn leave_after(&self, session: &Arc<Session>, doubt: &Doubt) {
+    pub async fn leave_after(&self, session: &Arc<Session>, doubt: &UnknownOutcome) {
         if session.is_left_after(doubt) {
             self.session.lock().await.take_if(|now| Arc::ptr_eq(now, session));
         }
     }
 
     /// The pieces among these that the store has.
-    pub async fn pieces(&self, slot: i32, file: u64, numbers: &[u64]) -> Result<Vec<Stored>, Doubt> {
+    pub async fn pieces(
+        &self,
+        shard: i32,
+        file: u64,
+        numbers: &[u64],
+    ) -> Result<Vec<Stored>, UnknownOutcome> {
         let session = self.session().await?;
-        self.heard(&session, session.pieces(slot, file, numbers)).await
+        self.heard(&session, session.pieces(shard, file, numbers)).await
     }
 
     /// Reads after a committed write under the term, which raises the shard's connection epoch. None if another
@@ -192,8 +197,8 @@ impl Connection {
     pub async fn behind_a_write<T>(
         &self,
         of: &Owned<'_>,
-        read: impl AsyncFnOnce(&Session, SlotRow) -> Result<T, Doubt>,
-    ) -> Result<Option<T>, Doubt> {
+        read: impl AsyncFnOnce(&Session, ShardRow) -> Result<T, UnknownOutcome>,
+    ) -> Result<Option<T>, UnknownOutcome> {
         let session = self.session().await?;
         let reading = async {
             match session.raise_link(of).await? {
@@ -209,13 +214,13 @@ impl Connection {
 static FIRST: AtomicUsize = AtomicUsize::new(0);
 
 /// Opens a connection with our settings to a host that accepts writes.
-pub(super) async fn connect(server: &Server) -> Result<(Client, Driver), Doubt> {
+pub(super) async fn connect(server: &Server) -> Result<(Client, Driver), UnknownOutcome> {
     let (client, driver, _) = connect_to_one(server).await?;
     Ok((client, driver))
 }
 
 /// The same, and to which host it is.
-pub(super) async fn connect_to_one(server: &Server) -> Result<(Client, Driver, Config), Doubt> {
+pub(super) async fn connect_to_one(server: &Server) -> Result<(Client, Driver, Config), UnknownOutcome> {
     let (mut told, mut may_pass) = (Vec::new(), true);
     let mut hosts = server.each_host();
     let first = FIRST.fetch_add(1, Relaxed) % hosts.len().max(1);
@@ -232,12 +237,12 @@ pub(super) async fn connect_to_one(server: &Server) -> Result<(Client, Driver, C
     told.dedup();
     let told = format!("{server}: {}", told.join("; "));
     Err(match may_pass {
-        true => Doubt::NotConnected(told),
-        false => Doubt::Refused(told),
+        true => UnknownOutcome::NotConnected(told),
+        false => UnknownOutcome::Refused(told),
     })
 }
 
-async fn connect_to(server: &Server, host: &Config) -> Result<(Client, Driver), Doubt> {
+async fn connect_to(server: &Server, host: &Config) -> Result<(Client, Driver), UnknownOutcome> {
     let (client, driver) = postgres::connect(server, host, SETTINGS, CONNECT).await?;
     // Other engines may not have these settings.
     let _ = within(CONNECT, client.batch_execute(PLANS)).await;

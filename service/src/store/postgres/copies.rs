@@ -38,7 +38,7 @@ impl From<Row> for Settings {
 impl Settings {
     /// Why the server can lose a commit; none if it can't. If standbys are named, each commit waits for one, so it need
     /// not be checked whether one is connected.
-    pub fn lose(&self) -> Option<String> {
+    pub fn fence_off(&self) -> Option<String> {
         let is = |setting: &Option<String>, good: &[&str]| {
             setting.as_ref().is_some_and(|found| good.contains(&found.as_str()))
         };
@@ -60,7 +60,7 @@ impl Settings {
 pub(super) async fn check(client: &Client, server: &Server, copies: Copies) -> Result<(), StoreFault> {
     let row = client.query_one(SETTINGS, &[]).await;
     let row = row.map_err(|error| StoreFault::of(server, error))?;
-    match (Settings::from(row).lose(), copies) {
+    match (Settings::from(row).fence_off(), copies) {
         (None, _) => Ok(()),
         (Some(why), Copies::One) => {
             tracing::warn!(%server, reason = why, "the store can lose data that it reports as durable");
@@ -95,7 +95,7 @@ mod tests {
             (None, on(), Some("*".into()), Some("does not report")),
         ] {
             let settings = Settings { fsync, synchronous_commit: commit, standbys };
-            let why = settings.lose();
+            let why = settings.fence_off();
             let is_named = why.as_ref().is_some_and(|why| part.is_some_and(|part| why.contains(part)));
             assert!(is_named || why.is_none() && part.is_none(), "{why:?} for {part:?}");
         }

@@ -1,14 +1,14 @@
 //! Why a store can't be used, and what to do about it. Each text is complete: a fault has no cause that would repeat
 //! it.
 
-use super::doubt::Doubt;
+use super::unknown_outcome::UnknownOutcome;
 
 #[derive(Debug, thiserror::Error)]
 pub enum StoreFault {
     #[error(transparent)]
-    Doubt(#[from] Doubt),
+    UnknownOutcome(#[from] UnknownOutcome),
     #[error("{server}: {doubt}")]
-    Server { server: String, doubt: Doubt },
+    Server { server: String, doubt: UnknownOutcome },
     #[error("{0} has no store: make one by `totxegun store init`, or correct the address")]
     None(String),
     #[error("{0} has a store already: use it, or delete it with everything in it by `drop schema totxegun_store cascade`")]
@@ -16,10 +16,10 @@ pub enum StoreFault {
     #[error("the store in {server} has format version {found}, and this totxegun reads only {known}: use the totxegun that \
         made it, or make a store in another database")]
     Version { server: String, found: i32, known: i32 },
-    #[error("a store can't have {given} slots: give 1 to {most}")]
-    Slots { given: u16, most: u16 },
-    #[error("there is no slot {given}: the store has slots 0 to {}", slots - 1)]
-    NoSlot { given: u16, slots: u16 },
+    #[error("a store can't have {given} shards: give 1 to {most}")]
+    Shards { given: u16, most: u16 },
+    #[error("there is no shard {given}: the store has shards 0 to {}", shards - 1)]
+    NoShard { given: u16, shards: u16 },
     #[error("the store is in use by {0}: stop all instances, and call this again")]
     Running(String),
     #[error("this instance reads posts by other rules than the store's other instances. Here: {here}. There: {there}. Start \
@@ -50,12 +50,12 @@ impl StoreFault {
     /// Whether the cause may go away without anyone's help.
     pub fn may_pass(&self) -> bool {
         match self {
-            StoreFault::Doubt(doubt) | StoreFault::Server { doubt, .. } => doubt.may_pass(),
+            StoreFault::UnknownOutcome(doubt) | StoreFault::Server { doubt, .. } => doubt.may_pass(),
             _ => false,
         }
     }
 
-    pub(super) fn of(server: impl ToString, doubt: impl Into<Doubt>) -> StoreFault {
+    pub(super) fn of(server: impl ToString, doubt: impl Into<UnknownOutcome>) -> StoreFault {
         StoreFault::Server { server: server.to_string(), doubt: doubt.into() }
     }
 }
@@ -67,10 +67,10 @@ mod tests {
 
     #[test]
     fn where_all_causes_are_said_each_is_said_once() {
-        let refused = || Doubt::NotConnected("u@h:1/d: refused".into());
+        let refused = || UnknownOutcome::NotConnected("u@h:1/d: refused".into());
         for (fault, said) in [
-            (StoreFault::Doubt(refused()), "u@h:1/d: refused"),
-            (StoreFault::of("u@h:1/d", Doubt::Refused("no".into())), "u@h:1/d: no"),
+            (StoreFault::UnknownOutcome(refused()), "u@h:1/d: refused"),
+            (StoreFault::of("u@h:1/d", UnknownOutcome::Refused("no".into())), "u@h:1/d: no"),
             (
                 StoreFault::from(Error::other("none")),
                 "the system gives no thread or no random bytes for the store: none",

@@ -1,8 +1,8 @@
 //! An instance's view of the store: implements the calls that `cluster` makes (`Terms`).
 
-use super::doubt::Doubt;
+use super::unknown_outcome::UnknownOutcome;
 use super::PostgresStore;
-use crate::cluster::terms::{Row, Seen, Silence, Stay, Terms, Told};
+use crate::cluster::terms::{Eligibility, InstanceReport, Row, Seen, Terms, Unavailable};
 use std::sync::atomic::{AtomicU64, Ordering::Relaxed};
 use std::sync::Arc;
 
@@ -28,46 +28,46 @@ impl Member {
     }
 }
 
-impl From<Doubt> for Silence {
-    fn from(doubt: Doubt) -> Silence {
+impl From<UnknownOutcome> for Unavailable {
+    fn from(doubt: UnknownOutcome) -> Unavailable {
         match doubt {
-            Doubt::FewCopies(_) => Silence::FewCopies(doubt.to_string()),
-            doubt => Silence::Unanswered(doubt.to_string()),
+            UnknownOutcome::FewCopies(_) => Unavailable::FewCopies(doubt.to_string()),
+            doubt => Unavailable::Unanswered(doubt.to_string()),
         }
     }
 }
 
 impl Terms for Member {
-    async fn beat(&self, stay: Stay, told: Told) -> Result<Seen, Silence> {
+    async fn heartbeat(&self, stay: Eligibility, told: InstanceReport) -> Result<Seen, Unavailable> {
         let address = match stay {
-            Stay::Here => self.address.as_str(),
-            Stay::Leaves => "",
+            Eligibility::Here => self.address.as_str(),
+            Eligibility::Leaves => "",
         };
         let life = self.life.load(Relaxed);
-        let last = self.store.beat(&self.name, address, &self.operate, told, life).await?;
+        let last = self.store.heartbeat(&self.name, address, &self.operate, told, life).await?;
         let life = if life == 0 { last } else { life };
         self.life.store(life, Relaxed);
         let (instances, clock) = self.store.instances().await?;
-        Ok(Seen { instances, slots: self.store.slots().await?, clock, life })
+        Ok(Seen { instances, shards: self.store.shards().await?, clock, life })
     }
 
-    async fn slots(&self) -> Result<Vec<Row>, Silence> {
-        Ok(self.store.slots().await?)
+    async fn shards(&self) -> Result<Vec<Row>, Unavailable> {
+        Ok(self.store.shards().await?)
     }
 
-    async fn take(&self, slot: u16, seen: u64) -> Result<Option<u64>, Silence> {
-        Ok(self.store.take(slot, seen, &self.name).await?)
+    async fn take(&self, shard: u16, seen: u64) -> Result<Option<u64>, Unavailable> {
+        Ok(self.store.take(shard, seen, &self.name).await?)
     }
 
-    async fn release(&self, slot: u16, term: u64) -> Result<(), Silence> {
-        Ok(self.store.release(slot, term, &self.name).await?)
+    async fn release(&self, shard: u16, term: u64) -> Result<(), Unavailable> {
+        Ok(self.store.release(shard, term, &self.name).await?)
     }
 
-    async fn leave(&self) -> Result<(), Silence> {
+    async fn leave(&self) -> Result<(), Unavailable> {
         Ok(self.store.leave(&self.name).await?)
     }
 
-    async fn forget(&self, name: &str, beat: u64) -> Result<bool, Silence> {
-        Ok(self.store.forget(name, beat).await?)
+    async fn remove_row(&self, name: &str, beat: u64) -> Result<bool, Unavailable> {
+        Ok(self.store.remove_row(name, beat).await?)
     }
 }

@@ -7,32 +7,32 @@
 mod connection;
 mod copies;
 mod counts;
-mod doubt;
-mod drive;
 mod fault;
 mod member;
 mod restored;
 mod schema;
 mod session;
+mod shard_store;
 mod state;
 mod terms;
+mod unknown_outcome;
 
 pub use crate::postgres::Server;
 pub use copies::Copies;
 pub use counts::Counts;
-pub use doubt::Doubt;
-pub use drive::PostgresDrive;
 pub use fault::StoreFault;
 pub use member::Member;
-pub use schema::{Cluster, MOST_SLOTS};
-pub use state::Standing;
+pub use schema::{Cluster, MOST_SHARDS};
+pub use shard_store::PostgresShardStore;
+pub use state::StoreState;
+pub use unknown_outcome::UnknownOutcome;
 
-use crate::files::drive::Lost;
 use crate::postgres::identity;
+use crate::storage::shard_store::Fenced;
 use crate::work::locked;
 use connection::{Connection, Connections};
-use drive::{on_this_thread, open, GroupCommitter};
 use session::{within, Owned, SILENT};
+use shard_store::{on_this_thread, open, GroupCommitter};
 use std::collections::BTreeMap;
 use std::future::Future;
 use std::sync::{Arc, Mutex};
@@ -104,8 +104,8 @@ pub fn address(text: &str) -> Result<Server, String> {
 
 impl PostgresStore {
     /// Makes the tables of a store in this database.
-    pub fn make(server: &Server, slots: u16) -> Result<Cluster, StoreFault> {
-        Threads::start()?.wait(schema::make(server, slots))
+    pub fn make(server: &Server, shards: u16) -> Result<Cluster, StoreFault> {
+        Threads::start()?.wait(schema::make(server, shards))
     }
 
     /// Opens a store for an instance, which still has to `agree`.
@@ -150,7 +150,10 @@ impl PostgresStore {
 
     /// Retries for a while if the server goes away: it may come back, or another one may take its place. `work` must be
     /// repeatable.
-    pub(super) fn waited<T>(&self, work: impl AsyncFn() -> Result<T, Doubt>) -> Result<T, StoreFault> {
+    pub(super) fn waited<T>(
+        &self,
+        work: impl AsyncFn() -> Result<T, UnknownOutcome>,
+    ) -> Result<T, StoreFault> {
         let begun = Instant::now();
         loop {
             match self.threads.wait(work()) {
@@ -186,19 +189,19 @@ impl PostgresStore {
 
     /// Remembers that we took the shard under this term and epoch. Another instance may own it under the same term with
     /// another epoch.
-    fn note_taken(&self, slot: u16, term: u64, epoch: String) -> u64 {
-        locked(&self.taken).insert(slot, (term, epoch));
+    fn note_taken(&self, shard: u16, term: u64, epoch: String) -> u64 {
+        locked(&self.taken).insert(shard, (term, epoch));
         term
     }
 
     /// Opens a shard that we took under this term; fails if another instance has taken it since. Retries until the
     /// outcome is known.
-    pub fn drive(&self, slot: u16, term: u64) -> Result<Arc<PostgresDrive>, Lost> {
-        let taken = locked(&self.taken).get(&slot).cloned();
-        let (_, epoch) = taken.filter(|(taken, _)| *taken == term).ok_or(Lost)?;
-        let of = Owned { slot: slot.into(), term: term as i64, epoch: &epoch };
+    pub fn shard_store(&self, shard: u16, term: u64) -> Result<Arc<PostgresShardStore>, Fenced> {
+        let taken = locked(&self.taken).get(&shard).cloned();
+        let (_, epoch) = taken.filter(|(taken, _)| *taken == term).ok_or(Fenced)?;
+        let of = Owned { shard: shard.into(), term: term as i64, epoch: &epoch };
         let opened = self.threads.wait(open(&self.reader, &of))?;
-        Ok(Arc::new(PostgresDrive::new(opened, &self.committer, &self.reader, &self.threads)))
+        Ok(Arc::new(PostgresShardStore::new(opened, &self.committer, &self.reader, &self.threads)))
     }
 
     /// The store's address, without the password.

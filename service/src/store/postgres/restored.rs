@@ -10,10 +10,10 @@ use tokio_postgres::{Client, Error};
 
 /// This refers to files that may be gone. Requests that are sent again are recognised by their keys.
 const DELIVERED: &str = "delete from totxegun_store.delivered";
-const PIECES: &str = "delete from totxegun_store.piece where slot = any($1)";
-const FILES: &str = "delete from totxegun_store.file where slot = any($1)";
-const ANEW: &str = "update totxegun_store.slot set begun = false
-    where begun and not exists (select from totxegun_store.file where file.slot = slot.slot) returning slot";
+const PIECES: &str = "delete from totxegun_store.piece where shard = any($1)";
+const FILES: &str = "delete from totxegun_store.file where shard = any($1)";
+const ANEW: &str = "update totxegun_store.shard set begun = false
+    where begun and not exists (select from totxegun_store.file where file.shard = shard.shard) returning shard";
 
 async fn go_on(client: &mut Client, anew: &[i32]) -> Result<Vec<u16>, Error> {
     let transaction = client.transaction().await?;
@@ -34,11 +34,11 @@ impl PostgresStore {
     /// empty, including those that lost all their files.
     pub fn restored(&self, anew: &[u16]) -> Result<Vec<u16>, StoreFault> {
         self.admit()?;
-        if let Some(none) = anew.iter().find(|slot| **slot >= self.cluster.slots) {
-            return Err(StoreFault::NoSlot { given: *none, slots: self.cluster.slots });
+        if let Some(none) = anew.iter().find(|shard| **shard >= self.cluster.shards) {
+            return Err(StoreFault::NoShard { given: *none, shards: self.cluster.shards });
         }
         self.check_idle()?;
-        let anew: Vec<i32> = anew.iter().map(|slot| i32::from(*slot)).collect();
+        let anew: Vec<i32> = anew.iter().map(|shard| i32::from(*shard)).collect();
         self.waited(async || {
             let (mut client, _driver) = connect(&self.reader.all.server).await?;
             within(SILENT, go_on(&mut client, &anew)).await

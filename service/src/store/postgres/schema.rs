@@ -1,9 +1,9 @@
 //! The tables of a store (`schema.sql`), and the facts in its single row of `cluster`.
 
 use super::connection::connect;
-use super::doubt::Doubt;
 use super::fault::StoreFault;
 use super::session::{within, SILENT};
+use super::unknown_outcome::UnknownOutcome;
 use crate::postgres::Server;
 use std::fs::File;
 use std::io::{self, Read};
@@ -14,13 +14,13 @@ pub(super) const KNOWN: i32 = 1;
 const TABLES: &str = include_str!("schema.sql");
 /// For PostgreSQL itself; other engines that speak its protocol keep their defaults.
 const TUNING: &str = include_str!("tuning.sql");
-pub const MOST_SLOTS: u16 = 1024;
+pub const MOST_SHARDS: u16 = 1024;
 
 /// The facts about a store that never change.
 #[derive(Clone, PartialEq, Eq)]
 pub struct Cluster {
     pub id: String,
-    pub slots: u16,
+    pub shards: u16,
     /// The epoch that the first epoch of each shard continues; drawn when the store was made.
     pub epoch: String,
     /// The secret by which the instances recognise each other.
@@ -28,14 +28,14 @@ pub struct Cluster {
 }
 
 impl Cluster {
-    fn draw(slots: u16) -> io::Result<Cluster> {
-        Ok(Cluster { id: random(8)?, slots, epoch: random(8)?, secret: random(32)? })
+    fn draw(shards: u16) -> io::Result<Cluster> {
+        Ok(Cluster { id: random(8)?, shards, epoch: random(8)?, secret: random(32)? })
     }
 }
 
 /// An epoch that was never drawn before.
-pub(super) fn draw_epoch() -> Result<String, Doubt> {
-    random(8).map_err(|error| Doubt::NotConnected(format!("/dev/urandom: {error}")))
+pub(super) fn draw_epoch() -> Result<String, UnknownOutcome> {
+    random(8).map_err(|error| UnknownOutcome::NotConnected(format!("/dev/urandom: {error}")))
 }
 
 /// Random bytes, as hexadecimal digits.
@@ -48,7 +48,7 @@ fn random(bytes: usize) -> io::Result<String> {
 const IS_THERE: &str = "select count(*) from information_schema.tables
     where table_schema = 'totxegun_store' and table_name = 'cluster'";
 const VERSION: &str = "select version from totxegun_store.cluster";
-const FIND: &str = "select id, slots, epoch, secret from totxegun_store.cluster";
+const FIND: &str = "select id, shards, epoch, secret from totxegun_store.cluster";
 
 /// The version of the store, if there is one.
 async fn version(client: &Client) -> Result<Option<i32>, Error> {
@@ -59,11 +59,11 @@ async fn version(client: &Client) -> Result<Option<i32>, Error> {
 }
 
 /// Makes a store in this database.
-pub(super) async fn make(server: &Server, slots: u16) -> Result<Cluster, StoreFault> {
-    if slots == 0 || slots > MOST_SLOTS {
-        return Err(StoreFault::Slots { given: slots, most: MOST_SLOTS });
+pub(super) async fn make(server: &Server, shards: u16) -> Result<Cluster, StoreFault> {
+    if shards == 0 || shards > MOST_SHARDS {
+        return Err(StoreFault::Shards { given: shards, most: MOST_SHARDS });
     }
-    let cluster = Cluster::draw(slots)?;
+    let cluster = Cluster::draw(shards)?;
     let (mut client, _driver) = connect(server).await?;
     let of_server = |doubt| StoreFault::of(server, doubt);
     if within(SILENT, version(&client)).await.map_err(of_server)?.is_some() {
@@ -80,13 +80,13 @@ async fn make_in(client: &mut Client, cluster: &Cluster) -> Result<(), Error> {
     if version.starts_with("PostgreSQL ") && !version.contains("-YB-") {
         transaction.batch_execute(TUNING).await?;
     }
-    let slots = i32::from(cluster.slots);
-    let row = "insert into totxegun_store.cluster (id, version, slots, epoch, reading, secret)
+    let shards = i32::from(cluster.shards);
+    let row = "insert into totxegun_store.cluster (id, version, shards, epoch, reading, secret)
         values ($1, $2, $3, $4, '', $5)";
-    transaction.execute(row, &[&cluster.id, &KNOWN, &slots, &cluster.epoch, &cluster.secret]).await?;
-    let rows = "insert into totxegun_store.slot (slot, term, link, owner)
-        select slot, 0, 0, '' from generate_series(0, $1::int - 1) as slot";
-    transaction.execute(rows, &[&slots]).await?;
+    transaction.execute(row, &[&cluster.id, &KNOWN, &shards, &cluster.epoch, &cluster.secret]).await?;
+    let rows = "insert into totxegun_store.shard (shard, term, connection_epoch, owner)
+        select shard, 0, 0, '' from generate_series(0, $1::int - 1) as shard";
+    transaction.execute(rows, &[&shards]).await?;
     transaction.commit().await
 }
 
@@ -102,7 +102,7 @@ pub(super) async fn check(client: &Client, server: &Server) -> Result<Cluster, S
             let row = within(SILENT, client.query_one(FIND, &[])).await.map_err(of_server)?;
             Ok(Cluster {
                 id: row.get(0),
-                slots: row.get::<_, i32>(1) as u16,
+                shards: row.get::<_, i32>(1) as u16,
                 epoch: row.get(2),
                 secret: row.get(3),
             })

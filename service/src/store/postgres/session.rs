@@ -5,8 +5,8 @@ mod put;
 
 use super::connection::{connect_to_one, Connections, Stored, CONNECT};
 use super::copies::{self, Copies};
-use super::doubt::{Doubt, Next};
-use super::drive::Write;
+use super::shard_store::Write;
+use super::unknown_outcome::{Next, UnknownOutcome};
 use crate::postgres::{connect, Driver, Server};
 use std::collections::{BTreeMap, BTreeSet};
 use std::future::Future;
@@ -25,93 +25,94 @@ pub(super) const SILENT: Duration = Duration::from_secs(30);
 /// After so long a silence it is asked whether the server lets anybody in.
 const KNOCK: Duration = Duration::from_secs(5);
 
-/// So long a connection is kept on which the slot's row is locked. Who has the lock may wait for ever, if this server is no primary
+/// So long a connection is kept on which the shard's row is locked. Who has the lock may wait for ever, if this server is no primary
 /// any more.
 const LOCKED: Duration = Duration::from_secs(5);
 
-/// The fence of each write: selects the rows with these terms, connection epochs (`link`) and owner epochs, except rows
+/// The fence of each write: selects the rows with these terms, connection epochs (`connection_epoch`) and owner epochs, except rows
 /// that are locked, for example by a write that waits for its standby. A missing row means that another instance owns
 /// the shard, or that its owner has raised the connection epoch.
 macro_rules! mine {
     () => {
         "with mine as (
-        select slot.slot from totxegun_store.slot,
-            unnest($1::int[], $2::bigint[], $3::bigint[], $4::text[]) as owned (slot, term, link, epoch)
-        where slot.slot = owned.slot and slot.term = owned.term and slot.link = owned.link and slot.epoch = owned.epoch
-        order by slot.slot for update of slot skip locked
+        select shard.shard from totxegun_store.shard,
+            unnest($1::int[], $2::bigint[], $3::bigint[], $4::text[]) as owned (shard, term, connection_epoch, epoch)
+        where shard.shard = owned.shard and shard.term = owned.term and shard.connection_epoch = owned.connection_epoch and shard.epoch = owned.epoch
+        order by shard.shard for update of shard skip locked
     )"
     };
 }
 
 macro_rules! pieces {
     () => {
-        "insert into totxegun_store.piece (slot, file, number, place, length, bytes)
-        select mine.slot, new.file, new.number, new.place, new.length, new.bytes
+        "insert into totxegun_store.piece (shard, file, number, place, length, bytes)
+        select mine.shard, new.file, new.number, new.place, new.length, new.bytes
         from mine join unnest($5::int[], $6::bigint[], $7::bigint[], $8::bigint[], $9::int[], $10::bytea[])
-            as new (slot, file, number, place, length, bytes) on new.slot = mine.slot
+            as new (shard, file, number, place, length, bytes) on new.shard = mine.shard
         "
     };
 }
 
 /// The usual write: pieces of files, with no new names and no deleted files. Only for pieces that were never sent
 /// before: a server that does not look for them first writes a tenth less.
-const APPEND: &str = concat!(mine!(), ", put as (", pieces!(), ") select slot from mine");
+const APPEND: &str = concat!(mine!(), ", put as (", pieces!(), ") select shard from mine");
 
 /// Any write. It can be repeated. A file's pieces have higher numbers than the file, so a deletion need not look at
 /// earlier pieces.
 const PUT: &str = concat!(
     mine!(),
     ", old as (
-        select slot, min(file) as least, array_agg(file) as files
-        from unnest($11::int[], $12::bigint[]) as old (slot, file) group by slot
+        select shard, min(file) as least, array_agg(file) as files
+        from unnest($11::int[], $12::bigint[]) as old (shard, file) group by shard
     ), gone as (
-        delete from totxegun_store.piece using mine, old where old.slot = mine.slot
-        and piece.slot = mine.slot and piece.file = any(old.files) and piece.number > old.least
+        delete from totxegun_store.piece using mine, old where old.shard = mine.shard
+        and piece.shard = mine.shard and piece.file = any(old.files) and piece.number > old.least
     ), gone_files as (
-        delete from totxegun_store.file using mine, old where old.slot = mine.slot
-        and file.slot = mine.slot and file.file = any(old.files)
+        delete from totxegun_store.file using mine, old where old.shard = mine.shard
+        and file.shard = mine.shard and file.file = any(old.files)
     ), named as (
-        insert into totxegun_store.file (slot, file, name)
-        select mine.slot, new.file, new.name
-        from mine join unnest($13::int[], $14::bigint[], $15::text[]) as new (slot, file, name) on new.slot = mine.slot
-        on conflict (slot, file) do update set name = excluded.name
+        insert into totxegun_store.file (shard, file, name)
+        select mine.shard, new.file, new.name
+        from mine join unnest($13::int[], $14::bigint[], $15::text[]) as new (shard, file, name) on new.shard = mine.shard
+        on conflict (shard, file) do update set name = excluded.name
     ), begun as (
-        update totxegun_store.slot set begun = true from mine
-        where slot.slot = mine.slot and slot.slot = any($13::int[]) and not slot.begun
+        update totxegun_store.shard set begun = true from mine
+        where shard.shard = mine.shard and shard.shard = any($13::int[]) and not shard.begun
     ), put as (",
     pieces!(),
-    "on conflict do nothing) select slot from mine"
+    "on conflict do nothing) select shard from mine"
 );
 
 /// Returns no row if another instance owns the shard, or its row is locked.
 const RAISE: &str = "with mine as (
-        select slot from totxegun_store.slot where slot = $1 and term = $2 and epoch = $3
+        select shard from totxegun_store.shard where shard = $1 and term = $2 and epoch = $3
         for update skip locked
-    ) update totxegun_store.slot set link = link + 1 from mine where slot.slot = mine.slot
-    returning slot.link, slot.begun";
-const IS_OURS: &str = "select count(*) from totxegun_store.slot where slot = $1 and term = $2 and epoch = $3";
+    ) update totxegun_store.shard set connection_epoch = connection_epoch + 1 from mine where shard.shard = mine.shard
+    returning shard.connection_epoch, shard.begun";
+const IS_OURS: &str =
+    "select count(*) from totxegun_store.shard where shard = $1 and term = $2 and epoch = $3";
 
 /// Finds the shards whose last piece is in the store, and those that another instance owns by now: its checkpoints
 /// delete pieces.
 const ARE_THERE: &str =
-    "select last.slot from unnest($1::int[], $2::bigint[], $3::bigint[]) as last (slot, number, term)
-    where exists (select from totxegun_store.piece where piece.slot = last.slot and piece.number = last.number)
-    or not exists (select from totxegun_store.slot where slot.slot = last.slot and slot.term = last.term)";
+    "select last.shard from unnest($1::int[], $2::bigint[], $3::bigint[]) as last (shard, number, term)
+    where exists (select from totxegun_store.piece where piece.shard = last.shard and piece.number = last.number)
+    or not exists (select from totxegun_store.shard where shard.shard = last.shard and shard.term = last.term)";
 
 const PIECES: &str = "select number, length, bytes from totxegun_store.piece
-    where slot = $1 and file = $2 and number = any($3::bigint[])";
+    where shard = $1 and file = $2 and number = any($3::bigint[])";
 
 /// The owner of a shard.
 pub(super) struct Owned<'a> {
-    pub slot: i32,
+    pub shard: i32,
     pub term: i64,
     /// After a store lost commits, another owner may have the same term.
     pub epoch: &'a str,
 }
 
 /// The fields of a shard's row that its owner needs.
-pub(super) struct SlotRow {
-    pub link: i64,
+pub(super) struct ShardRow {
+    pub connection_epoch: i64,
     /// The shard has had files.
     pub begun: bool,
 }
@@ -135,13 +136,13 @@ pub(super) struct Session {
 }
 
 impl Session {
-    pub async fn open(all: &Arc<Connections>) -> Result<Arc<Session>, Doubt> {
+    pub async fn open(all: &Arc<Connections>) -> Result<Arc<Session>, UnknownOutcome> {
         let of = all.clone();
         let opened = all.threads.spawn(async move { Session::made(&of).await.map(Arc::new) });
-        opened.await.unwrap_or_else(|error| Err(Doubt::NotConnected(error.to_string())))
+        opened.await.unwrap_or_else(|error| Err(UnknownOutcome::NotConnected(error.to_string())))
     }
 
-    async fn made(all: &Connections) -> Result<Session, Doubt> {
+    async fn made(all: &Connections) -> Result<Session, UnknownOutcome> {
         let number = all.draw();
         let (client, driver, host) = connect_to_one(&all.server).await?;
         let of = |text| client.prepare(text);
@@ -182,7 +183,10 @@ impl Session {
 
     /// What is answered while the server is there. One that waits for its standby may be silent for longer than others wait for one
     /// that is gone, and it lets anybody in meanwhile.
-    pub async fn while_there<T>(&self, asking: impl Future<Output = Result<T, Doubt>>) -> Result<T, Doubt> {
+    pub async fn while_there<T>(
+        &self,
+        asking: impl Future<Output = Result<T, UnknownOutcome>>,
+    ) -> Result<T, UnknownOutcome> {
         tokio::select! {
             biased;
             answer = asking => answer,
@@ -191,29 +195,34 @@ impl Session {
     }
 
     /// Returns once the server lets nobody in.
-    async fn gone(&self) -> Doubt {
+    async fn gone(&self) -> UnknownOutcome {
         loop {
             sleep(KNOCK).await;
-            match connect(&self.server, &self.host, "", CONNECT).await.map_err(Doubt::from) {
+            match connect(&self.server, &self.host, "", CONNECT).await.map_err(UnknownOutcome::from) {
                 Ok(_) => {}
-                Err(Doubt::Said(error)) if error.code().is_some() => {}
+                Err(UnknownOutcome::Said(error)) if error.code().is_some() => {}
                 Err(doubt) => return doubt,
             }
         }
     }
 
     /// Whether another connection is made after this.
-    pub fn is_left_after(&self, doubt: &Doubt) -> bool {
+    pub fn is_left_after(&self, doubt: &UnknownOutcome) -> bool {
         match doubt {
-            Doubt::Locked => self.made.elapsed() > LOCKED,
+            UnknownOutcome::Locked => self.made.elapsed() > LOCKED,
             doubt => doubt.next() == Next::Another,
         }
     }
 
     /// The pieces among these that the store has.
-    pub async fn pieces(&self, slot: i32, file: u64, numbers: &[u64]) -> Result<Vec<Stored>, Doubt> {
+    pub async fn pieces(
+        &self,
+        shard: i32,
+        file: u64,
+        numbers: &[u64],
+    ) -> Result<Vec<Stored>, UnknownOutcome> {
         let numbers: Vec<i64> = numbers.iter().map(|number| *number as i64).collect();
-        let wanted: [&(dyn ToSql + Sync); 3] = [&slot, &(file as i64), &numbers];
+        let wanted: [&(dyn ToSql + Sync); 3] = [&shard, &(file as i64), &numbers];
         let rows = within(SILENT, self.client.query(&self.pieces, &wanted)).await?;
         let stored = |row: Row| Stored {
             number: row.get::<_, i64>(0) as u64,
@@ -224,7 +233,10 @@ impl Session {
     }
 
     /// The answer of a write that came without a warning, from a server with enough copies.
-    pub async fn written<T>(&self, write: impl Future<Output = Result<T, Error>>) -> Result<T, Doubt> {
+    pub async fn written<T>(
+        &self,
+        write: impl Future<Output = Result<T, Error>>,
+    ) -> Result<T, UnknownOutcome> {
         self.sure(SILENT, async { Ok((write.await?, self.settings().await?)) }).await
     }
 
@@ -234,55 +246,55 @@ impl Session {
         &self,
         limit: Duration,
         write: impl Future<Output = Result<(T, Option<copies::Settings>), Error>>,
-    ) -> Result<T, Doubt> {
+    ) -> Result<T, UnknownOutcome> {
         let _one = self.writing.lock().await;
         self.driver.warnings.take(); // warnings of earlier calls
         let (answer, settings) = within(limit, write).await?;
         if let Some(warning) = self.driver.warnings.take() {
-            return Err(Doubt::Warned(warning));
+            return Err(UnknownOutcome::Warned(warning));
         }
         enough(settings)?;
         Ok(answer)
     }
 
-    /// Raises the shard's connection epoch (`link`) and returns its row. Everything read on this session from then on
+    /// Raises the shard's connection epoch (`connection_epoch`) and returns its row. Everything read on this session from then on
     /// is after a committed write under the term. None if another instance owns the shard.
-    pub async fn raise_link(&self, of: &Owned<'_>) -> Result<Option<SlotRow>, Doubt> {
-        let key: [&(dyn ToSql + Sync); 3] = [&of.slot, &of.term, &of.epoch];
+    pub async fn raise_link(&self, of: &Owned<'_>) -> Result<Option<ShardRow>, UnknownOutcome> {
+        let key: [&(dyn ToSql + Sync); 3] = [&of.shard, &of.term, &of.epoch];
         if let Some(row) = self.written(self.client.query_opt(RAISE, &key)).await? {
-            return Ok(Some(SlotRow { link: row.get(0), begun: row.get(1) }));
+            return Ok(Some(ShardRow { connection_epoch: row.get(0), begun: row.get(1) }));
         }
         let found = within(SILENT, self.client.query_one(IS_OURS, &key)).await?;
         match found.get::<_, i64>(0) {
             0 => Ok(None),
-            _ => Err(Doubt::Locked),
+            _ => Err(UnknownOutcome::Locked),
         }
     }
 
     /// The shards of these writes whose last durable piece the server still has, or that another instance owns by now,
     /// which the write itself will find. Each new connection is checked in this way before its answers count: a server
     /// that took over from another one may lack commits.
-    pub async fn whole(&self, writes: &[&Write]) -> Result<BTreeSet<i32>, Doubt> {
+    pub async fn whole(&self, writes: &[&Write]) -> Result<BTreeSet<i32>, UnknownOutcome> {
         let last = |write: &&Write| {
             let last = write.owner.fence().last.filter(|(file, _)| !write.packed.gone.contains(file));
-            last.map(|(_, number)| (write.owner.slot, (number, write.owner.term)))
+            last.map(|(_, number)| (write.owner.shard, (number, write.owner.term)))
         };
         let asked: BTreeMap<i32, (i64, i64)> = writes.iter().filter_map(last).collect();
-        let slots = writes.iter().map(|write| write.owner.slot);
-        let mut whole: BTreeSet<i32> = slots.filter(|slot| !asked.contains_key(slot)).collect();
+        let shards = writes.iter().map(|write| write.owner.shard);
+        let mut whole: BTreeSet<i32> = shards.filter(|shard| !asked.contains_key(shard)).collect();
         if !asked.is_empty() {
-            let slots: Vec<i32> = asked.keys().copied().collect();
+            let shards: Vec<i32> = asked.keys().copied().collect();
             let (numbers, terms): (Vec<i64>, Vec<i64>) = asked.into_values().unzip();
-            let found = within(SILENT, self.client.query(ARE_THERE, &[&slots, &numbers, &terms])).await?;
+            let found = within(SILENT, self.client.query(ARE_THERE, &[&shards, &numbers, &terms])).await?;
             whole.extend(found.iter().map(|row| row.get::<_, i32>(0)));
         }
         Ok(whole)
     }
 }
 
-fn enough(settings: Option<copies::Settings>) -> Result<(), Doubt> {
-    match settings.and_then(|settings| settings.lose()) {
-        Some(why) => Err(Doubt::FewCopies(why)),
+fn enough(settings: Option<copies::Settings>) -> Result<(), UnknownOutcome> {
+    match settings.and_then(|settings| settings.fence_off()) {
+        Some(why) => Err(UnknownOutcome::FewCopies(why)),
         None => Ok(()),
     }
 }
@@ -290,9 +302,9 @@ fn enough(settings: Option<copies::Settings>) -> Result<(), Doubt> {
 pub(super) async fn within<T>(
     limit: Duration,
     work: impl Future<Output = Result<T, Error>>,
-) -> Result<T, Doubt> {
+) -> Result<T, UnknownOutcome> {
     match timeout(limit, work).await {
         Ok(done) => Ok(done?),
-        Err(_) => Err(Doubt::Silent(limit)),
+        Err(_) => Err(UnknownOutcome::Silent(limit)),
     }
 }

@@ -4,11 +4,11 @@
 //! the previous owner.
 
 use super::connection::Connection;
-use super::doubt::Doubt;
 use super::schema::draw_epoch;
 use super::session::within;
+use super::unknown_outcome::UnknownOutcome;
 use super::{copies, PostgresStore};
-use crate::cluster::terms::{Instance, Row, Told};
+use crate::cluster::terms::{Instance, InstanceReport, Row};
 use std::time::{Duration, SystemTime, UNIX_EPOCH};
 use tokio_postgres::types::ToSql;
 use tokio_postgres::Row as DatabaseRow;
@@ -29,21 +29,25 @@ const BEAT: &str = "insert into totxegun_store.instance as i (name, address, ope
 const INSTANCES: &str = "select name, address, version, beat, told, operate, (extract(epoch from clock_timestamp()) * 1e6)::bigint,
     life, lives::text
     from totxegun_store.instance";
-const SLOTS: &str = "select slot, term, owner from totxegun_store.slot order by slot";
+const SHARDS: &str = "select shard, term, owner from totxegun_store.shard order by shard";
 /// Takes nothing while a folder is being moved into the store.
 const TAKE: &str =
-    "update totxegun_store.slot set term = term + 1, link = 0, owner = $3, epoch = $4 where slot = $1 and term = $2
+    "update totxegun_store.shard set term = term + 1, connection_epoch = 0, owner = $3, epoch = $4 where shard = $1 and term = $2
     and exists (select from totxegun_store.cluster where not filling)";
 /// Checks the owner too: after a store lost a takeover, another instance may have the same term.
 pub(super) const RELEASE: &str =
-    "update totxegun_store.slot set owner = '' where slot = $1 and term = $2 and owner = $3";
+    "update totxegun_store.shard set owner = '' where shard = $1 and term = $2 and owner = $3";
 const LEAVE: &str = "delete from totxegun_store.instance where name = $1";
 /// A row whose heartbeat has continued stays.
 const FORGET: &str = "delete from totxegun_store.instance where name = $1 and beat = $2";
 
 impl Connection {
     /// A write. On an error it may have been done, or may still be done later.
-    pub(super) async fn write(&self, text: &str, values: &[&(dyn ToSql + Sync)]) -> Result<u64, Doubt> {
+    pub(super) async fn write(
+        &self,
+        text: &str,
+        values: &[&(dyn ToSql + Sync)],
+    ) -> Result<u64, UnknownOutcome> {
         let session = self.session().await?;
         self.heard(&session, session.written(session.client.execute(text, values))).await
     }
@@ -53,20 +57,20 @@ impl Connection {
         &self,
         text: &str,
         values: &[&(dyn ToSql + Sync)],
-    ) -> Result<DatabaseRow, Doubt> {
+    ) -> Result<DatabaseRow, UnknownOutcome> {
         let session = self.session().await?;
         let answer = session.written(session.client.query_one(text, values));
         self.heard(&session, session.while_there(answer)).await
     }
 
-    async fn read<T>(&self, text: &str, each: impl Fn(&DatabaseRow) -> T) -> Result<Vec<T>, Doubt> {
+    async fn read<T>(&self, text: &str, each: impl Fn(&DatabaseRow) -> T) -> Result<Vec<T>, UnknownOutcome> {
         let session = self.session().await?;
         let rows = self.heard(&session, within(READ, session.client.query(text, &[]))).await?;
         Ok(rows.iter().map(each).collect())
     }
 
     /// All instances, and how far this machine's clock is ahead of the server's; none if there are no instances.
-    pub(super) async fn instances(&self) -> Result<(Vec<Instance>, Option<i64>), Doubt> {
+    pub(super) async fn instances(&self) -> Result<(Vec<Instance>, Option<i64>), UnknownOutcome> {
         let instance = |row: &DatabaseRow| {
             let one = Instance {
                 name: row.get(0),
@@ -87,13 +91,13 @@ impl Connection {
         Ok((all, times.first().map(|there| ahead(before, *there, after))))
     }
 
-    pub(super) async fn slots(&self) -> Result<Vec<Row>, Doubt> {
+    pub(super) async fn shards(&self) -> Result<Vec<Row>, UnknownOutcome> {
         let owned = |row: &DatabaseRow| Row {
-            slot: row.get::<_, i32>(0) as u16,
+            shard: row.get::<_, i32>(0) as u16,
             term: row.get::<_, i64>(1) as u64,
             owner: row.get(2),
         };
-        self.read(SLOTS, owned).await
+        self.read(SHARDS, owned).await
     }
 }
 
@@ -116,14 +120,14 @@ fn ahead(before: i64, there: i64, after: i64) -> i64 {
 impl PostgresStore {
     /// Adds one to the heartbeat of an instance; it is committed if this returns `Ok`. `life` is the number of this
     /// process among those of its name, or 0 for a new process. Returns the highest such number.
-    pub async fn beat(
+    pub async fn heartbeat(
         &self,
         name: &str,
         address: &str,
         operate: &str,
-        told: Told,
+        told: InstanceReport,
         life: u64,
-    ) -> Result<u64, Doubt> {
+    ) -> Result<u64, UnknownOutcome> {
         let told = serde_json::to_string(&told).unwrap_or_default(); // numbers and strings always serialise
         let (version, life) = (env!("CARGO_PKG_VERSION"), life as i64);
         let values: [&(dyn ToSql + Sync); 6] = [&name, &address, &operate, &version, &told, &life];
@@ -131,42 +135,42 @@ impl PostgresStore {
     }
 
     /// All instances, and how far this machine's clock is ahead of the server's; none if there are no instances.
-    pub async fn instances(&self) -> Result<(Vec<Instance>, Option<i64>), Doubt> {
+    pub async fn instances(&self) -> Result<(Vec<Instance>, Option<i64>), UnknownOutcome> {
         self.beater.instances().await
     }
 
-    pub async fn slots(&self) -> Result<Vec<Row>, Doubt> {
-        self.beater.slots().await
+    pub async fn shards(&self) -> Result<Vec<Row>, UnknownOutcome> {
+        self.beater.shards().await
     }
 
     /// Takes the shard under the term after the one that was seen, with a new epoch. Returns the new term, or none if
     /// another instance was first. If the outcome is unknown, nothing counts as taken: the next try reads the term, and
     /// a late commit of this one finds another term.
-    pub async fn take(&self, slot: u16, seen: u64, owner: &str) -> Result<Option<u64>, Doubt> {
+    pub async fn take(&self, shard: u16, seen: u64, owner: &str) -> Result<Option<u64>, UnknownOutcome> {
         let epoch = draw_epoch()?;
-        let rows = self.taker.write(TAKE, &[&i32::from(slot), &(seen as i64), &owner, &epoch]).await?;
-        Ok((rows == 1).then(|| self.note_taken(slot, seen + 1, epoch)))
+        let rows = self.taker.write(TAKE, &[&i32::from(shard), &(seen as i64), &owner, &epoch]).await?;
+        Ok((rows == 1).then(|| self.note_taken(shard, seen + 1, epoch)))
     }
 
     /// Releases the shard if it still has this term and owner. The owner must have stopped writing, since the term
     /// stays.
-    pub async fn release(&self, slot: u16, term: u64, owner: &str) -> Result<(), Doubt> {
-        self.taker.write(RELEASE, &[&i32::from(slot), &(term as i64), &owner]).await.map(drop)
+    pub async fn release(&self, shard: u16, term: u64, owner: &str) -> Result<(), UnknownOutcome> {
+        self.taker.write(RELEASE, &[&i32::from(shard), &(term as i64), &owner]).await.map(drop)
     }
 
     /// If the database is silent, the row stays, and later counts as that of an instance that is gone.
-    pub async fn leave(&self, name: &str) -> Result<(), Doubt> {
+    pub async fn leave(&self, name: &str) -> Result<(), UnknownOutcome> {
         self.beater.write(LEAVE, &[&name]).await.map(drop)
     }
 
     /// Deletes the row of an instance that is gone, if its heartbeat has not continued; returns whether it did.
-    pub async fn forget(&self, name: &str, beat: u64) -> Result<bool, Doubt> {
+    pub async fn remove_row(&self, name: &str, beat: u64) -> Result<bool, UnknownOutcome> {
         Ok(self.taker.write(FORGET, &[&name, &(beat as i64)]).await? == 1)
     }
 
     /// How many servers have the current commits; none if this role may not see that. This read may queue behind long
     /// ones or a write that waits for a standby, so its timeout says nothing about other connections.
-    pub async fn copies(&self) -> Result<Option<u64>, Doubt> {
+    pub async fn copies(&self) -> Result<Option<u64>, UnknownOutcome> {
         let session = self.reader.session().await?;
         let answer = within(READ, copies::count(&session.client)).await;
         if let Err(doubt) = &answer {

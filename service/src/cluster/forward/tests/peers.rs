@@ -1,7 +1,7 @@
 //! Owners that answer, stall or break off, each at its own address.
 
 use super::*;
-use crate::intake::connections::Handler;
+use crate::ingest::connections::Handler;
 use hyper::server::conn::Http;
 use hyper::service::service_fn;
 use std::collections::VecDeque;
@@ -16,7 +16,7 @@ pub type Came = (u16, u64, String, Encoding, Bytes);
 
 /// The shards of an instance: what arrived, and how it is answered.
 #[derive(Default)]
-pub struct Slots {
+pub struct Shards {
     pub came: Mutex<Vec<Came>>,
     pub says: Mutex<VecDeque<Option<Outcome>>>,
     pub takes: Duration,
@@ -24,16 +24,16 @@ pub struct Slots {
     pub most_at_once: AtomicUsize,
 }
 
-impl Here for Slots {
+impl Here for Shards {
     fn post<'a>(
         &'a self,
-        slot: u16,
+        shard: u16,
         term: u64,
         sender: &'a str,
         part: Original,
     ) -> Doing<'a, Option<Outcome>> {
         Box::pin(async move {
-            let came = (slot, term, sender.to_string(), part.encoding, part.body);
+            let came = (shard, term, sender.to_string(), part.encoding, part.body);
             self.came.lock().unwrap().push(came);
             let now = self.at_once.fetch_add(1, SeqCst) + 1;
             self.most_at_once.fetch_max(now, SeqCst);
@@ -44,10 +44,10 @@ impl Here for Slots {
     }
 }
 
-impl Slots {
+impl Shards {
     /// Shards that take this long for each post.
-    pub fn slow(takes: Duration) -> Slots {
-        Slots { takes, ..Slots::default() }
+    pub fn slow(takes: Duration) -> Shards {
+        Shards { takes, ..Shards::default() }
     }
 
     pub fn count(&self) -> usize {
@@ -67,7 +67,7 @@ impl Answers for Echoes {
 /// An instance with its own address.
 pub struct Peer {
     pub cluster: Arc<Cluster>,
-    pub slots: Arc<Slots>,
+    pub shards: Arc<Shards>,
     pub address: String,
     pub connections: Arc<AtomicUsize>,
 }
@@ -77,18 +77,18 @@ pub fn secret(text: &str) -> Secret {
 }
 
 /// An instance that owns shard 3, or not.
-pub fn internal(slots: Slots, whose: Whose) -> (Arc<Cluster>, Arc<Slots>, Arc<Internal<Slots>>) {
-    let (cluster, slots) = (Cluster::new("peer", None), Arc::new(slots));
+pub fn internal(shards: Shards, whose: ShardOwner) -> (Arc<Cluster>, Arc<Shards>, Arc<Internal<Shards>>) {
+    let (cluster, shards) = (Cluster::new("peer", None), Arc::new(shards));
     cluster.knows(&[(3, whose)]);
-    let internal = Internal::new(cluster.clone(), slots.clone(), secret("of all"), Arc::new(Echoes));
-    (cluster, slots, internal)
+    let internal = Internal::new(cluster.clone(), shards.clone(), secret("of all"), Arc::new(Echoes));
+    (cluster, shards, internal)
 }
 
 impl Peer {
-    pub async fn with(slots: Slots, whose: Whose) -> Peer {
+    pub async fn with(shards: Shards, whose: ShardOwner) -> Peer {
         let listener = TcpListener::bind("127.0.0.1:0").await.unwrap();
         let address = listener.local_addr().unwrap().to_string();
-        let (cluster, slots, internal) = internal(slots, whose);
+        let (cluster, shards, internal) = internal(shards, whose);
         let connections = Arc::new(AtomicUsize::new(0));
         let counted = connections.clone();
         tokio::spawn(async move {
@@ -102,30 +102,30 @@ impl Peer {
                 tokio::spawn(Http::new().serve_connection(stream, service));
             }
         });
-        Peer { cluster, slots, address, connections }
+        Peer { cluster, shards, address, connections }
     }
 
     pub async fn here() -> Peer {
-        Peer::with(Slots::default(), Whose::Here { term: 5 }).await
+        Peer::with(Shards::default(), ShardOwner::Here { term: 5 }).await
     }
 
-    pub fn whose(&self) -> Whose {
+    pub fn whose(&self) -> ShardOwner {
         there(&self.address)
     }
 }
 
-pub fn there(address: &str) -> Whose {
-    Whose::There { name: "peer".into(), address: address.into(), term: 5 }
+pub fn there(address: &str) -> ShardOwner {
+    ShardOwner::There { name: "peer".into(), address: address.into(), term: 5 }
 }
 
 /// The instance that senders post to.
-pub fn receiver(whose: Whose, secret: Secret) -> Arc<Forward<Slots>> {
+pub fn receiver(whose: ShardOwner, secret: Secret) -> Arc<Forward<Shards>> {
     let cluster = Cluster::new("receiver", None);
     cluster.knows(&[(3, whose)]);
     Arc::new(Forward::new(cluster, secret, None))
 }
 
-pub async fn posted(forward: &Forward<Slots>, text: &str) -> Outcome {
+pub async fn posted(forward: &Forward<Shards>, text: &str) -> Outcome {
     let body = Bytes::copy_from_slice(text.as_bytes());
     let encoding = Encoding::Json;
     forward.post(3, "web-1", Original { encoding, body }).await

@@ -1,7 +1,7 @@
 //! Posts for instances that can't be reached.
 
 use super::*;
-use crate::cluster::terms::{Instance, Seen, Told};
+use crate::cluster::terms::{Instance, InstanceReport, Seen};
 
 fn other(name: &str, address: &str) -> Instance {
     Instance {
@@ -12,7 +12,7 @@ fn other(name: &str, address: &str) -> Instance {
         beat: 1,
         life: 1,
         lives: [].into(),
-        told: Told::default(),
+        told: InstanceReport::default(),
     }
 }
 
@@ -39,7 +39,7 @@ async fn who_is_not_reached_is_left_after_two_looks_and_then_asked_nothing_until
     assert_eq!(posted(&forward, "{}").await, Outcome::taken(0), "another is reached");
     let (_, told) = forward.cluster.owners().told();
     let both = ["peer".to_string(), "stalls".to_string()];
-    assert_eq!(told.reached, Some(both.into()), "slots don't move so soon");
+    assert_eq!(told.reached, Some(both.into()), "shards don't move so soon");
 }
 
 /// Otherwise, of two instances too busy to answer each other, the one with the first name would get all shards.

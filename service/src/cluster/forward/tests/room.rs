@@ -4,7 +4,7 @@ use super::*;
 use crate::cluster::terms::{Instance, Seen};
 use tokio::task::JoinHandle;
 
-type Receiver = Arc<Forward<Slots>>;
+type Receiver = Arc<Forward<Shards>>;
 
 fn all_post(forward: &Receiver, count: usize, body: &Bytes) -> Vec<JoinHandle<Outcome>> {
     let post = |_| {
@@ -15,7 +15,7 @@ fn all_post(forward: &Receiver, count: usize, body: &Bytes) -> Vec<JoinHandle<Ou
 }
 
 /// The instance that senders post to, which knows this many others.
-fn among(others: usize, whose: Whose) -> Receiver {
+fn among(others: usize, whose: ShardOwner) -> Receiver {
     let forward = receiver(whose, secret("of all"));
     let instance = |number: usize| Instance {
         name: format!("other-{number}"),
@@ -35,7 +35,7 @@ fn among(others: usize, whose: Whose) -> Receiver {
 #[tokio::test]
 async fn all_others_have_no_more_connections_than_there_are() {
     for others in [5, 9] {
-        let peer = Peer::with(Slots::slow(Duration::from_millis(300)), Whose::Here { term: 5 }).await;
+        let peer = Peer::with(Shards::slow(Duration::from_millis(300)), ShardOwner::Here { term: 5 }).await;
         let receivers: Vec<_> = (0..others).map(|_| among(others, peer.whose())).collect();
         let (each, body) = (2 * CONNECTIONS / others, Bytes::from_static(b"{}"));
         let posts: Vec<_> = receivers.iter().flat_map(|forward| all_post(forward, each, &body)).collect();

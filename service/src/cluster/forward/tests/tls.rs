@@ -1,23 +1,23 @@
 //! Instances that talk to each other by TLS.
 
-use super::peers::{internal, posted, secret, there, Slots};
+use super::peers::{internal, posted, secret, there, Shards};
 use super::*;
-use crate::intake::connections::serve_over;
-use crate::intake::Limits;
+use crate::ingest::connections::serve_over;
+use crate::ingest::Limits;
 use crate::tls::Tls;
 
 /// An owner with this certificate and these roots, and its port.
-async fn over_tls(tls: Arc<Tls>) -> (u16, Arc<Slots>, tokio::sync::watch::Sender<bool>) {
+async fn over_tls(tls: Arc<Tls>) -> (u16, Arc<Shards>, tokio::sync::watch::Sender<bool>) {
     let listener = TcpListener::bind("127.0.0.1:0").await.unwrap();
     let port = listener.local_addr().unwrap().port();
-    let (_, slots, internal) = internal(Slots::default(), Whose::Here { term: 5 });
+    let (_, shards, internal) = internal(Shards::default(), ShardOwner::Here { term: 5 });
     let limits = Limits { connections: 10, head: Duration::from_secs(5), idle: Duration::from_secs(60) };
     let (stop, stopped) = tokio::sync::watch::channel(false);
     tokio::spawn(serve_over(Arc::new(listener), Some(tls), limits, internal, stopped));
-    (port, slots, stop)
+    (port, shards, stop)
 }
 
-fn asks_over(tls: Option<Arc<Tls>>, port: u16, of: &str) -> Forward<Slots> {
+fn asks_over(tls: Option<Arc<Tls>>, port: u16, of: &str) -> Forward<Shards> {
     let cluster = Cluster::new("receiver", None);
     cluster.knows(&[(3, there(&format!("localhost:{port}")))]);
     Forward::new(cluster, secret(of), tls)
@@ -44,7 +44,7 @@ async fn over_tls_both_sides_look_at_what_the_other_shows() {
     let peer = |name: &str, ca: &str| {
         tokio::task::block_in_place(|| crate::tls::peer_tests::peer(at.path(), name, ca).unwrap())
     };
-    let (port, slots, _stop) = over_tls(peer("server", "ca")).await;
+    let (port, shards, _stop) = over_tls(peer("server", "ca")).await;
     let ours = peer("server", "ca");
     let forward = asks_over(Some(ours.clone()), port, "of all");
     assert_eq!(posted(&forward, "{}").await, Outcome::taken(0));
@@ -61,7 +61,7 @@ async fn over_tls_both_sides_look_at_what_the_other_shows() {
     // The secret is checked all the same.
     let forward = asks_over(Some(ours), port, "another");
     assert_eq!(posted(&forward, "{}").await, Reason::OwnerSilent.into());
-    assert_eq!((slots.count(), strange.count()), (1, 0));
+    assert_eq!((shards.count(), strange.count()), (1, 0));
 }
 
 #[tokio::test(flavor = "multi_thread", worker_threads = 2)]

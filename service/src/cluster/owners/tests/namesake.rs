@@ -3,7 +3,7 @@
 use super::world::World;
 
 #[test]
-fn of_two_with_one_name_none_takes_a_slot_from_the_other() {
+fn of_two_with_one_name_none_takes_a_shard_from_the_other() {
     let mut world = World::of(11, &["a"]);
     world.rounds(20);
     assert!(world.is_settled());
@@ -27,7 +27,7 @@ fn of_two_with_one_name_none_takes_a_slot_from_the_other() {
 /// As where systemd starts a later one again and again: each ends, and none may have what is free, however slowly the one before
 /// beats.
 #[test]
-fn a_later_process_of_a_name_keeps_no_slot_from_the_one_before() {
+fn a_later_process_of_a_name_keeps_no_shard_from_the_one_before() {
     let mut world = World::of(11, &["a"]);
     world.rounds(20);
     (world.store.rows[3].term, world.store.rows[3].owner) = (2, String::new());

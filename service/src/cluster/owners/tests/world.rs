@@ -1,10 +1,10 @@
 //! Simulated instances and the store that they share. A round is half a second.
 
 use super::*;
-use crate::cluster::terms::{Instance, Told};
+use crate::cluster::terms::{Instance, InstanceReport};
 use std::collections::{BTreeSet, HashMap};
 
-const SLOTS: u16 = 8;
+const SHARDS: u16 = 8;
 /// How far an instance's clock may be off.
 const MOST_OFF: Duration = Duration::from_secs(60);
 
@@ -24,7 +24,7 @@ impl Random {
 #[derive(Default)]
 pub struct Store {
     pub rows: Vec<Row>,
-    pub instances: BTreeMap<String, (u64, Option<Stay>, Told)>,
+    pub instances: BTreeMap<String, (u64, Option<Eligibility>, InstanceReport)>,
     /// How often each process of a name has beaten, by its number.
     lives: BTreeMap<String, BTreeMap<u64, u64>>,
     /// Who was the owner under which term.
@@ -34,7 +34,13 @@ pub struct Store {
 impl Store {
     /// `clock` is how many microseconds the instance's clock is ahead; `life` is the number of its process, 0 for a new
     /// one.
-    pub fn beat(&mut self, name: &str, (stay, told): (Stay, Told), clock: i64, life: &mut u64) -> Seen {
+    pub fn heartbeat(
+        &mut self,
+        name: &str,
+        (stay, told): (Eligibility, InstanceReport),
+        clock: i64,
+        life: &mut u64,
+    ) -> Seen {
         let lives = self.lives.entry(name.into()).or_default();
         let last = |lives: &BTreeMap<u64, u64>| lives.keys().next_back().copied().unwrap_or_default();
         *life = if *life == 0 { last(lives) + 1 } else { *life };
@@ -43,7 +49,7 @@ impl Store {
         *row = (row.0 + 1, Some(stay), told);
         let instances = self.instances.iter().map(|(name, (beat, stay, told))| Instance {
             name: name.clone(),
-            address: if *stay == Some(Stay::Here) { format!("{name}:1") } else { String::new() },
+            address: if *stay == Some(Eligibility::Here) { format!("{name}:1") } else { String::new() },
             operate: String::new(),
             version: "1".into(),
             beat: *beat,
@@ -51,22 +57,22 @@ impl Store {
             lives: self.lives[name].clone(),
             told: told.clone(),
         });
-        Seen { instances: instances.collect(), slots: self.rows.clone(), clock: Some(clock), life: *life }
+        Seen { instances: instances.collect(), shards: self.rows.clone(), clock: Some(clock), life: *life }
     }
 
-    fn take(&mut self, node: usize, name: &str, slot: u16, seen: u64) -> Option<u64> {
-        let row = &mut self.rows[usize::from(slot)];
+    fn take(&mut self, node: usize, name: &str, shard: u16, seen: u64) -> Option<u64> {
+        let row = &mut self.rows[usize::from(shard)];
         if row.term != seen {
             return None;
         }
         (row.term, row.owner) = (seen + 1, name.into());
-        let before = self.terms.insert((slot, row.term), node);
-        assert_eq!(before, None, "slot {slot} has two owners under term {}", row.term);
+        let before = self.terms.insert((shard, row.term), node);
+        assert_eq!(before, None, "shard {shard} has two owners under term {}", row.term);
         Some(row.term)
     }
 
-    fn release(&mut self, slot: u16, term: u64) {
-        let row = &mut self.rows[usize::from(slot)];
+    fn release(&mut self, shard: u16, term: u64) {
+        let row = &mut self.rows[usize::from(shard)];
         if row.term == term {
             row.owner.clear();
         }
@@ -105,8 +111,8 @@ pub struct World {
 
 impl World {
     pub fn of(seed: u64, names: &[&str]) -> World {
-        let row = |slot| Row { slot, term: 0, owner: String::new() };
-        let store = Store { rows: (0..SLOTS).map(row).collect(), ..Store::default() };
+        let row = |shard| Row { shard, term: 0, owner: String::new() };
+        let store = Store { rows: (0..SHARDS).map(row).collect(), ..Store::default() };
         let mut world = World {
             random: Random(seed.wrapping_mul(0x9e37_79b9_7f4a_7c15)),
             store,
@@ -145,8 +151,8 @@ impl World {
                 self.nodes[node].stands_for -= 1;
                 continue;
             }
-            self.beat(node);
-            for _ in 0..SLOTS {
+            self.heartbeat(node);
+            for _ in 0..SHARDS {
                 self.work(node);
             }
         }
@@ -154,7 +160,7 @@ impl World {
         self.look();
     }
 
-    fn beat(&mut self, node: usize) {
+    fn heartbeat(&mut self, node: usize) {
         let is_lost = self.is_rough && self.random.once_in(20);
         let reached = self.reached(node);
         let one = &mut self.nodes[node];
@@ -162,11 +168,11 @@ impl World {
         if self.stalls_for > 0 {
             return one.owners.unanswered();
         }
-        let seen = self.store.beat(&one.name, one.owners.told(), one.clock, &mut one.life);
+        let seen = self.store.heartbeat(&one.name, one.owners.told(), one.clock, &mut one.life);
         if is_lost {
             return one.owners.unanswered();
         }
-        let steps = one.owners.beat(seen);
+        let steps = one.owners.heartbeat(seen);
         one.under_way.extend(steps);
         if let Some((name, beat)) = one.owners.forgotten() {
             let is_it = self.store.instances.get(&name).is_some_and(|row| row.0 == beat);
@@ -201,47 +207,51 @@ impl World {
         if count > 0 {
             let step = one.under_way.remove(self.random.below(count) as usize);
             self.does(node, step);
-        } else if let Some((slot, term)) = one.opening.pop() {
-            let is_broken = self.broken.contains(&(slot, one.name.clone()));
+        } else if let Some((shard, term)) = one.opening.pop() {
+            let is_broken = self.broken.contains(&(shard, one.name.clone()));
             match is_broken || self.is_rough && self.random.once_in(10) {
-                true => one.owners.failed(slot, term, "broken"),
-                false => one.owners.opened(slot, term),
+                true => one.owners.failed(shard, term, "broken"),
+                false => one.owners.opened(shard, term),
             };
         }
     }
 
-    fn does(&mut self, node: usize, Step { act, slot, term }: Step) {
+    fn does(&mut self, node: usize, Step { act, shard, term }: Step) {
         let is_lost = self.is_rough && self.random.once_in(5);
         let one = &mut self.nodes[node];
         match act {
-            Act::Take => {
-                let term = self.store.take(node, &one.name, slot, term);
+            ShardAction::Take => {
+                let term = self.store.take(node, &one.name, shard, term);
                 self.takes += usize::from(term.is_some());
                 let told = term.filter(|_| !is_lost);
-                one.owners.taken(slot, told);
-                one.opening.extend(told.map(|term| (slot, term)));
+                one.owners.taken(shard, told);
+                one.opening.extend(told.map(|term| (shard, term)));
             }
-            Act::HandOver => {
+            ShardAction::HandOver => {
                 self.hand_overs += 1;
-                let others = one.under_way.iter().filter(|step| step.act == Act::HandOver);
-                assert_eq!(others.count(), 0, "two slots are handed over at once");
+                let others = one.under_way.iter().filter(|step| step.act == ShardAction::HandOver);
+                assert_eq!(others.count(), 0, "two shards are handed over at once");
                 if !is_lost {
-                    self.store.release(slot, term);
+                    self.store.release(shard, term);
                 }
-                let next = one.owners.released(slot, term);
+                let next = one.owners.released(shard, term);
                 one.under_way.extend(next);
             }
-            Act::Release => self.store.release(slot, term),
-            Act::Drop => {}
+            ShardAction::Release => self.store.release(shard, term),
+            ShardAction::Drop => {}
         }
     }
 
     /// Two instances never serve a shard under one term, and a server has the term of its own takeover.
     fn look(&self) {
         for (place, node) in self.nodes.iter().enumerate() {
-            for (slot, whose) in node.owners.whose() {
-                if let Whose::Here { term } = whose {
-                    assert_eq!(self.store.terms.get(&(slot, term)), Some(&place), "slot {slot}, term {term}");
+            for (shard, whose) in node.owners.whose() {
+                if let ShardOwner::Here { term } = whose {
+                    assert_eq!(
+                        self.store.terms.get(&(shard, term)),
+                        Some(&place),
+                        "shard {shard}, term {term}"
+                    );
                 }
             }
         }
@@ -253,24 +263,24 @@ impl World {
 
     /// Each shard is served only where it belongs, and all instances know it.
     pub fn is_settled(&self) -> bool {
-        let slots: Vec<u16> = (0..SLOTS).collect();
+        let shards: Vec<u16> = (0..SHARDS).collect();
         let names: Vec<&str> = self.nodes.iter().map(|node| node.name.as_str()).collect();
-        let refuses = |node: &Node, slot| node.owners.told().1.refused.contains_key(&slot);
-        let places = places(&slots, &names, |slot, name| {
-            !self.nodes.iter().any(|node| node.name == name && refuses(node, slot))
+        let refuses = |node: &Node, shard| node.owners.told().1.refused.contains_key(&shard);
+        let places = places(&shards, &names, |shard, name| {
+            !self.nodes.iter().any(|node| node.name == name && refuses(node, shard))
         });
         self.store.rows.iter().all(|row| {
-            let served = |node: &Node| match &node.owners.whose()[&row.slot] {
-                Whose::Here { term } => node.name == row.owner && *term == row.term,
-                Whose::There { name, address, term } => {
+            let served = |node: &Node| match &node.owners.whose()[&row.shard] {
+                ShardOwner::Here { term } => node.name == row.owner && *term == row.term,
+                ShardOwner::There { name, address, term } => {
                     *name == row.owner
                         && *address == format!("{name}:1")
                         && *term == row.term
                         && *name != node.name
                 }
-                Whose::Nobody => false,
+                ShardOwner::Nobody => false,
             };
-            places[&row.slot] == Some(&row.owner) && self.nodes.iter().all(served)
+            places[&row.shard] == Some(&row.owner) && self.nodes.iter().all(served)
         })
     }
 
@@ -283,9 +293,11 @@ impl World {
             2 => {
                 // It is killed and starts again under its name; calls that it had sent are carried out or not.
                 let one = self.nodes.remove(node);
-                for Step { act, slot, term } in one.under_way {
-                    if let (Act::Release | Act::HandOver, true) = (act, self.random.once_in(2)) {
-                        self.store.release(slot, term);
+                for Step { act, shard, term } in one.under_way {
+                    if let (ShardAction::Release | ShardAction::HandOver, true) =
+                        (act, self.random.once_in(2))
+                    {
+                        self.store.release(shard, term);
                     }
                 }
                 self.store.terms.values_mut().for_each(|place| {

@@ -46,7 +46,7 @@ fn drawn() -> impl FnMut(usize) -> usize {
 #[test]
 fn what_was_refused_decides_nothing() {
     let all = Arc::new(Units::default());
-    let units = Arc::new(Units::of_slot(all.clone()));
+    let units = Arc::new(Units::of_shard(all.clone()));
     let decide = |has_doubles, is_taken| decide(&units, "a", unit("s"), has_doubles, is_taken).name();
     assert_eq!(decide(false, false), "s");
     let mut by_rule = Decided::default();
@@ -69,7 +69,7 @@ fn what_was_refused_decides_nothing() {
 
 /// What a start begins with.
 fn fresh(all: &Arc<Units>) -> Arc<Units> {
-    Arc::new(Units { of_all: None, ..Units::of_slot(all.clone()) })
+    Arc::new(Units { of_all: None, ..Units::of_shard(all.clone()) })
 }
 
 /// Whatever comes, in whatever order, and whatever of it a start finds: the same unit as before.
@@ -159,9 +159,9 @@ impl OnDisk {
 
     /// As each post does before it is taken, or refused.
     fn keep(&mut self) {
-        let unkept = self.units.unkept();
-        self.units.kept(&unkept);
-        let [more, less] = unkept;
+        let unsaved = self.units.unsaved();
+        self.units.kept(&unsaved);
+        let [more, less] = unsaved;
         self.beside.retain(|one| !less.contains(one));
         self.beside.extend(more);
         assert!(!self.units.has_unkept());
@@ -222,15 +222,15 @@ fn what_a_refused_post_put_beside_another_is_gone() {
         assert_eq!(units.decide("a", unit("s"), true, &mut finer).name(), "us");
         units.note_of_rule("a", unit("ms"), &mut by_rule);
         let ms = vec![("a".into(), unit("ms"))];
-        assert_eq!(units.unkept(), [ms.clone(), vec![]]);
+        assert_eq!(units.unsaved(), [ms.clone(), vec![]]);
         if is_kept {
-            units.kept(&units.unkept());
+            units.kept(&units.unsaved());
         }
         drop((by_rule, finer));
-        assert!(!units.has_of_rule("a", unit("ms")) && units.unkept() == [vec![], vec![]]);
+        assert!(!units.has_of_rule("a", unit("ms")) && units.unsaved() == [vec![], vec![]]);
         units.note_of_rule("a", unit("ms"), &mut again);
-        assert_eq!(units.unkept(), [vec![], if is_kept { ms } else { vec![] }]);
-        units.kept(&units.unkept());
+        assert_eq!(units.unsaved(), [vec![], if is_kept { ms } else { vec![] }]);
+        units.kept(&units.unsaved());
         again.stays(true);
         drop(again);
         assert_eq!(decide(&units, "a", unit("s"), true, false).name(), "ms");
@@ -246,35 +246,35 @@ fn what_was_beside_a_refused_one_decides() {
         let [mut finer, mut by_rule] = [(); 2].map(|()| Decided::default());
         units.decide("a", unit("s"), true, &mut finer);
         units.note_of_rule("a", unit("ms"), &mut by_rule);
-        units.kept(&units.unkept());
+        units.kept(&units.unsaved());
         by_rule.stays(true);
         // It may be taken before the other one is refused, or behind that.
         let (first, last) = if is_taken { (by_rule, finer) } else { (finer, by_rule) };
         drop(first);
         drop(last);
         assert!(units.has("a", unit("ms")) && units.has_unkept());
-        assert_eq!(units.unkept(), [vec![], vec![("a".into(), unit("ms"))]]);
+        assert_eq!(units.unsaved(), [vec![], vec![("a".into(), unit("ms"))]]);
         assert_eq!(decide(&units, "a", unit("s"), true, false).name(), "ms");
     }
 }
 
 #[test]
-fn a_slot_decides_by_what_it_has_and_else_as_the_others_here() {
+fn a_shard_decides_by_what_it_has_and_else_as_the_others_here() {
     let all = Arc::new(Units::default());
-    let slot = || Arc::new(Units::of_slot(all.clone()));
-    let (one, other) = (slot(), slot());
+    let shard = || Arc::new(Units::of_shard(all.clone()));
+    let (one, other) = (shard(), shard());
     assert!(one.number > 0 && other.number > one.number);
     let decide =
         |units: &Arc<Units>, own, has_doubles| decide(units, "a", unit(own), has_doubles, true).name();
     assert_eq!(decide(&one, "s", true), "us");
     assert_eq!(decide(&other, "s", false), "us", "as the first one");
     // It comes back from an instance where it was taken otherwise.
-    let back = slot();
+    let back = shard();
     back.note("a", unit("s"));
     assert_eq!(decide(&back, "s", true), "s");
     assert_eq!([decide(&one, "s", false), decide(&other, "s", true)], ["us", "us"]);
-    // What another slot has since been found to have changes nothing of a slot that has decided.
-    let late = slot();
+    // What another shard has since been found to have changes nothing of a shard that has decided.
+    let late = shard();
     late.note("a", unit("ms"));
     assert_eq!(["s", "ms"].map(|own| decide(&one, own, false)), ["us", "us"]);
     assert_eq!(["s", "ms"].map(|own| decide(&back, own, false)), ["s", "ms"]);

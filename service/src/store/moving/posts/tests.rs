@@ -1,11 +1,11 @@
 //! Each part of a post goes to the shard of its series, and nothing is lost or doubled.
 
 use super::*;
-use crate::files::OfRun;
+use crate::journal::OfRun;
 use crate::otlp::series::SeriesKey;
 use std::collections::BTreeMap;
 
-const SLOTS: u16 = 8;
+const SHARDS: u16 = 8;
 
 fn resource(name: &str, points: &[&str]) -> String {
     let metrics: Vec<String> = points.iter().map(|point| metric(point)).collect();
@@ -40,20 +40,20 @@ fn read(body: Body, foreign: u64, named: Vec<(u64, Bytes)>) -> Replayed {
 fn a_text_is_parted_by_its_resources_with_what_is_foreign_in_each() {
     let names = ["a", "b", "c", "d", "e"];
     let resources: Vec<String> = names.iter().map(|name| resource(name, &["x", "y?", "z"])).collect();
-    let mut posts = Posts::new(SLOTS);
+    let mut posts = Posts::new(SHARDS);
     let parts = posts.parts(read(Body::Text(request(&resources)), 5, Vec::new()));
-    assert!(parts.len() > 1, "they have several slots");
+    assert!(parts.len() > 1, "they have several shards");
     let (mut found, mut foreign) = (BTreeMap::new(), 0);
-    for (slot, post) in &parts {
+    for (shard, post) in &parts {
         let Body::Text(body) = &post.body else { panic!("{post:?}") };
         let has = crate::otlp::posted_of_test(body).unwrap();
         assert_eq!(has.foreign, post.foreign);
         foreign += post.foreign;
-        found.extend(has.series.into_keys().map(|key| (key, *slot)));
+        found.extend(has.series.into_keys().map(|key| (key, *shard)));
     }
     let wanted = names.iter().flat_map(|name| ["x", "z"].map(|point| key(name, point)));
     let wanted: BTreeMap<_, _> =
-        wanted.map(|key| (key.clone(), slot_of_series(&key, SLOTS).unwrap())).collect();
+        wanted.map(|key| (key.clone(), shard_of_series(&key, SHARDS).unwrap())).collect();
     assert_eq!((found, foreign), (wanted, 5));
 }
 
@@ -69,16 +69,16 @@ fn points_by_number_go_with_their_runs_and_are_named_anew_where_a_number_means_a
         points.put_run(number, OfRun::Began(u64::from(number)));
         points.push(number.into(), 1, 2, [7]);
     }
-    let mut posts = Posts::new(SLOTS);
+    let mut posts = Posts::new(SHARDS);
     let mut generations = Vec::new();
     for shift in [0, 0, 1] {
         let parts = posts.parts(read(Body::Points(points.clone()), 3, said(shift)));
         let mut seen = 0;
-        for (slot, post) in &parts {
+        for (shard, post) in &parts {
             let Body::Points(part) = &post.body else { panic!("{post:?}") };
             for (place, point) in (0..).zip(part.each()) {
                 let name = names[(point[0] as usize + shift) % 4];
-                assert_eq!(slot_of_series(&key(name, "x"), SLOTS), Some(*slot));
+                assert_eq!(shard_of_series(&key(name, "x"), SHARDS), Some(*shard));
                 assert_eq!(part.runs()[place as usize], (place, OfRun::Began(point[0])));
                 assert_eq!(only(&posts.named.text(point[0])), Some(key(name, "x")));
                 seen += 1;
@@ -92,7 +92,7 @@ fn points_by_number_go_with_their_runs_and_are_named_anew_where_a_number_means_a
 }
 
 #[test]
-fn with_one_slot_a_post_stays_as_it_is() {
+fn with_one_shard_a_post_stays_as_it_is() {
     let body = Body::Text(request(&[resource("a", &["x"]), resource("b", &["x"])]));
     let mut posts = Posts::new(1);
     let parts = posts.parts(read(body.clone(), 9, Vec::new()));

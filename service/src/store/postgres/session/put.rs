@@ -1,8 +1,8 @@
 //! Writes several shards in one transaction: with one statement, or with several if there is much to write.
 
 use super::{Session, SILENT};
-use crate::store::postgres::doubt::Doubt;
-use crate::store::postgres::drive::{PackedPiece, Write};
+use crate::store::postgres::shard_store::{PackedPiece, Write};
+use crate::store::postgres::unknown_outcome::UnknownOutcome;
 use std::collections::BTreeSet;
 use tokio_postgres::types::ToSql;
 use tokio_postgres::Error;
@@ -13,7 +13,7 @@ const MOST: usize = 16 << 20;
 impl Session {
     /// Writes these shards in one transaction and returns the shards whose writer was still the owner. Each statement
     /// gets the time limit of a single one.
-    pub async fn put(&self, writes: &[&Write]) -> Result<BTreeSet<i32>, Doubt> {
+    pub async fn put(&self, writes: &[&Write]) -> Result<BTreeSet<i32>, UnknownOutcome> {
         let parts = parts_of(writes);
         match &parts[..] {
             [only] => {
@@ -33,7 +33,7 @@ impl Session {
     }
 
     /// Writes all parts, or none.
-    async fn put_parts(&self, writes: &[&Write], parts: &[Vec<OfSlot<'_>>]) -> Result<BTreeSet<i32>, Error> {
+    async fn put_parts(&self, writes: &[&Write], parts: &[Vec<OfShard<'_>>]) -> Result<BTreeSet<i32>, Error> {
         self.client.batch_execute("begin").await?;
         let (mut done, mut is_whole) = (Ok(BTreeSet::new()), true);
         for (number, part) in parts.iter().enumerate() {
@@ -50,32 +50,32 @@ impl Session {
     async fn put_part(
         &self,
         writes: &[&Write],
-        pieces: &[OfSlot<'_>],
+        pieces: &[OfShard<'_>],
         is_first: bool,
     ) -> Result<BTreeSet<i32>, Error> {
-        let slots: Vec<i32> = writes.iter().map(|write| write.owner.slot).collect();
+        let shards: Vec<i32> = writes.iter().map(|write| write.owner.shard).collect();
         let terms: Vec<i64> = writes.iter().map(|write| write.owner.term).collect();
-        let links: Vec<i64> = writes.iter().map(|write| write.owner.fence().link).collect();
+        let links: Vec<i64> = writes.iter().map(|write| write.owner.fence().connection_epoch).collect();
         let epochs: Vec<&str> = writes.iter().map(|write| &*write.owner.epoch).collect();
         let column =
             |of: fn(&PackedPiece) -> i64| -> Vec<i64> { pieces.iter().map(|(_, piece)| of(piece)).collect() };
-        let of_slots: Vec<i32> = pieces.iter().map(|(slot, _)| *slot).collect();
+        let of_shards: Vec<i32> = pieces.iter().map(|(shard, _)| *shard).collect();
         let (files, numbers, places) =
             (column(|piece| piece.file), column(|piece| piece.number), column(|piece| piece.place));
         let lengths: Vec<i32> = pieces.iter().map(|(_, piece)| piece.length).collect();
         let bytes: Vec<&[u8]> = pieces.iter().map(|(_, piece)| &piece.bytes[..]).collect();
         let mut values: Vec<&(dyn ToSql + Sync)> =
-            vec![&slots, &terms, &links, &epochs, &of_slots, &files, &numbers, &places, &lengths, &bytes];
+            vec![&shards, &terms, &links, &epochs, &of_shards, &files, &numbers, &places, &lengths, &bytes];
         let is_append = writes.iter().all(|write| !write.is_repeat && write.packed.only_appends());
         let named = || writes.iter().filter(|_| is_first);
-        let gone = named().flat_map(|write| write.packed.gone.iter().map(|file| (write.owner.slot, *file)));
-        let (gone_slots, gone): (Vec<i32>, Vec<i64>) = gone.unzip();
+        let gone = named().flat_map(|write| write.packed.gone.iter().map(|file| (write.owner.shard, *file)));
+        let (gone_shards, gone): (Vec<i32>, Vec<i64>) = gone.unzip();
         let names =
-            || named().flat_map(|write| write.packed.named.iter().map(|named| (write.owner.slot, named)));
-        let (named_slots, named): (Vec<i32>, Vec<i64>) =
-            names().map(|(slot, (file, _))| (slot, *file)).unzip();
+            || named().flat_map(|write| write.packed.named.iter().map(|named| (write.owner.shard, named)));
+        let (named_shards, named): (Vec<i32>, Vec<i64>) =
+            names().map(|(shard, (file, _))| (shard, *file)).unzip();
         let names: Vec<&str> = names().map(|(_, (_, name))| name.as_str()).collect();
-        let others: [&(dyn ToSql + Sync); 5] = [&gone_slots, &gone, &named_slots, &named, &names];
+        let others: [&(dyn ToSql + Sync); 5] = [&gone_shards, &gone, &named_shards, &named, &names];
         let statement = match is_append {
             true => &self.append,
             false => {
@@ -89,23 +89,23 @@ impl Session {
 }
 
 /// A piece with its shard.
-type OfSlot<'w> = (i32, &'w PackedPiece);
+type OfShard<'w> = (i32, &'w PackedPiece);
 
 /// Groups the pieces of the writes into statements, at least one.
-fn parts_of<'w>(writes: &[&'w Write]) -> Vec<Vec<OfSlot<'w>>> {
+fn parts_of<'w>(writes: &[&'w Write]) -> Vec<Vec<OfShard<'w>>> {
     let (mut parts, mut size) = (vec![Vec::new()], 0);
     let of_write = |write: &&'w Write| {
-        let (slot, pieces) = (write.owner.slot, &write.packed.pieces);
-        pieces.iter().map(move |piece| (slot, piece))
+        let (shard, pieces) = (write.owner.shard, &write.packed.pieces);
+        pieces.iter().map(move |piece| (shard, piece))
     };
-    for (slot, piece) in writes.iter().flat_map(of_write) {
+    for (shard, piece) in writes.iter().flat_map(of_write) {
         size += piece.bytes.len();
         if size > MOST {
             parts.push(Vec::new());
             size = piece.bytes.len();
         }
         if let Some(part) = parts.last_mut() {
-            part.push((slot, piece));
+            part.push((shard, piece));
         }
     }
     parts
