@@ -22,7 +22,7 @@ pub struct BookOptions {
 impl BookOptions {
     pub fn memory(&self) -> u64 {
         let most = self.max_memory.unwrap_or_else(|| (machine_memory() / 2).max(LEAST_MEMORY));
-        tracing::info!(memory_limit_bytes = most as u64, "the book has so much memory at most");
+        tracing::info!(memory_limit_bytes = most, "the book has so much memory at most");
         most
     }
 }

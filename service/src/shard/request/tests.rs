@@ -149,6 +149,7 @@ async fn what_is_refused_of_a_post_of_a_lost_shard_is_not_kept() {
 
 /// Otherwise other posts would find the room that its series take once it is put.
 #[tokio::test(flavor = "multi_thread")]
+#[allow(clippy::await_holding_lock)] // a thread waits for this lock, and no task
 async fn a_long_post_keeps_its_share_until_it_is_put_if_its_sender_goes_away() {
     const POINTS: u64 = 3_000;
     let shared = Shared::of_test();
@@ -189,5 +190,6 @@ async fn a_long_post_keeps_its_share_until_it_is_put_if_its_sender_goes_away() {
     while shard.readers.free() < free {
         tokio::time::sleep(Duration::from_millis(1)).await;
     }
-    assert_eq!((shard.shared_book.lock().series(), is_let_in().await), (1, true));
+    let series = shard.shared_book.lock().series();
+    assert_eq!((series, is_let_in().await), (1, true));
 }
