@@ -140,7 +140,7 @@ class Retrying(Sender):
         elif text not in WHOLE:
             refused = {name for name in names if f"`{name}`".encode() in text}
         named = sum(map(int, REFUSED.findall(text)))
-        if status not in (200, 400) or refused and not (may_be_late and b"out of order" in text) or status == 200 and named != len(refused):
+        if status not in (200, 400) or refused and not (may_be_late and b"duplicate or late" in text) or status == 200 and named != len(refused):
             self.surprises.append((status, text))
         self.posts += 1
         for name, start, _, _ in batch.points:

@@ -416,7 +416,7 @@ def run(checks: Checks, program: str, seconds: float, folder: str) -> None:
         secret = [word for word in (token, clients.collector, clients.fleeting, go, "t0ken") if word in log]
         checks.same("the log has nothing of a token", [], secret)
         checks.true("the log says who is refused, and why",
-                    re.search(r"a post of address \S+ is refused with 401: the token is not known", log),
+                    re.search(r'a post is refused sender="address \S+" .*status=401 answer="the token is not known', log),
                     service.last_lines())
         unused = "so its former content stays in use option=\"--tokens\""
         checks.true("the log says that a file can't be used", unused in log, service.last_lines())

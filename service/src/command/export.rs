@@ -238,6 +238,6 @@ mod tests {
         ] {
             assert_eq!(cell(text), written);
         }
-        assert_eq!(COLUMNS.split(',').count(), 17);
+        assert_eq!(COLUMNS.split(',').count(), 18);
     }
 }

@@ -113,7 +113,7 @@ mod tests {
             "7",
             "shop.revenue",
             r#"{"shop":"s2"}"#,
-            "monotonic",
+            "monotonic sum",
             "ct",
             "3",
             "700",

@@ -262,6 +262,25 @@ fn of_two_owners_of_one_term_the_first_neither_opens_the_shard_nor_gives_it_away
     assert!(second.shard_store(3, 1).is_ok() && first.shard_store(3, 1).is_err());
 }
 
+/// Otherwise that one and the later one would take the shards of their name from each other for ever.
+#[test]
+fn a_process_sees_an_earlier_one_of_its_name_however_many_began_between() {
+    let Some(server) = Server::start("") else { return };
+    make(&server.address());
+    let store = open(&server.address(), Copies::One);
+    let beat = |life: u64| wait(store.heartbeat("a", "h:1", "h:1", InstanceReport::default(), life)).unwrap();
+    for number in 1..=12 {
+        assert_eq!(beat(0), number);
+        let of_first = || {
+            beat(1);
+            beat(number);
+            wait(store.instances()).unwrap().0[0].lives.get(&1).copied()
+        };
+        let before = of_first();
+        assert!(before.is_some() && of_first() > before, "by process {number}");
+    }
+}
+
 /// An instance whose heartbeats wait longer counts as gone, and an operator's page is not shown meanwhile. A server that is not silent
 /// to others may be waiting for its standby.
 #[test]

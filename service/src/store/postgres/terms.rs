@@ -16,12 +16,13 @@ use tokio_postgres::Row as DatabaseRow;
 /// The time limit of a read: reads wait for no lock and no standby, so a server that is silent for longer is lost.
 const READ: Duration = Duration::from_secs(5);
 
-/// Of processes that began long ago the beats are left out, unless they go on.
+/// A process that begins takes the beats of one that began long before away. One that goes on has them again with its next beat, and
+/// they stay then: otherwise the eighth after it would not see it.
 const BEAT: &str = "insert into totxegun_store.instance as i (name, address, operate, version, beat, life, lives, told)
     values ($1, $2, $3, $4, 1, greatest($6::bigint, 1), jsonb_build_object(greatest($6::bigint, 1), 1), $5)
     on conflict (name) do update set beat = i.beat + 1, address = excluded.address, operate = excluded.operate,
     version = excluded.version, told = excluded.told, life = greatest(i.life, $6) + case $6 when 0 then 1 else 0 end,
-    lives = (select (i.lives - (i.life - 8)::text)
+    lives = (select case $6 when 0 then i.lives - (i.life - 8)::text else i.lives end
         || jsonb_build_object(number, coalesce((i.lives ->> number::text)::bigint, 0) + 1)
         from (values (case $6 when 0 then i.life + 1 else $6 end)) as this (number))
     returning life";

@@ -28,7 +28,7 @@ async fn a_sender_goes_on_under_its_new_name_and_no_more_under_its_old_one() {
     assert_eq!(refusal(run.post(9).await), "other writer: point 0");
     assert_eq!(run.post_by("B", 9).await, Outcome::taken(0));
     assert_eq!(run.rename("A", "B").await, Done::Renamed { series: 0 }, "it is renamed already");
-    assert_eq!(refusal(run.post_by("B", 6).await), "out of order: point 0, frontier 10");
+    assert_eq!(refusal(run.post_by("B", 6).await), "duplicate or late: point 0, frontier 10");
     run.end().await;
     let run = begin(&path).await;
     assert_eq!(refusal(run.post(11).await), "other writer: point 0");
