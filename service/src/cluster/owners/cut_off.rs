@@ -67,6 +67,10 @@ impl CutOff {
             let beats = self.beats.entry((*name).into()).or_default();
             *beats = (*beats + 1).min(TAKEN);
         }
+        // Otherwise nobody would have the shards for a while after another one is cut off than before.
+        if all.keys().all(|name| self.is_cut_off(name)) {
+            self.beats.retain(|name, _| found.contains(name.as_str()));
+        }
         let is_missed = |name: &str| {
             let is_reached = self.reached.as_ref().is_none_or(|reached| reached.contains(name));
             name != me && !is_reached && !found.contains(name)
@@ -122,6 +126,24 @@ mod tests {
         assert_eq!([&none, &none, &none, &none, &none, &both].map(&mut note), [false; 6]);
         assert_eq!([&none, &none].map(&mut note), [false, true]);
         assert_eq!([&both, &both].map(&mut note), [false; 2]);
+    }
+
+    /// Two don't reach each other, and then the first does not reach itself either.
+    #[test]
+    fn one_is_left_at_any_time_if_another_one_is_cut_off_than_before() {
+        let none = BTreeSet::new();
+        let mut cut_off = CutOff::default();
+        let mut note = |of_a: Option<&BTreeSet<String>>| {
+            cut_off.note("a", &[("a", of_a), ("b", Some(&none))].into());
+            ["a", "b"].map(|name| cut_off.is_cut_off(name))
+        };
+        for _ in 0..TAKEN {
+            note(Some(&none));
+        }
+        assert_eq!(note(Some(&none)), [false, true]);
+        let then: Vec<[bool; 2]> = (0..SURE).map(|_| note(None)).collect();
+        assert!(!then.contains(&[true, true]), "{then:?}");
+        assert_eq!(note(None), [true, false]);
     }
 
     #[test]
