@@ -16,8 +16,8 @@ of them, drawn by SEED. Of several instances (--instances 3) over a store in Pos
 go to another one that is left; each request has two resources, and so two shards.
 
 Then each point of a post that was answered 200, and was not named there, is in the sink once, and none that was refused by name or
-with its whole post. Only a body that was overtaken by the next one may be refused at all, as out of order. It needs gcc, and PostgreSQL
-for several instances; without them it is left out, with status 77.
+with its whole post. Only a body that was overtaken by the next one may be refused at all, as duplicate or late. It needs gcc, and
+PostgreSQL for several instances; without them it is left out, with status 77.
 
 Each line is one check; the last line counts those that passed and failed, and the status is 0 where none failed.
 """
@@ -140,7 +140,8 @@ class Retrying(Sender):
         elif text not in WHOLE:
             refused = {name for name in names if f"`{name}`".encode() in text}
         named = sum(map(int, REFUSED.findall(text)))
-        if status not in (200, 400) or refused and not (may_be_late and b"duplicate or late" in text) or status == 200 and named != len(refused):
+        is_expected = not refused or may_be_late and b"duplicate or late" in text
+        if status not in (200, 400) or not is_expected or status == 200 and named != len(refused):
             self.surprises.append((status, text))
         self.posts += 1
         for name, start, _, _ in batch.points:
@@ -315,7 +316,7 @@ def over_a_folder(checks: Checks, arguments: argparse.Namespace, folder: str) ->
     sink = SqliteSink(f"{folder}/sink.db")
     os.mkdir(f"{folder}/data")
     # A first point of a cumulative series counts from its start.
-    service = Service(arguments.totxegun, f"{folder}/data", sink.address, "--flush-interval", "1s", "--first", "count")
+    service = Service(arguments.totxegun, f"{folder}/data", sink.address, "--flush-interval", "1s", "--initial-value", "keep")
     library = build(folder)
     try:
         service.start()
@@ -339,7 +340,7 @@ def over_a_store(checks: Checks, arguments: argparse.Namespace, folder: str) -> 
         subprocess.run([arguments.totxegun, "store", "init", store.address, "--shards", SHARDS], check=True, capture_output=True)
         store.make_standby()
         names = [f"i{number}" for number in range(arguments.instances)]
-        services = [instance(arguments.totxegun, folder, name, store, sink, "--first", "count") for name in names]
+        services = [instance(arguments.totxegun, folder, name, store, sink, "--initial-value", "keep") for name in names]
         for one in services:
             stack.callback(one.kill)
             one.start()

@@ -48,6 +48,8 @@ CUMULATIVE = 2
 NUMBERS = itertools.count(1)
 # What a copy of a folder does not have.
 LEFT = shutil.ignore_patterns("lock", "admin.sock")
+# What the log of a service says once it listens.
+STARTED = "the addresses for senders and operators"
 # At which request a move is killed, and whether before the server has it or after it.
 Kill = tuple[int, str]
 # The name of a way to kill a move, with the way: at a request, or at a call, by additions to its environment.
@@ -348,11 +350,11 @@ class Moves:
                     log.seek(0)
                     return log.read()
 
-                wait_until(lambda: process.poll() is not None or "senders post to" in said())
+                wait_until(lambda: process.poll() is not None or STARTED in said())
                 text = said()
             finally:
                 process.kill()
-        if "senders post to" in text:
+        if STARTED in text:
             return True
         if process.returncode == 1 and ("store move" in text or "moved into" in text or "deliver" in text):
             return "deliver" in text

@@ -12,7 +12,7 @@ const HOUR: u64 = 3_600_000_000_000;
 fn a_close_and_an_export_say_what_began_before_the_period() {
     let place = Place::new();
     let sink = place.sink();
-    let service = place.serve_with(&["--sink", &sink, "--first", "count", "--keep-intervals", "1h"]);
+    let service = place.serve_with(&["--sink", &sink, "--initial-value", "keep", "--keep-intervals", "1h"]);
     let post = |name: &str, start: u64, end: u64, value: u64| {
         let point = format!(r#"{{"startTimeUnixNano":"{start}","timeUnixNano":"{end}","asInt":"{value}"}}"#);
         let sum = format!(r#"{{"aggregationTemporality":2,"isMonotonic":true,"dataPoints":[{point}]}}"#);
@@ -127,6 +127,9 @@ fn a_month_of_a_zone_is_closed_exported_and_opened() {
         assert!(status == Some(code) && said.contains(part), "{words:?}: {status:?}, {said}");
     }
     let acts = std::fs::read_to_string(place.data().join("acts.jsonl")).unwrap();
-    assert!(acts.contains(r#""act":"close","of":"1970-02 Europe/Berlin","given":["--flush"]"#), "{acts}");
+    assert!(
+        acts.contains(r#""action":"close","target":"1970-02 Europe/Berlin","args":["--flush"]"#),
+        "{acts}"
+    );
     assert_eq!(service.end(), Some(0));
 }

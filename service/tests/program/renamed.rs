@@ -57,10 +57,10 @@ fn a_sender_that_gets_a_name_is_renamed_as_the_status_says() {
     assert_eq!(place.totals(), totals.into());
     let acts = std::fs::read_to_string(place.data().join("acts.jsonl")).unwrap();
     assert!(
-        acts.contains(r#""act":"senders rename","of":"- to shop-1","outcome":"done: 2 series of - are"#),
+        acts.contains(r#""action":"senders rename","target":"- to shop-1","outcome":"done: 2 series of -"#),
         "{acts}"
     );
-    assert_eq!(service.status()["dead"], 0);
+    assert_eq!(service.status()["dead_letters"], 0);
     service.has_no_fault();
     assert_eq!(service.end(), Some(0));
 }
