@@ -259,7 +259,7 @@ fn what_is_not_possible_has_status_1_and_is_named() {
         &format!("--listen {address} can't be listened on (Address already in use (os error 98)): stop what listens there"),
     );
     let told = format!(
-        "--listen-grpc {address} can't be listened on: end what listens there, give another --listen-grpc, or --listen-grpc off"
+        "--listen-grpc {address} can't be listened on (Address already in use (os error 98)): end what listens there, give another --listen-grpc, or --listen-grpc off"
     );
     refused(&[&serve[..], &["--listen", "127.0.0.1:0", "--listen-grpc", &address]].concat(), 1, &told);
     let serve = [&serve[..], &["--listen-grpc", "off"]].concat();

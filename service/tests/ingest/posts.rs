@@ -168,7 +168,7 @@ async fn an_answer_to_head_has_no_body() {
     }
     let text = String::from_utf8(std::mem::take(&mut client.read)).unwrap();
     let (first, second) = text.split_once("\r\n\r\n").unwrap();
-    assert!(first.starts_with("HTTP/1.1 405 ") && first.contains("\r\ncontent-length: 36\r\n"), "{first}");
+    assert!(first.starts_with("HTTP/1.1 405 ") && first.contains("\r\ncontent-length: 46\r\n"), "{first}");
     assert!(second.starts_with("HTTP/1.1 200 "), "{second}");
 }
 

@@ -113,7 +113,7 @@ async fn a_period_that_is_closed_says_in_which_zone() {
         assert!(told.starts_with("2026-08 America/New_York is closed"), "{told}");
         let told = done(&*sink, PeriodAction::Close("2026-08-31".parse().unwrap())).await;
         assert!(told.contains("was closed before: 2026-08 America/New_York, closed by alice at"), "{told}");
-        let rows = database.ask("select period, to_hour - from_hour, to_hour from t.closed");
+        let rows = database.ask("select period, to_hour - from_hour, to_hour from t.closed_periods");
         assert_eq!(rows, format!("2026-08 America/New_York|744|{}", BEGIN + 4));
         // 2026-09-01 03:30 UTC is August in New York.
         taken(&*sink, 2, sum("a", (BEGIN + 3) * HOUR, (BEGIN + 3) * HOUR + HOUR / 2, 3)).await;
@@ -129,6 +129,6 @@ async fn a_period_that_is_closed_says_in_which_zone() {
         )
         .await;
         done(&*sink, PeriodAction::Open(new_york)).await;
-        assert_eq!(database.ask("select count(*) from t.closed"), "0");
+        assert_eq!(database.ask("select count(*) from t.closed_periods"), "0");
     }
 }

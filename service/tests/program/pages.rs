@@ -47,7 +47,7 @@ fn a_page_changes_nothing_and_reads_nothing() {
         ("Origin: null", "it has an Origin"),
         ("Sec-Fetch-Site: cross-site", "it has a Sec-Fetch-Site"),
         ("Sec-Fetch-Site: same-origin", "it has a Sec-Fetch-Site"),
-        ("Host: evil.example:4319", "`evil.example:4319` is no name of this address"),
+        ("Host: evil.example:4319", "`evil.example:4319` is not an allowed host"),
     ] {
         for (method, path) in GUARDED {
             for ask in [curl, at_socket] {
